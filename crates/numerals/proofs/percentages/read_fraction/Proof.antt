@@ -1,0 +1,102 @@
+-- `percentages::read_fraction` meets its contract: one to four digits, times the worth of the last of them.
+-- Assumes nothing.
+use Prim.Native.Nat.{_-_, _*_, _^_, _≤_, min}
+use native.Mathlib.Nat.{le-trans, le-of-eq, pow-le-pow-right, mul-le-mul}
+use native.Mathlib.Omega.{arith}
+use mathlib.Core.Path.{_≡_, sym, ap, _∙_}
+use lib.ListN.{length}
+use lib.Seq.{slice, length-slice}
+use borrow.Author.Needs.{needs}
+use Rattle.numerals.specs.Digits.{readDigits, onValue}
+use Rattle.numerals.specs.Percentage.{fraction}
+use Rattle.numerals.specs.declared.digits.Number.the-variants.{Value}
+use Rattle.numerals.proofs.Slice.{slice-none}
+use Rattle.numerals.proofs.Base.{read-limit}
+use Rattle.numerals.proofs.Percent.{fraction-none, fraction-long, fraction-read}
+use Rattle.numerals.proofs.percentages.read_fraction.Statement.{statement}
+use Rattle.numerals.proofs.percentages.read_fraction.Tie as tie
+
+returns : tie.Need-returns
+returns c =
+    let a = c .before .before .args in
+    sym (ap (fraction 4) (slice-none (a .from) (a .to) (a .s .now) (omega arith)) ∙ fraction-none 4)
+
+sub-if2 : tie.Need-sub-if2
+sub-if2 c = search needs
+
+returns-2 : tie.Need-returns-2
+returns-2 c =
+    let a = c .before .before .before .args in
+    sym (fraction-long 4 _ (omega (arith, length-slice (a .from) (a .to) (a .s .now) (c .before .before .before .pre))))
+
+read-digits-requires : tie.Need-read-digits-requires
+read-digits-requires c κs = search needs
+
+whole :
+    (c : tie.After-read-digits)
+    → let a = c .before .before .before .before .args in
+    fraction 4 (slice (a .from) (a .to) (a .s .now)) ≡ onValue (c .read-digits .result) (λ v. Value (v * 10 ^ (4 - (a .to - a .from))))
+whole c =
+    let a = c .before .before .before .before .args in
+    let part = slice (a .from) (a .to) (a .s .now) in
+    let l : length part ≡ a .to - a .from = length-slice _ _ _ (c .before .before .before .before .pre) in
+    fraction-read 4 part (omega arith) (omega arith)
+    ∙ ap (λ k. onValue (readDigits 10 9999 part) (λ v. Value (v * 10 ^ (4 - k)))) l
+    ∙ ap (λ r. onValue r (λ v. Value (v * 10 ^ (4 - (a .to - a .from))))) (sym (c .read-digits .ensures))
+
+enum-known-read : tie.Need-enum-known-read
+enum-known-read c = search needs
+
+enum-told : tie.Need-enum-told
+enum-told c = search needs
+
+returns-3 : tie.Need-returns-3
+unfolding onValue
+returns-3 c = sym (whole (c .before .before) ∙ rw (c .enum-told .given .1))
+
+sub-scale : tie.Need-sub-scale
+sub-scale c = search needs
+
+sub-scale-2 : tie.Need-sub-scale-2
+sub-scale-2 c = search needs
+
+scale-requires : tie.Need-scale-requires
+scale-requires c κs = search needs
+
+-- the worth of the last digit
+worth :
+    (c : tie.After-scale)
+    → let a = c .before .before .before .before .before .before .before .before .args in c .scale .result ≡ 10 ^ (4 - (a .to - a .from))
+worth c =
+    let a = c .before .before .before .before .before .before .before .before .args in
+    let few : min (4 - (a .to - a .from)) 4 ≡ 4 - (a .to - a .from) = omega arith in
+    c .scale .ensures ∙ ap (λ k. 10 ^ k) few
+
+mul-t10 : tie.Need-mul-t10
+mul-t10 c =
+    let a = c .before .before .before .before .before .before .before .before .args in
+    let r = c .before .before .before .before in
+    let v : c .before .before .read .given .0 .0 ≤ 9999 = read-limit 10 9999 _ (slice (a .from) (a .to) (a .s .now)) (sym (r .read-digits .ensures) ∙ c .before .before .read .given .1) in
+    let w : c .scale .result ≤ 10000 = le-trans (le-of-eq (worth c)) (pow-le-pow-right {n = 10} (omega arith) {j = 4} (omega arith)) in
+    omega (arith, mul-le-mul v w)
+
+returns-4 : tie.Need-returns-4
+unfolding onValue
+returns-4 c = sym (whole (c .before .before .before .before) ∙ rw (c .before .before .read .given .1, worth c))
+
+pub read-fraction-spec : {M : Type 1} → statement M
+read-fraction-spec =
+    tie.close
+    (tie.spec
+    returns
+    sub-if2
+    returns-2
+    read-digits-requires
+    enum-known-read
+    enum-told
+    returns-3
+    sub-scale
+    sub-scale-2
+    scale-requires
+    mul-t10
+    returns-4)

@@ -1,0 +1,83 @@
+-- `suffixes::write_suffix` meets its contract: '*' and the digits that `write_digits` writes are the text, one after the other.
+use mathlib.Core.Path.{_≡_, ap, ap₂, _∙_}
+use Prim.Native.Nat.{ℕ, _+_, min}
+use native.Mathlib.Numerals.{add-one}
+use native.Mathlib.Omega.{arith}
+use lib.ListN.{length, set, length-set}
+use lib.Seq.{sets}
+use Rattle.numerals.specs.Digits.{lowest}
+use Rattle.numerals.specs.Suffix.{suffixText}
+use Rattle.numerals.specs.declared.digits.Written.the-variants.{End}
+use Rattle.numerals.proofs.Suffix.{length-suffix}
+use Rattle.numerals.proofs.Writing.{written, short}
+use Rattle.numerals.proofs.suffixes.write_suffix.Statement.{statement}
+use Rattle.numerals.proofs.suffixes.write_suffix.Tie as tie
+
+least-requires : tie.Need-least-requires
+least-requires c κs = tt
+
+returns : tie.Need-returns
+returns c =
+    let a = c .before .before .before .args in
+    short _ _ _ (omega (arith, length-suffix (min (a .len) 12) (a .value)))
+
+sub-if2 : tie.Need-sub-if2
+sub-if2 c = omega arith
+
+sub-if2-2 : tie.Need-sub-if2-2
+sub-if2-2 c = omega arith
+
+returns-2 : tie.Need-returns-2
+returns-2 c =
+    let a = c .before .before .before .before .args in
+    short _ _ _ (omega (arith, length-suffix (min (a .len) 12) (a .value)))
+
+slice-write-out : tie.Need-slice-write-out
+slice-write-out c = omega arith
+
+add-write-digits : tie.Need-add-write-digits
+add-write-digits c = omega arith
+
+write-digits-requires : tie.Need-write-digits-requires
+write-digits-requires c κs = simp length-set (omega arith)
+
+add-t8 : tie.Need-add-t8
+add-t8 c = omega arith
+
+add-t9 : tie.Need-add-t9
+add-t9 c = omega arith
+
+same-length : tie.Need-same-length
+same-length c = c .before .before .write-digits .kept .0 ∙ simp length-set
+
+returns-3 : tie.Need-returns-3
+unfolding suffixText
+returns-3 c =
+    let a = c .before .before .before .before .before .before .before .before .args in
+    let least = c .before .before .before .before .before .before .least in
+    let l = min (a .len) 12 in
+    let out = a .out .now in
+    let long : a .at + 1 + least .result ≡ a .at + length (suffixText l (a .value)) = omega (arith, length-suffix l (a .value)) in
+    let stored = written out (a .at) (suffixText l (a .value)) (omega arith) in (
+      ap End long ∙ stored .0,
+      c .before .before .write-digits .ensures
+          ∙ ap₂ (λ (i n : ℕ). sets (set out (a .at) 42) i (lowest 2 n (a .value))) (add-one (a .at)) (least .ensures)
+          ∙ stored .1,
+    )
+
+pub write-suffix-spec : {M : Type 1} → statement M
+write-suffix-spec =
+    tie.close
+    (tie.spec
+    least-requires
+    returns
+    sub-if2
+    sub-if2-2
+    returns-2
+    slice-write-out
+    add-write-digits
+    write-digits-requires
+    add-t8
+    add-t9
+    same-length
+    returns-3)

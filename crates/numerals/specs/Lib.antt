@@ -1,0 +1,7 @@
+-- What document 01 says of numbers, percentages, suffixes, fields and lines.
+pub mod Pick
+pub mod Digits
+pub mod Decimal
+pub mod Text
+pub mod Percentage
+pub mod Suffix

@@ -1,0 +1,16 @@
+// Parts of an answer, on standard output.
+use libc::STDOUT_FILENO;
+
+pub fn bytes(s: &[u8]) {
+    io::write_all(STDOUT_FILENO, s);
+}
+
+pub fn number(n: u64) {
+    io::print_decimal(STDOUT_FILENO, n);
+}
+
+// A number behind a space.
+pub fn field(n: u64) {
+    bytes(b" ");
+    number(n);
+}

@@ -1,0 +1,19 @@
+//! The Rust twin: document 01 written once more, to be tried against.
+
+pub mod calls;
+pub mod count;
+pub mod expansion;
+pub mod holdings;
+pub mod ledger;
+pub mod limits;
+pub mod lines;
+pub mod numerals;
+pub mod packing;
+pub mod percentage_sheet;
+pub mod random;
+pub mod refusal;
+pub mod rule_sheet;
+pub mod sheet_lines;
+pub mod suffix;
+pub mod table;
+pub mod vectors;

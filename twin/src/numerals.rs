@@ -1,0 +1,133 @@
+//! Decimal numbers and percentages (document 01, "Units and limits").
+
+/// All of a weight: 100 percent in millionths.
+pub const WHOLE: u64 = 1_000_000;
+
+/// The value of one decimal digit, or nothing for any other byte.
+fn digit(byte: u8) -> Option<u64> {
+    byte.is_ascii_digit().then(|| u64::from(byte - b'0'))
+}
+
+/// Reads the whole text as a decimal number within `lo..=hi`:
+/// digits only and no leading zero, where a lone 0 is allowed.
+pub fn read_number(text: &[u8], lo: u64, hi: u64) -> Option<u64> {
+    if text.is_empty() || (text.len() > 1 && text[0] == b'0') {
+        return None;
+    }
+    let mut value = 0u64;
+    for &byte in text {
+        value = value.checked_mul(10)?.checked_add(digit(byte)?)?;
+    }
+    (lo..=hi).contains(&value).then_some(value)
+}
+
+/// Reads a percentage as millionths: a whole part of 1 to 3 digits and,
+/// optionally, a dot and 1 to 4 digits; at most 100.
+pub fn read_percentage(text: &[u8]) -> Option<u64> {
+    let value = match text.iter().position(|&byte| byte == b'.') {
+        None => 10_000 * read_number(text, 0, 100)?,
+        Some(dot) => 10_000 * read_number(&text[..dot], 0, 100)? + read_decimals(&text[dot + 1..])?,
+    };
+    (value <= WHOLE).then_some(value)
+}
+
+/// The 1 to 4 digits after the dot, as ten-thousandths of a percent.
+fn read_decimals(text: &[u8]) -> Option<u64> {
+    if text.is_empty() || text.len() > 4 {
+        return None;
+    }
+    let mut value = 0;
+    for place in 0..4 {
+        let next = text.get(place).map_or(Some(0), |&byte| digit(byte))?;
+        value = 10 * value + next;
+    }
+    Some(value)
+}
+
+/// How many digits the number has when written.
+pub fn number_width(mut number: u64) -> usize {
+    let mut width = 1;
+    while number >= 10 {
+        number /= 10;
+        width += 1;
+    }
+    width
+}
+
+/// Writes the number at a position of a lent buffer and returns the position
+/// after its last digit; nothing is written if it doesn't fit.
+pub fn write_number(mut number: u64, at: usize, buffer: &mut [u8]) -> Option<usize> {
+    let end = at.checked_add(number_width(number))?;
+    for byte in buffer.get_mut(at..end)?.iter_mut().rev() {
+        *byte = b'0' + (number % 10) as u8;
+        number /= 10;
+    }
+    Some(end)
+}
+
+/// Appends the number to a text that grows.
+pub fn push_number(number: u64, text: &mut Vec<u8>) {
+    let at = text.len();
+    text.resize(at + number_width(number), b'0');
+    write_number(number, at, text);
+}
+
+#[cfg(test)]
+mod tests {
+    use super::*;
+
+    #[test]
+    fn numbers_keep_their_form_and_limits() {
+        assert_eq!(read_number(b"0", 0, 9), Some(0));
+        assert_eq!(read_number(b"12", 1, 12), Some(12));
+        assert_eq!(read_number(b"13", 1, 12), None);
+        assert_eq!(read_number(b"0", 1, 12), None);
+        for text in [
+            &b""[..],
+            b"00",
+            b"01",
+            b"+1",
+            b"-1",
+            b" 1",
+            b"1 ",
+            b"1/",
+            b":",
+        ] {
+            assert_eq!(read_number(text, 0, u64::MAX), None);
+        }
+    }
+
+    #[test]
+    fn long_numerals_never_wrap() {
+        let top = b"18446744073709551615";
+        assert_eq!(read_number(top, 0, u64::MAX), Some(u64::MAX));
+        assert_eq!(read_number(b"18446744073709551616", 0, u64::MAX), None);
+        assert_eq!(read_number(&[b'9'; 60_000], 0, u64::MAX), None);
+    }
+
+    #[test]
+    fn cases_p9_to_p12_and_the_also_line() {
+        assert_eq!(read_percentage(b"18.4.2"), None);
+        assert_eq!(read_percentage(b"100.0000"), Some(WHOLE));
+        assert_eq!(read_percentage(b"100.0001"), None);
+        assert_eq!(read_percentage(b"018.4"), None);
+        for text in [&b"18."[..], b".4", b"18.40000", b"", b".", b"00", b"1e1"] {
+            assert_eq!(read_percentage(text), None);
+        }
+        assert_eq!(read_percentage(b"18.4"), Some(184_000));
+        assert_eq!(read_percentage(b"16.6667"), Some(166_667));
+        assert_eq!(read_percentage(b"0.0001"), Some(1));
+        assert_eq!(read_percentage(b"0.0"), Some(0));
+    }
+
+    #[test]
+    fn written_numbers_fit_or_change_nothing() {
+        let mut buffer = *b"......";
+        assert_eq!(write_number(1205, 1, &mut buffer), Some(5));
+        assert_eq!(&buffer, b".1205.");
+        assert_eq!(write_number(120, 4, &mut buffer), None);
+        assert_eq!(write_number(0, 6, &mut buffer), None);
+        assert_eq!(write_number(0, usize::MAX, &mut buffer), None);
+        assert_eq!(&buffer, b".1205.");
+    }
+}

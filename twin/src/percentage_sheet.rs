@@ -1,0 +1,156 @@
+//! The reader of the percentage sheet (document 01, "Percentage sheet").
+
+use crate::expansion::check_weights;
+use crate::limits::{MOST_BACKENDS, MOST_BITS, MOST_CAPACITY, MOST_SERVICES, MOST_VOLUME};
+use crate::lines::fields;
+use crate::numerals::{read_number, read_percentage};
+use crate::packing::{check_size, Order, Service};
+use crate::refusal::{Reason, Refusal};
+use crate::sheet_lines::SheetLines;
+
+/// Reads a percentage sheet.
+pub fn read(text: &[u8]) -> Result<Order, Refusal> {
+    let mut lines = SheetLines::open(text)?;
+    let mut order = read_head(&mut lines)?;
+    while !lines.at_end() {
+        let line = lines.take()?;
+        let service = read_service(line, order.services.len(), &lines)?;
+        order.services.push(service);
+    }
+    check_size(&order).map_err(|reason| reason.at(1))?;
+    Ok(order)
+}
+
+/// Line 1: `SHEET k tolerance C`.
+fn read_head(lines: &mut SheetLines) -> Result<Order, Refusal> {
+    let [k, tolerance, capacity] = lines.take_head("SHEET")?;
+    Ok(Order {
+        k: lines.field(read_number(k, 1, MOST_BITS))?,
+        tolerance: lines.field(read_percentage(tolerance))?,
+        capacity: lines.field(read_number(capacity, 1, MOST_CAPACITY))?,
+        services: Vec::new(),
+    })
+}
+
+/// A further line: `SERVICE volume p1 .. pM`.
+fn read_service(line: &[u8], before: usize, lines: &SheetLines) -> Result<Service, Refusal> {
+    let mut parts = fields(line);
+    if parts.next() != Some(b"SERVICE") {
+        return Err(lines.refusal(Reason::Malformed));
+    }
+    if before as u64 == MOST_SERVICES {
+        return Err(lines.refusal(Reason::TooMany));
+    }
+    let count = parts.clone().count() as u64;
+    if count < 2 {
+        return Err(lines.refusal(Reason::Malformed));
+    }
+    if count > 1 + MOST_BACKENDS {
+        return Err(lines.refusal(Reason::TooMany));
+    }
+    let volume = parts
+        .next()
+        .and_then(|part| read_number(part, 0, MOST_VOLUME));
+    let volume = lines.field(volume)?;
+    let mut weights = Vec::with_capacity(count as usize - 1);
+    for part in parts {
+        weights.push(lines.field(read_percentage(part))?);
+    }
+    check_weights(&weights).map_err(|reason| lines.refusal(reason))?;
+    Ok(Service { volume, weights })
+}
+
+#[cfg(test)]
+mod tests {
+    use super::*;
+    use crate::packing::Service;
+
+    fn refused(text: &str) -> (u8, usize) {
+        let refusal = read(text.as_bytes()).unwrap_err();
+        (refusal.number(), refusal.line)
+    }
+
+    #[test]
+    fn a_sheet_is_read() {
+        let order =
+            read(b"SHEET 5 2.50 5\nSERVICE 55 16.6667 33.3333 50\nSERVICE 0 100\n").unwrap();
+        assert_eq!((order.k, order.tolerance, order.capacity), (5, 25_000, 5));
+        let first = Service {
+            volume: 55,
+            weights: vec![166_667, 333_333, 500_000],
+        };
+        assert_eq!(order.services[0], first);
+        assert_eq!(order.services.len(), 2);
+    }
+
+    #[test]
+    fn line_1_is_turned_back() {
+        for text in [
+            "",
+            "SHEET 5 2 5",
+            "\n",
+            "SHEE 5 2 5\n",
+            "SHEET 5 2\n",
+            "SHEET 5 2 5 \n",
+            " SHEET 5 2 5\n",
+        ] {
+            assert_eq!(refused(text), (1, 1), "{text:?}");
+        }
+        for text in [
+            "SHEET 0 2 5\n",
+            "SHEET 13 2 5\n",
+            "SHEET 5 02 5\n",
+            "SHEET 5 2 0\n",
+            "SHEET 5 2 2049\n",
+            "SHEET  2 5\n",
+        ] {
+            assert_eq!(refused(text), (2, 1), "{text:?}");
+        }
+        assert_eq!(refused("SHEET 5 2 5\n"), (5, 1));
+        assert_eq!(refused(&"9".repeat(65_537)), (11, 0));
+        assert_eq!(refused(&"9".repeat(65_536)), (1, 1));
+    }
+
+    #[test]
+    fn service_lines_are_turned_back() {
+        let second = |line: &str| refused(&format!("SHEET 5 2 5\n{line}"));
+        for line in [
+            "SERVICE 1 100",
+            "SERVICES 1 100\n",
+            "\n",
+            "SERVICE\n",
+            "SERVICE 1\n",
+            "service 1 100\n",
+        ] {
+            assert_eq!(second(line), (1, 2), "{line:?}");
+        }
+        for line in [
+            "SERVICE 1 \n",
+            "SERVICE  100\n",
+            "SERVICE 10001 100\n",
+            "SERVICE 1 100 \n",
+            "SERVICE 1 100\r\n",
+        ] {
+            assert_eq!(second(line), (2, 2), "{line:?}");
+        }
+        for part in ["18.4.2", "100.0001", "018.4", "18.", ".4", "18.40000"] {
+            assert_eq!(second(&format!("SERVICE 1 {part}\n")), (2, 2));
+        }
+        assert_eq!(second("SERVICE 1 100.0000 0.0001\n"), (3, 2));
+        assert_eq!(second(&format!("SERVICE x{}\n", " 1".repeat(33))), (4, 2));
+        assert_eq!(second(&format!("SERVICE x{}\n", " 1".repeat(32))), (2, 2));
+    }
+
+    #[test]
+    fn capacity_and_services() {
+        let sheet = |capacity: u64, services: usize, last: &str| {
+            let lines = "SERVICE 1 100\n".repeat(services);
+            format!("SHEET 1 0 {capacity}\n{lines}{last}")
+        };
+        assert!(read(sheet(64, 64, "").as_bytes()).is_ok());
+        assert_eq!(refused(&sheet(63, 64, "")), (6, 1));
+        assert_eq!(refused(&sheet(64, 64, "SERVICE\n")), (4, 66));
+        assert_eq!(refused(&sheet(64, 64, "SERVICE")), (1, 66));
+        assert_eq!(refused(&sheet(64, 64, "X\n")), (1, 66));
+    }
+}

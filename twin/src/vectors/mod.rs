@@ -1,0 +1,90 @@
+//! Test vectors: the files `stdin` (the vectors) and `stdout` (the answers).
+
+pub mod expansion;
+pub mod numerals;
+pub mod packing;
+mod percentage_sheets;
+pub mod records;
+mod rule_sheets;
+pub mod shapes;
+pub mod sheets;
+mod spoil;
+
+use records::{take_record, Record, Records};
+use std::path::Path;
+
+/// How one kind of vectors is made and answered.
+struct Kind {
+    name: &'static str,
+    records: fn() -> Records,
+    answer: fn(&Record) -> Option<String>,
+}
+
+const KINDS: [Kind; 4] = [
+    Kind {
+        name: "numerals",
+        records: numerals::records,
+        answer: numerals::answer,
+    },
+    Kind {
+        name: "expansion",
+        records: expansion::records,
+        answer: expansion::answer,
+    },
+    Kind {
+        name: "packing",
+        records: packing::records,
+        answer: packing::answer,
+    },
+    Kind {
+        name: "sheets",
+        records: sheets::records,
+        answer: sheets::answer,
+    },
+];
+
+fn kind(name: &str) -> Result<&'static Kind, String> {
+    let found = KINDS.iter().find(|kind| kind.name == name);
+    found.ok_or_else(|| format!("no vectors called {name}"))
+}
+
+/// Answers a file of vectors, one line for each.
+pub fn answer(name: &str, mut file: &[u8]) -> Result<String, String> {
+    let kind = kind(name)?;
+    let mut answers = String::new();
+    let mut number = 0;
+    while !file.is_empty() {
+        number += 1;
+        let line = take_record(&mut file).and_then(|record| (kind.answer)(&record));
+        answers += &line.ok_or_else(|| format!("record {number} is not of {name}"))?;
+        answers.push('\n');
+    }
+    Ok(answers)
+}
+
+/// Writes both files of one kind into a folder and returns how many records.
+pub fn write(name: &str, folder: &Path) -> Result<usize, String> {
+    let records = (kind(name)?.records)();
+    let answers = answer(name, records.bytes())?;
+    let write = |file: &str, bytes: &[u8]| std::fs::write(folder.join(file), bytes);
+    std::fs::create_dir_all(folder)
+        .and_then(|()| write("stdin", records.bytes()))
+        .and_then(|()| write("stdout", answers.as_bytes()))
+        .map_err(|error| error.to_string())?;
+    Ok(records.count())
+}
+
+#[cfg(test)]
+mod tests {
+    use super::*;
+
+    #[test]
+    fn each_record_has_one_answer_line_and_the_bytes_never_change() {
+        for kind in &KINDS {
+            let (once, twice) = ((kind.records)(), (kind.records)());
+            assert_eq!(once.bytes(), twice.bytes());
+            let answers = answer(kind.name, once.bytes()).unwrap();
+            assert_eq!(answers.lines().count(), once.count());
+        }
+    }
+}

@@ -1,0 +1,230 @@
+//! Vectors for the packing of services into one table.
+
+use super::expansion::{numbers, suffix_text};
+use super::records::{Record, Records};
+use super::shapes::{order, service, OrderShape};
+use crate::numerals::WHOLE;
+use crate::packing::{pack, Order, Packing, Service};
+use crate::random::Random;
+
+/// What the twin says to one record; nothing if the record is not of a kind.
+pub fn answer(record: &Record) -> Option<String> {
+    let ("K", &[k, tolerance, capacity]) = (record.op, record.numbers.as_slice()) else {
+        return None;
+    };
+    let text = std::str::from_utf8(record.payload).ok()?;
+    let services: Option<Vec<Service>> = text.lines().map(read_service).collect();
+    let packing = pack(&Order {
+        k,
+        tolerance,
+        capacity,
+        services: services?,
+    });
+    Some(match packing {
+        Ok(packing) => packing_text(&packing),
+        Err(refusal) => format!("refused {}", refusal.number()),
+    })
+}
+
+/// Reads `volume w1 w2 ..`.
+fn read_service(line: &str) -> Option<Service> {
+    let numbers = numbers(line)?;
+    let (&volume, weights) = numbers.split_first()?;
+    Some(service(volume, weights))
+}
+
+/// The total, the grants, and the lines in the order of the rule sheet.
+fn packing_text(packing: &Packing) -> String {
+    let mut text = format!("total {} grants", packing.table.total);
+    for grant in &packing.grants {
+        text += &format!(" {grant}");
+    }
+    text += " lines ";
+    for (index, line) in packing.table.lines.iter().enumerate() {
+        let comma = if index == 0 { "" } else { "," };
+        let suffix = suffix_text(line.rule.suffix);
+        text += &format!("{comma}{} {suffix} {}", line.service, line.rule.backend);
+    }
+    text
+}
+
+/// All records of this kind.
+pub fn records() -> Records {
+    let mut records = Records::default();
+    let mut random = Random::new(3);
+    listed(&mut records);
+    at_random(&mut records, &mut random);
+    large(&mut records, &mut random);
+    refused(&mut records);
+    refused_at_random(&mut records, &mut random);
+    records
+}
+
+fn add(records: &mut Records, order: &Order) {
+    let mut payload = String::new();
+    for service in &order.services {
+        payload += &service.volume.to_string();
+        for weight in &service.weights {
+            payload += &format!(" {weight}");
+        }
+        payload.push('\n');
+    }
+    let Order {
+        k,
+        tolerance,
+        capacity,
+        ..
+    } = order;
+    let header = format!("K {k} {tolerance} {capacity}");
+    records.add(&header, payload.as_bytes());
+}
+
+/// The sample sheet with every capacity, the traps, and volumes of zero.
+fn listed(records: &mut Records) {
+    let sixths = [166_667, 333_333, 500_000];
+    let quarters = [250_000, 250_000, 500_000];
+    let sample = [service(55, &sixths), service(45, &quarters)];
+    let mut try_all = |k, tolerance, services: &[Service]| {
+        for capacity in (1..=9).chain([2_047, 2_048]) {
+            let services = services.to_vec();
+            add(
+                records,
+                &Order {
+                    k,
+                    tolerance,
+                    capacity,
+                    services,
+                },
+            );
+        }
+    };
+    try_all(5, 20_000, &sample);
+    try_all(5, 0, &[service(0, &sixths), service(0, &quarters)]);
+    try_all(5, 0, &[service(0, &sixths), service(1, &quarters)]);
+    try_all(5, 0, &[service(10_000, &[WHOLE]), service(1, &quarters)]);
+    try_all(1, 0, &vec![service(7, &[500_000, 500_000]); 3]);
+    try_all(5, 0, &vec![service(7, &sixths); 4]);
+    try_all(4, 0, &[service(2, &quarters), service(4, &quarters)]);
+    try_all(12, 0, &[service(10_000, &[0, 0, WHOLE, 0])]);
+}
+
+/// Orders of a few services.
+fn at_random(records: &mut Records, random: &mut Random) {
+    for _ in 0..420 {
+        let shape = OrderShape {
+            services: random.within(1, 8),
+            backends: *random.pick(&[2, 3, 5, 8, 32]),
+            bits: 12,
+        };
+        add(records, &order(random, &shape));
+    }
+}
+
+/// Orders of many services, with little and much capacity.
+fn large(records: &mut Records, random: &mut Random) {
+    for (services, backends, capacity) in [
+        (64, 32, 2_048),
+        (64, 32, 64),
+        (64, 8, 300),
+        (64, 1, 2_048),
+        (63, 16, 2_047),
+        (40, 32, 500),
+        (64, 3, 65),
+    ] {
+        let shape = OrderShape {
+            services,
+            backends,
+            bits: 12,
+        };
+        let mut order = order(random, &shape);
+        (order.k, order.tolerance, order.capacity) = (12, 0, capacity);
+        add(records, &order);
+    }
+    let services = (0..64).map(|i| service(10_000 - i, &[31_250; 32]));
+    let order = Order {
+        k: 12,
+        tolerance: 0,
+        capacity: 2_048,
+        services: services.collect(),
+    };
+    add(records, &order);
+}
+
+/// Each refusal, and each before the ones that come after it.
+fn refused(records: &mut Records) {
+    let good = service(1, &[WHOLE]);
+    let mut add_order = |k, tolerance, capacity, services: Vec<Service>| {
+        let order = Order {
+            k,
+            tolerance,
+            capacity,
+            services,
+        };
+        add(records, &order);
+    };
+    for k in [0, 13, u64::MAX] {
+        add_order(k, 0, 1, vec![good.clone()]);
+    }
+    for tolerance in [WHOLE + 1, u64::MAX] {
+        add_order(5, tolerance, 1, vec![good.clone()]);
+    }
+    for capacity in [0, 2_049, u64::MAX] {
+        add_order(5, 0, capacity, vec![good.clone()]);
+    }
+    for count in [0, 1, 63, 64, 65, 66] {
+        for capacity in [1, 62, 63, 64, 65] {
+            add_order(5, 0, capacity, vec![good.clone(); count]);
+        }
+    }
+    refused_services(records, &good);
+}
+
+/// A bad service alone, after a good one, and before a worse one.
+fn refused_services(records: &mut Records, good: &Service) {
+    let mut add_order = |k, capacity, services: &[&Service]| {
+        let order = Order {
+            k,
+            tolerance: 0,
+            capacity,
+            services: services.iter().map(|&service| service.clone()).collect(),
+        };
+        add(records, &order);
+    };
+    for bad in [
+        service(10_001, &[WHOLE]),
+        service(u64::MAX, &[0]),
+        service(10_000, &[WHOLE + 1]),
+        service(10_000, &[WHOLE, 1]),
+        service(10_001, &[31_250; 33]),
+        service(0, &[999_999]),
+        service(0, &[u64::MAX, 1_000_001]),
+    ] {
+        add_order(5, 1, &[&bad]);
+        add_order(5, 1, &[good, &bad]);
+        add_order(5, 2, &[&bad, &service(10_001, &[0])]);
+        add_order(13, 2, &[&bad]);
+    }
+}
+
+/// Good orders with one number spoilt.
+fn refused_at_random(records: &mut Records, random: &mut Random) {
+    for _ in 0..60 {
+        let shape = OrderShape {
+            services: random.within(1, 6),
+            backends: 6,
+            bits: 12,
+        };
+        let mut order = order(random, &shape);
+        let at = random.below(shape.services) as usize;
+        let service = &mut order.services[at];
+        match random.below(6) {
+            0 => service.volume = random.within(10_000, 10_002),
+            1 => service.weights[0] = random.any_size(),
+            2 => service.weights.push(1),
+            3 => order.k = random.within(12, 14),
+            4 => order.capacity = shape.services - 1,
+            _ => service.weights = vec![0; random.within(31, 34) as usize],
+        }
+        add(records, &order);
+    }
+}

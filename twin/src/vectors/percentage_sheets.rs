@@ -1,0 +1,242 @@
+//! Vectors `R`: texts of percentage sheets.
+
+use super::records::Records;
+use super::shapes::{order, percentage_text, sheet_text, OrderShape};
+use super::spoil::spoil;
+use crate::packing::Order;
+use crate::random::Random;
+
+/// Adds all of them.
+pub fn add_all(records: &mut Records) {
+    let mut random = Random::new(4);
+    listed(records);
+    fields(records);
+    at_limits(records, &mut random);
+    good(records, &mut random);
+    spoilt(records, &mut random);
+    unbalanced(records, &mut random);
+}
+
+fn add(records: &mut Records, text: &str) {
+    records.add("R", text.as_bytes());
+}
+
+const SAMPLE: &str = "SHEET 5 2 5\nSERVICE 55 16.6667 33.3333 50\nSERVICE 45 25 25 50\n";
+
+/// The sample, cut after every byte and with every capacity; the P cases.
+fn listed(records: &mut Records) {
+    for length in 0..=SAMPLE.len() {
+        add(records, &SAMPLE[..length]);
+    }
+    for capacity in 0..=9 {
+        add(
+            records,
+            &SAMPLE.replacen("2 5\n", &format!("2 {capacity}\n"), 1),
+        );
+    }
+    cases(records);
+    wrong_forms(records);
+}
+
+/// P1 to P6 and P9 to P12.
+fn cases(records: &mut Records) {
+    for (head, weights) in [
+        ("5 2", "16.6667 33.3333 50"),
+        ("5 0", "16.6667 33.3333 50"),
+        ("5 0", "25 25 50"),
+        ("1 0", "100"),
+        ("1 0", "50 50"),
+        ("1 0", "33.3334 33.3333 33.3333"),
+        ("1 0", "18.4.2"),
+        ("1 0", "100.0000"),
+        ("1 0", "100.0001"),
+        ("1 0", "018.4"),
+    ] {
+        add(records, &format!("SHEET {head} 32\nSERVICE 1 {weights}\n"));
+    }
+}
+
+/// Lines with a wrong keyword, LF or number of fields.
+fn wrong_forms(records: &mut Records) {
+    for text in [
+        "\n",
+        " \n",
+        "SHEET\n",
+        "SHEET 5 2 5\n\n",
+        "SHEET 5 2 5\n ",
+        "SHEET 5 2 5\r\nSERVICE 1 100\r\n",
+        "SHEET 5 2 5\nSERVICE 1 100\n\n",
+        "SHEET 5 2 5\nSERVICE 1 100\nSERVICE",
+        "SHEET  5 2 5\nSERVICE 1 100\n",
+        "SHEET 5 2 5\nSERVICE 1\n",
+        "SHEET 5 2 5\nSERVICE 1 \n",
+        "SHEET 5 2 5\nSERVICE\n",
+        "SHEET 5 2 5\nSERVICE \n",
+        "SHEET 5 2 5\n SERVICE 1 100\n",
+        "SHEET 5 2 5\nSERVICE  1 100\n",
+        "SHEET 5 2 5\nSERVICE 1  100\n",
+        "SHEET 5 2 5\nSERVICE 1 100 \n",
+        "SHEET 5 2 5 \nSERVICE 1 100\n",
+        "sheet 5 2 5\nSERVICE 1 100\n",
+        "SHEET 5 2 5\nSHEET 5 2 5\n",
+        "SERVICE 1 100\n",
+        "TABLE 5 1 0\n1 * 1\n",
+        "SHEET 5 2 5\n\0SERVICE 1 100\n",
+    ] {
+        add(records, text);
+    }
+}
+
+/// Each field of a sheet in turn, at its limits and of no form.
+fn fields(records: &mut Records) {
+    let numbers = "0 1 2 11 12 13 32 33 64 65 2047 2048 2049 9999 10000 10001 65536 00 01 012 -1 +1 1. 1.0 \
+        .5 0.5 x 1x 18446744073709551616 18446744073709551617 4294967297 100 100.0 100.0000 100.0001 101 \
+        99.9999 0.0001 0.00001 18. 18.4.2 018.4 18.40000";
+    for number in numbers.split(' ').chain([""]) {
+        add(records, &format!("SHEET {number} 2 5\nSERVICE 1 100\n"));
+        add(
+            records,
+            &format!("SHEET 5 {number} 5\nSERVICE 1 50 30 20\n"),
+        );
+        add(
+            records,
+            &format!("SHEET 5 2 {number}\nSERVICE 1 50 30 20\n"),
+        );
+        add(
+            records,
+            &format!("SHEET 5 2 5\nSERVICE {number} 50 30 20\n"),
+        );
+        add(records, &format!("SHEET 5 2 5\nSERVICE 1 {number}\n"));
+        add(records, &format!("SHEET 5 2 5\nSERVICE 1 {number} 50 50\n"));
+        add(
+            records,
+            &format!("SHEET 5 2 1\nSERVICE 1 50 50\nSERVICE 1 50 50 {number}\n"),
+        );
+    }
+    for bad in ["x", "5 x", "5 2 x", "13 101 0", "13", "5 101"] {
+        add(records, &format!("SHEET {bad} 1 1\nSERVICE\n"));
+        add(records, &format!("SHEET {bad}\nSERVICE\n"));
+    }
+}
+
+/// Numbers of services and backends, and lengths of the text, at their limits.
+fn at_limits(records: &mut Records, random: &mut Random) {
+    let line = "SERVICE 1 100\n";
+    for services in [1, 2, 63, 64, 65] {
+        for capacity in [1, 62, 63, 64, 65, 2_048] {
+            let lines = line.repeat(services);
+            add(records, &format!("SHEET 1 0 {capacity}\n{lines}"));
+        }
+    }
+    for last in [
+        "SERVICE",
+        "SERVICE\n",
+        "SERVICE x\n",
+        "SERVIC 1 100\n",
+        "\n",
+        "x",
+        "SERVICE 1 50\n",
+    ] {
+        add(records, &format!("SHEET 1 0 64\n{}{last}", line.repeat(64)));
+    }
+    for weights in [31, 32, 33, 34, 100] {
+        for (volume, part) in [("1", "3.125"), ("x", "3.125"), ("1", ""), ("1", "1")] {
+            let parts = format!(" {part}").repeat(weights);
+            add(
+                records,
+                &format!("SHEET 12 0 64\nSERVICE {volume}{parts}\n"),
+            );
+        }
+    }
+    large(records, random);
+    long(records);
+}
+
+/// Sheets of 64 services of up to 32 backends.
+fn large(records: &mut Records, random: &mut Random) {
+    for capacity in [2_048, 64] {
+        let shape = OrderShape {
+            services: 64,
+            backends: 32,
+            bits: 12,
+        };
+        let mut order = order(random, &shape);
+        (order.k, order.tolerance, order.capacity) = (12, 0, capacity);
+        records.add("R", &sheet_text(random, &order));
+    }
+    let widest = "SERVICE 10000".to_string() + &" 3.1250".repeat(32) + "\n";
+    add(
+        records,
+        &format!("SHEET 12 0.0000 2048\n{}", widest.repeat(64)),
+    );
+}
+
+/// Texts of 65,535 to 65,537 bytes.
+fn long(records: &mut Records) {
+    let head = "SHEET 5 2 5\nSERVICE 1 100\n";
+    for length in [65_535, 65_536, 65_537] {
+        let rest = length - head.len();
+        add(records, &format!("{head}{}\n", "9".repeat(rest - 1)));
+        add(
+            records,
+            &format!("{head}SERVICE 1 {}\n", "1".repeat(rest - 11)),
+        );
+    }
+    add(
+        records,
+        &format!("{head}{}", " ".repeat(65_536 - head.len())),
+    );
+    add(records, &"\n".repeat(65_537));
+    add(records, &format!("SHEET 5 2 {}\n", "5".repeat(60_000)));
+}
+
+/// A small order; most have few services and backends.
+fn small(random: &mut Random) -> Order {
+    let shape = OrderShape {
+        services: *random.pick(&[1, 1, 1, 2, 2, 3, 4, 7]),
+        backends: *random.pick(&[1, 2, 3, 4, 6, 12]),
+        bits: 12,
+    };
+    order(random, &shape)
+}
+
+/// Sheets that keep the rules.
+fn good(records: &mut Records, random: &mut Random) {
+    for _ in 0..1_500 {
+        let order = small(random);
+        records.add("R", &sheet_text(random, &order));
+    }
+}
+
+/// Sheets spoilt at random.
+fn spoilt(records: &mut Records, random: &mut Random) {
+    for _ in 0..1_600 {
+        let order = small(random);
+        let text = sheet_text(random, &order);
+        records.add("R", &spoil(random, &text));
+    }
+}
+
+/// Sheets with a weight too much or too little, a capacity below the services
+/// or no service at all.
+fn unbalanced(records: &mut Records, random: &mut Random) {
+    for _ in 0..200 {
+        let mut order = small(random);
+        let count = order.services.len() as u64;
+        match random.below(3) {
+            0 => order.capacity = random.within(1, count),
+            1 => order.services.truncate(random.below(count) as usize),
+            _ => {
+                let service = &mut order.services[random.below(count) as usize];
+                let weight = &mut service.weights[0];
+                *weight = if *weight == 0 { 1 } else { *weight - 1 };
+            }
+        }
+        let mut text = sheet_text(random, &order);
+        if random.once_in(4) {
+            text.pop();
+            text.extend(format!(" {}\n", percentage_text(random, 1)).bytes());
+        }
+        records.add("R", &text);
+    }
+}

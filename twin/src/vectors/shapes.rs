@@ -1,0 +1,209 @@
+//! Weights, orders and tables of every shape, made at random.
+
+use crate::expansion::Rule;
+use crate::numerals::WHOLE;
+use crate::packing::{Order, Service};
+use crate::random::Random;
+use crate::suffix::Suffix;
+use crate::table::{RuleLine, Table};
+
+/// A service from its volume and weights.
+pub fn service(volume: u64, weights: &[u64]) -> Service {
+    Service {
+        volume,
+        weights: weights.to_vec(),
+    }
+}
+
+/// Weights of a number of backends, which sum to 1,000,000.
+pub fn weights(random: &mut Random, count: usize) -> Vec<u64> {
+    let mut weights = match random.below(9) {
+        0 => equal(count),
+        1 => near_ties(random, count),
+        2 => halves(count),
+        3 => dominated(random, count),
+        4 => eighths(random, count),
+        5 => cut_at_random(random, count.div_ceil(2)),
+        _ => cut_at_random(random, count),
+    };
+    weights.resize(count, 0);
+    if random.once_in(2) {
+        shuffle(random, &mut weights);
+    }
+    weights
+}
+
+/// Like weights; what doesn't divide goes to the first ones.
+fn equal(count: usize) -> Vec<u64> {
+    let (each, rest) = (WHOLE / count as u64, WHOLE % count as u64);
+    (0..count as u64)
+        .map(|i| each + u64::from(i < rest))
+        .collect()
+}
+
+/// Like weights with a few millionths moved.
+fn near_ties(random: &mut Random, count: usize) -> Vec<u64> {
+    let mut weights = equal(count);
+    for _ in 0..random.below(6) {
+        let (from, to) = (random.below(count as u64), random.below(count as u64));
+        let moved = random.within(1, 3);
+        weights[from as usize] -= moved.min(weights[from as usize]).min(3);
+        weights[to as usize] += WHOLE - weights.iter().sum::<u64>();
+    }
+    weights
+}
+
+/// 50, 25, 12.5 and so on, down to what a millionth allows.
+fn halves(count: usize) -> Vec<u64> {
+    let mut weights = Vec::new();
+    let mut rest = WHOLE;
+    while weights.len() + 1 < count && rest.is_multiple_of(2) {
+        rest /= 2;
+        weights.push(rest);
+    }
+    weights.push(rest);
+    weights
+}
+
+/// One weight of almost everything, and small ones.
+fn dominated(random: &mut Random, count: usize) -> Vec<u64> {
+    let small = *random.pick(&[2, 50, 2_000, 20_000]);
+    let mut weights: Vec<u64> = (1..count).map(|_| random.below(small)).collect();
+    weights.push(WHOLE - weights.iter().sum::<u64>());
+    weights
+}
+
+/// Multiples of an eighth, or of another part of the whole.
+fn eighths(random: &mut Random, count: usize) -> Vec<u64> {
+    let parts = *random.pick(&[4, 8, 16, 64, 100, 10]);
+    let mut weights = vec![0; count];
+    for _ in 0..parts {
+        weights[random.below(count as u64) as usize] += WHOLE / parts;
+    }
+    weights
+}
+
+/// The whole cut at random places.
+fn cut_at_random(random: &mut Random, count: usize) -> Vec<u64> {
+    let grain = *random.pick(&[1, 1, 100, 10_000]);
+    let mut cuts: Vec<u64> = (1..count)
+        .map(|_| grain * random.below(WHOLE / grain + 1))
+        .collect();
+    cuts.extend([0, WHOLE]);
+    cuts.sort_unstable();
+    cuts.windows(2).map(|pair| pair[1] - pair[0]).collect()
+}
+
+fn shuffle(random: &mut Random, weights: &mut [u64]) {
+    for i in 1..weights.len() {
+        weights.swap(i, random.below(i as u64 + 1) as usize);
+    }
+}
+
+/// A tolerance, most often small.
+pub fn tolerance(random: &mut Random) -> u64 {
+    match random.below(10) {
+        0..=4 => 0,
+        5 | 6 => random.below(1_000),
+        7 | 8 => random.below(20_000),
+        _ => random.below(WHOLE + 1),
+    }
+}
+
+/// How large an order may become.
+pub struct OrderShape {
+    pub services: u64,
+    pub backends: u64,
+    pub bits: u64,
+}
+
+/// An order that keeps the rules of document 01.
+pub fn order(random: &mut Random, shape: &OrderShape) -> Order {
+    let volumes = *random.pick(&[1, 2, 10, 100, 10_001, 10_001]);
+    let same = random.once_in(6);
+    let mut services: Vec<Service> = Vec::new();
+    for _ in 0..shape.services {
+        let fewest = if random.once_in(8) { 1 } else { 2 };
+        let count = random.within(fewest.min(shape.backends), shape.backends) as usize;
+        let volume = random.below(volumes) + u64::from(volumes == 1) * 7;
+        match services.first() {
+            Some(first) if same => services.push(first.clone()),
+            _ => services.push(service(volume, &weights(random, count))),
+        }
+    }
+    let room = *random.pick(&[1, 4, 16, 64, 2_048]);
+    Order {
+        k: random.within(1, shape.bits),
+        tolerance: tolerance(random),
+        capacity: (shape.services + random.below(room)).min(2_048),
+        services,
+    }
+}
+
+/// A percentage as text, with some zeros more than it needs.
+pub fn percentage_text(random: &mut Random, value: u64) -> String {
+    let decimals = format!("{:04}", value % 10_000);
+    let needed = decimals.trim_end_matches('0').len() as u64;
+    let shown = match random.below(4) {
+        0 => random.within(needed, 4),
+        _ => needed,
+    };
+    match shown {
+        0 => (value / 10_000).to_string(),
+        _ => format!("{}.{}", value / 10_000, &decimals[..shown as usize]),
+    }
+}
+
+/// The percentage sheet of an order.
+pub fn sheet_text(random: &mut Random, order: &Order) -> Vec<u8> {
+    let tolerance = percentage_text(random, order.tolerance);
+    let mut text = format!("SHEET {} {tolerance} {}\n", order.k, order.capacity);
+    for service in &order.services {
+        text += &format!("SERVICE {}", service.volume);
+        for &weight in &service.weights {
+            text += " ";
+            text += &percentage_text(random, weight);
+        }
+        text += "\n";
+    }
+    text.into_bytes()
+}
+
+/// A table that keeps the order of the rule sheet, of at most so many services.
+pub fn rule_table(random: &mut Random, k: u64, services: u64) -> Table {
+    let mut lines = Vec::new();
+    let mut service = 0;
+    for _ in 0..random.within(1, services) {
+        service += match random.below(4) {
+            0 => random.within(1, 3),
+            _ => 1,
+        };
+        if service > 64 {
+            break;
+        }
+        let most = *random.pick(&[2, 5, 5, 9, 32]);
+        add_rules(random, k, service as u8, most, &mut lines);
+    }
+    let total = random.any_size() % (crate::limits::MOST_TOTAL + 1);
+    Table {
+        k: k as u8,
+        total,
+        lines,
+    }
+}
+
+/// Adds the lines of one service: lengths that don't grow, then `*`.
+fn add_rules(random: &mut Random, k: u64, service: u8, most: u64, lines: &mut Vec<RuleLine>) {
+    let count = random.within(1, most);
+    let mut lengths: Vec<u64> = (1..count).map(|_| random.within(1, k)).collect();
+    lengths.sort_unstable_by(|a, b| b.cmp(a));
+    lengths.push(0);
+    let backends = *random.pick(&[2, 3, 32]);
+    for length in lengths {
+        let place = random.below(1 << length) as u16;
+        let suffix = Suffix::at_place(length as u8, place);
+        let backend = random.within(1, backends) as u8;
+        let rule = Rule { suffix, backend };
+        lines.push(RuleLine { service, rule });
+    }
+}

@@ -1,0 +1,45 @@
+//! Vectors for the sheets: readers, the one call, lookup and churn.
+
+use super::records::{Record, Records};
+use super::{percentage_sheets, rule_sheets};
+use crate::calls::{churn, lookup, split};
+use crate::rule_sheet::{read, text_of};
+
+/// What the twin says to one record; nothing if the record is not of a kind.
+pub fn answer(record: &Record) -> Option<String> {
+    let text = record.payload;
+    match (record.op, record.numbers.as_slice()) {
+        ("R", &[]) => Some(shown(
+            split(text).map(|packing| slashed(&text_of(&packing.table))),
+        )),
+        ("U", &[]) => Some(shown(read(text).map(|_| "ok"))),
+        ("L", &[service, address]) => {
+            let backend = lookup(text, service, u32::try_from(address).ok()?);
+            Some(shown(backend.map(|backend| format!("backend {backend}"))))
+        }
+        ("H", &[service, length]) => {
+            let (first, second) = text.split_at_checked(usize::try_from(length).ok()?)?;
+            let count = churn(first, second, service);
+            Some(shown(count.map(|count| format!("churn {count}"))))
+        }
+        _ => None,
+    }
+}
+
+/// The answer, or the refusal as text.
+fn shown<T: ToString, E: ToString>(answer: Result<T, E>) -> String {
+    answer.map_or_else(|refusal| refusal.to_string(), |text| text.to_string())
+}
+
+/// A text on one line, each LF shown as `/`.
+fn slashed(text: &[u8]) -> String {
+    String::from_utf8_lossy(text).replace('\n', "/")
+}
+
+/// All records of this kind.
+pub fn records() -> Records {
+    let mut records = Records::default();
+    percentage_sheets::add_all(&mut records);
+    rule_sheets::add_all(&mut records);
+    records
+}

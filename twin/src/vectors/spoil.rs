@@ -1,0 +1,115 @@
+//! Sheets that are spoilt at random: bytes, fields or lines.
+
+use crate::random::Random;
+
+/// Bytes that stand in sheets or next to those that do.
+const BYTES: &[u8] = b"0123456789 .\n*SERVICHTABL/:+-\r\t\0\xff\x0b";
+
+/// Fields that are at some limit, or of no form.
+const FIELDS: [&str; 58] = [
+    "",
+    "0",
+    "1",
+    "2",
+    "00",
+    "01",
+    "12",
+    "13",
+    "31",
+    "32",
+    "33",
+    "63",
+    "64",
+    "65",
+    "100",
+    "101",
+    "2047",
+    "2048",
+    "2049",
+    "10000",
+    "10001",
+    "65536",
+    "1000000",
+    "2621440000000000",
+    "2621440000000001",
+    "18446744073709551616",
+    "18446744073709551617",
+    "4294967297",
+    "257",
+    "100.0",
+    "100.0000",
+    "100.0001",
+    "100.00000",
+    "18.4.2",
+    "018.4",
+    "18.",
+    ".4",
+    "18.40000",
+    "18.4",
+    "0.0001",
+    "0.0",
+    "99.9999",
+    "50",
+    "-1",
+    "+1",
+    "1e1",
+    "*",
+    "*0",
+    "*1",
+    "*01",
+    "*000000000000",
+    "*0000000000000",
+    "*2",
+    "**",
+    "0*",
+    "SERVICE",
+    "SHEET",
+    "TABLE",
+];
+
+/// A sheet with one to three things wrong, or by chance still right.
+pub fn spoil(random: &mut Random, text: &[u8]) -> Vec<u8> {
+    let mut text = text.to_vec();
+    for _ in 0..*random.pick(&[1, 1, 1, 2, 3]) {
+        text = match random.below(4) {
+            0 | 1 => random.damage(&text, BYTES),
+            2 => spoil_field(random, &text),
+            _ => spoil_line(random, &text),
+        };
+    }
+    text
+}
+
+/// Replaces, doubles, drops or empties one field of one line.
+fn spoil_field(random: &mut Random, text: &[u8]) -> Vec<u8> {
+    let mut lines: Vec<Vec<u8>> = text.split(|&b| b == b'\n').map(<[u8]>::to_vec).collect();
+    let line = random.below(lines.len() as u64) as usize;
+    let mut fields: Vec<&[u8]> = lines[line].split(|&b| b == b' ').collect();
+    let at = random.below(fields.len() as u64) as usize;
+    match random.below(6) {
+        0 => fields.insert(at, fields[at]),
+        1 => drop(fields.remove(at)),
+        _ => fields[at] = random.pick(&FIELDS).as_bytes(),
+    }
+    lines[line] = fields.join(&b' ');
+    lines.join(&b'\n')
+}
+
+/// Doubles, drops, swaps, empties or cuts a line.
+fn spoil_line(random: &mut Random, text: &[u8]) -> Vec<u8> {
+    let mut lines: Vec<&[u8]> = text.split_inclusive(|&b| b == b'\n').collect();
+    if lines.is_empty() {
+        return b"\n".to_vec();
+    }
+    let at = random.below(lines.len() as u64) as usize;
+    let other = random.below(lines.len() as u64) as usize;
+    match random.below(6) {
+        0 => lines.insert(at, lines[at]),
+        1 => drop(lines.remove(at)),
+        2 => lines.swap(at, other),
+        3 => lines.insert(at, b"\n"),
+        4 => lines.truncate(at + 1),
+        _ => lines.insert(at, lines[other]),
+    }
+    lines.concat()
+}
