@@ -1,0 +1,74 @@
+-- What a call answers, by its cases: turned back by a check, too little room, or the list that the program made.
+use Prim.Native.Nat.{ℕ, zero, suc, _+_, _≤_, _<_}
+use mathlib.Core.Bool.{true, false}
+use mathlib.Core.List.{List, [], _∷_, _++_, reverse, map}
+use mathlib.Core.Path.{_≡_, refl, ap, ap₂, sym, _∙_}
+use native.Mathlib.Omega.{arith}
+use lib.Dec.{leb}
+use lib.ListN.{length, getD, take}
+use lib.Seq.{take-suc}
+use borrow.Author.Tests.{leb-false, le-leb, lt-leb}
+use Rattle.expansion.specs.Imbalance.{Frame}
+use Rattle.expansion.specs.Steps.{frame, stair, stairsTo}
+use Rattle.expansion.specs.Answer.{unit, checkCall, listMade, stairsMade, recordMade, answer}
+use Rattle.expansion.specs.Kept.{Made}
+use Rattle.expansion.specs.declared.rule.Rule.{Rule}
+use Rattle.expansion.specs.declared.refusal.Refusal.{Refusal}
+use Rattle.expansion.specs.declared.refusal.Refusal.the-variants.{ShortLoan}
+use Rattle.expansion.specs.declared.run.Run.{Run}
+use Rattle.expansion.specs.declared.call.Checked.the-variants.{Sound as Passed, Refused as Turned}
+use Rattle.expansion.specs.declared.call.Expanded.the-variants.{Made as Answered, Refused}
+use Rattle.expansion.proofs.Listing.{length-newest, column-newest}
+
+pub answer-turned : (k tolerance budget : ℕ) (ws : List ℕ) (at room : ℕ) (why : Refusal) → checkCall k tolerance budget ws ≡ Turned why
+    → answer k tolerance budget ws at room ≡ Refused why
+unfolding answer
+answer-turned k tolerance budget ws at room why e = rw e
+
+-- the first stairs of a listing
+stairs-taken : (F : Frame) (rs : List Rule) (xs : List ℕ) (c : ℕ) → c ≤ length xs
+    → ((i : ℕ) → i < c → getD xs i 0 ≡ stair F (suc i) rs) → take c xs ≡ stairsTo F rs c
+unfolding stairsTo
+stairs-taken F rs xs zero l h = refl
+stairs-taken F rs xs (suc c) l h =
+    take-suc xs c 0 l
+    ∙ ap₂ (λ (ys : List ℕ) (y : ℕ). ys ++ y ∷ []) (stairs-taken F rs xs c (omega arith) (λ i m. h i (omega arith))) (h c (omega arith))
+
+-- the list that was made, as the answer has it
+module _ (k tolerance budget : ℕ) (ws : List ℕ) (r : Run) (M : Made k tolerance budget ws r) where
+  pub made-count : r .list .count ≡ length (listMade k tolerance budget ws)
+  made-count = sym (length-newest (r .list .rules) (r .list .count)) ∙ ap length (M .rules)
+
+  pub made-record : recordMade k tolerance budget ws ≡ record { ended = r .ended; rules = r .list .count }
+  unfolding recordMade
+  made-record = rw (made-count, M .ended)
+
+  pub made-column : (f : Rule → ℕ) → r .list .count ≤ length (r .list .rules)
+      → map f (take (r .list .count) (r .list .rules)) ≡ map f (reverse (listMade k tolerance budget ws))
+  made-column f l =
+      column-newest f (r .list .rules) (r .list .count) l ∙ ap (λ (rs : List Rule). map f (reverse rs)) (M .rules)
+
+  pub made-stairs : r .list .count ≤ length (r .list .stairs)
+      → take (r .list .count) (r .list .stairs) ≡ stairsMade k tolerance budget ws
+  unfolding stairsMade
+  made-stairs l =
+      stairs-taken (frame k unit tolerance ws) (listMade k tolerance budget ws) (r .list .stairs) (r .list .count) l (M .stairs)
+      ∙ ap (stairsTo (frame k unit tolerance ws) (listMade k tolerance budget ws)) made-count
+
+  -- too little room in a buffer of `len` places, or enough in all
+  pub answer-short : (at room len : ℕ) → checkCall k tolerance budget ws ≡ Passed → room ≤ len → leb (at + r .list .count) len ≡ false
+      → answer k tolerance budget ws at room ≡ Refused ShortLoan
+  unfolding answer
+  answer-short at room len e l short =
+      let none : leb (at + length (listMade k tolerance budget ws)) room ≡ false =
+      lt-leb (at + length (listMade k tolerance budget ws)) room
+      (omega (arith, made-count, leb-false (at + r .list .count) len short)) in
+      rw (e, none)
+
+  pub answer-made : (at room : ℕ) → checkCall k tolerance budget ws ≡ Passed → at + r .list .count ≤ room
+      → answer k tolerance budget ws at room ≡ Answered (record { ended = r .ended; rules = r .list .count })
+  unfolding answer
+  answer-made at room e l =
+      let some : leb (at + length (listMade k tolerance budget ws)) room ≡ true =
+      le-leb (at + length (listMade k tolerance budget ws)) room (omega (arith, made-count)) in
+      rw (e, some) (ap Answered made-record)

@@ -1,0 +1,26 @@
+-- The theorems on the expansion, from below.
+pub mod Powers
+pub mod Sums
+pub mod Searches
+pub mod FirstMatch
+pub mod Count
+pub mod Balance
+pub mod Within
+pub mod Reduction
+pub mod NoGain
+pub mod Bounds
+pub mod Moves
+pub mod Turns
+pub mod Stairs
+pub mod Shape
+pub mod Base
+pub mod Signed
+pub mod Kept
+pub mod Held
+pub mod Listing
+pub mod Checks
+pub mod Ready
+pub mod Standing
+pub mod Answers
+pub mod Counting
+pub mod Cases

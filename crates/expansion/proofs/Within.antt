@@ -1,0 +1,45 @@
+-- Every error is within the tolerance just where the largest excess and the largest shortfall are.
+use Prim.Native.Nat.{ℕ, _*_, _^_, _<_}
+use mathlib.Core.Bool.{Bool, true}
+use mathlib.Core.List.{List}
+use mathlib.Core.Path.{_≡_}
+use native.Mathlib.Omega.{arith}
+use lib.Dec.{leb}
+use borrow.Author.Tests.{leb-true, le-leb}
+use Rattle.numerals.specs.Pick.{both}
+use Rattle.expansion.specs.Imbalance.{Frame, backends, excess, shortfall, giver, receiver, largestExcess, largestShortfall}
+use Rattle.expansion.specs.Steps.{isWithin}
+use Rattle.expansion.specs.Sound.{Sound}
+use Rattle.expansion.specs.declared.rule.Rule.{Rule}
+use Rattle.expansion.proofs.Searches.{both-true, true-both, all-true, true-all, same-test}
+use Rattle.expansion.proofs.Balance.{giver-lt, receiver-lt, excess-le, shortfall-le}
+
+-- the two sides of one error
+abbrev small : ℕ → ℕ → ℕ → Bool
+small e s t = both (leb e t) (leb s t)
+
+pub within-is : (F : Frame) → Sound F → (rs : List Rule)
+    → isWithin F rs ≡ both (leb (largestExcess F rs) (F .tolerance * 2 ^ (F .k))) (leb (largestShortfall F rs) (F .tolerance * 2 ^ (F .k)))
+unfolding isWithin largestExcess largestShortfall
+within-is F S rs = same-test (isWithin F rs) (small (largestExcess F rs) (largestShortfall F rs) t) down up
+  where
+    t : ℕ
+    t = F .tolerance * 2 ^ (F .k)
+
+    each : ℕ → Bool
+    each b = small (excess F rs b) (shortfall F rs b) t
+
+    down : isWithin F rs ≡ true → small (largestExcess F rs) (largestShortfall F rs) t ≡ true
+    down e =
+        let at : (b : ℕ) → b < backends F → each b ≡ true = all-true (backends F) each e in
+        true-both (leb (largestExcess F rs) t) (leb (largestShortfall F rs) t)
+        (both-true (leb (excess F rs (giver F rs)) t) (leb (shortfall F rs (giver F rs)) t) (at (giver F rs) (giver-lt F S rs)) .0)
+        (both-true (leb (excess F rs (receiver F rs)) t) (leb (shortfall F rs (receiver F rs)) t) (at (receiver F rs) (receiver-lt F S rs)) .1)
+
+    up : small (largestExcess F rs) (largestShortfall F rs) t ≡ true → isWithin F rs ≡ true
+    up e =
+        let w = both-true (leb (largestExcess F rs) t) (leb (largestShortfall F rs) t) e in
+        true-all (backends F) each (λ b l.
+        true-both (leb (excess F rs b) t) (leb (shortfall F rs b) t)
+        (le-leb (excess F rs b) t (omega (arith, excess-le F S rs b l, leb-true (largestExcess F rs) t (w .0))))
+        (le-leb (shortfall F rs b) t (omega (arith, shortfall-le F S rs b l, leb-true (largestShortfall F rs) t (w .1)))))

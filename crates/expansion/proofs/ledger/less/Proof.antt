@@ -1,0 +1,38 @@
+-- `ledger::less`: neither the parts nor the new error are large.
+use Prim.Native.Nat.{_*_}
+use lib.IntN.{pos, _-ℤ_}
+use borrow.Author.Needs.{needs}
+use Rattle.expansion.specs.Answer.{unit}
+use Rattle.expansion.specs.Kept.{lessOf}
+use Rattle.expansion.proofs.Signed.{back, small-read, few-less, parts-read}
+use Rattle.expansion.proofs.ledger.less.Statement.{statement}
+use Rattle.expansion.proofs.ledger.less.Tie as tie
+
+sub-t3 : tie.Need-sub-t3
+sub-t3 c = search needs
+
+mul-t4 : tie.Need-mul-t4
+mul-t4 c = search needs
+
+cast-t5 : tie.Need-cast-t5
+cast-t5 c = search needs
+
+sub-t6 : tie.Need-sub-t6
+unfolding unit
+sub-t6 c =
+    let s = c .before .before .before in
+    let e = s .args .b .error in
+    let h = s .pre .1 .1 in
+    rw (small-read e h, parts-read (s .args .count) (s .pre .0)) (record { sfits = few-less e (s .args .count) h (s .pre .0) })
+
+returns : tie.Need-returns
+unfolding unit lessOf
+returns c =
+    let s = c .before .before .before in
+    let e = s .args .b .error in
+    let n = s .args .count in
+    let h = s .pre .1 .1 in
+    rw (small-read e h, parts-read n (s .pre .0), back (e -ℤ pos (n * unit)) (few-less e n h (s .pre .0)))
+
+pub less-spec : {M : Type 1} → statement M
+less-spec = tie.close (tie.spec sub-t3 mul-t4 cast-t5 sub-t6 returns)

@@ -1,0 +1,38 @@
+-- `ledger::more`: neither the parts nor the new error are large.
+use Prim.Native.Nat.{_*_}
+use lib.IntN.{pos, _+ℤ_}
+use borrow.Author.Needs.{needs}
+use Rattle.expansion.specs.Answer.{unit}
+use Rattle.expansion.specs.Kept.{moreOf}
+use Rattle.expansion.proofs.Signed.{back, small-read, few-more, parts-read}
+use Rattle.expansion.proofs.ledger.more.Statement.{statement}
+use Rattle.expansion.proofs.ledger.more.Tie as tie
+
+add-t3 : tie.Need-add-t3
+add-t3 c = search needs
+
+mul-t4 : tie.Need-mul-t4
+mul-t4 c = search needs
+
+cast-t5 : tie.Need-cast-t5
+cast-t5 c = search needs
+
+add-t6 : tie.Need-add-t6
+unfolding unit
+add-t6 c =
+    let s = c .before .before .before in
+    let e = s .args .b .error in
+    let h = s .pre .1 .1 in
+    rw (small-read e h, parts-read (s .args .count) (s .pre .0)) (record { sfits = few-more e (s .args .count) h (s .pre .0) })
+
+returns : tie.Need-returns
+unfolding unit moreOf
+returns c =
+    let s = c .before .before .before in
+    let e = s .args .b .error in
+    let n = s .args .count in
+    let h = s .pre .1 .1 in
+    rw (small-read e h, parts-read n (s .pre .0), back (e +ℤ pos (n * unit)) (few-more e n h (s .pre .0)))
+
+pub more-spec : {M : Type 1} → statement M
+more-spec = tie.close (tie.spec add-t3 mul-t4 cast-t5 add-t6 returns)

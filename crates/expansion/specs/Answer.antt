@@ -1,0 +1,94 @@
+-- The expansion without a text (document 01, "Turned-back work"): what it checks, in this order, and what it answers and writes.
+use Prim.Native.Nat.{ℕ, _+_}
+use mathlib.Core.Bool.{Bool, true, false}
+use mathlib.Core.List.{List, reverse, map}
+use lib.Dec.{leb, ltb, eqb}
+use lib.ListN.{length, getD}
+use lib.Seq.{sets}
+use Rattle.numerals.specs.Pick.{pick, both}
+use Rattle.expansion.specs.Sums.{sumTo, allTo}
+use Rattle.expansion.specs.Steps.{frame, listOf, endOf, stairsTo}
+use Rattle.expansion.specs.declared.rule.Rule.{Rule}
+use Rattle.expansion.specs.declared.rule.Record.{Record}
+use Rattle.expansion.specs.declared.refusal.Refusal.{Refusal}
+use Rattle.expansion.specs.declared.refusal.Refusal.the-variants.{BadField, Unbalanced, TooMany, ShortLoan}
+use Rattle.expansion.specs.declared.call.Checked.{Checked}
+use Rattle.expansion.specs.declared.call.Checked.the-variants.{Sound as Passed, Refused as Turned}
+use Rattle.expansion.specs.declared.call.Expanded.{Expanded}
+use Rattle.expansion.specs.declared.call.Expanded.the-variants.{Made, Refused}
+
+-- the sum of a service's weights: 100 percent in millionths
+unfoldable pub unit : ℕ
+unit = 1000000
+
+-- the next check, where the ones before passed
+abbrev pub andThen : Checked → Checked → Checked
+andThen Passed next = next
+andThen (Turned why) next = Turned why
+
+-- what is answered where all checks passed
+abbrev pub onChecked : Checked → Expanded → Expanded
+onChecked Passed made = made
+onChecked (Turned why) made = Refused why
+
+-- turned back, unless the test passes
+abbrev pub orElse : Bool → Refusal → Checked
+orElse true why = Passed
+orElse false why = Turned why
+
+-- least ≤ x ≤ most
+unfoldable pub inLimits : ℕ → ℕ → ℕ → Bool
+inLimits least most x = both (leb least x) (leb x most)
+
+-- backends (0 is 2, a 33rd is 4), then each weight, then the sum
+unfoldable pub checkWeights : List ℕ → Checked
+checkWeights ws =
+    andThen (orElse (ltb 0 (length ws)) BadField)
+    (andThen (orElse (leb (length ws) 32) TooMany)
+    (andThen (orElse (allTo (length ws) (λ b. leb (getD ws b 0) unit)) BadField)
+    (orElse (eqb (sumTo (length ws) (λ b. getD ws b 0)) unit) Unbalanced)))
+
+-- k, tolerance, budget, then the weights
+unfoldable pub checkCall : ℕ → ℕ → ℕ → List ℕ → Checked
+checkCall k tolerance budget ws =
+    andThen (orElse (inLimits 1 12 k) BadField)
+    (andThen (orElse (leb tolerance unit) BadField)
+    (andThen (orElse (inLimits 1 32 budget) BadField)
+    (checkWeights ws)))
+
+-- the list of a call
+unfoldable pub listMade : ℕ → ℕ → ℕ → List ℕ → List Rule
+listMade k tolerance budget ws = listOf (frame k unit tolerance ws) budget
+
+unfoldable pub stairsMade : ℕ → ℕ → ℕ → List ℕ → List ℕ
+stairsMade k tolerance budget ws =
+    stairsTo (frame k unit tolerance ws) (listMade k tolerance budget ws) (length (listMade k tolerance budget ws))
+
+-- how the list ended, with its number of rules
+unfoldable pub recordMade : ℕ → ℕ → ℕ → List ℕ → Record
+recordMade k tolerance budget ws =
+    record {
+      ended = endOf (frame k unit tolerance ws) (listMade k tolerance budget ws);
+      rules = length (listMade k tolerance budget ws);
+    }
+
+-- the answer, where the shortest lent buffer has `room` places and is filled from position `at` on
+unfoldable pub answer : ℕ → ℕ → ℕ → List ℕ → ℕ → ℕ → Expanded
+answer k tolerance budget ws at room =
+    onChecked (checkCall k tolerance budget ws)
+    (pick (leb (at + length (listMade k tolerance budget ws)) room) (Made (recordMade k tolerance budget ws)) (Refused ShortLoan))
+
+-- a lent buffer afterwards: the values from that position on, where the list was made; else as it was
+abbrev pub filled : Expanded → List ℕ → ℕ → List ℕ → List ℕ
+filled (Made r) out at vs = sets out at vs
+filled (Refused why) out at vs = out
+
+-- the rules, the oldest first, as the three buffers have them
+unfoldable pub lensMade : ℕ → ℕ → ℕ → List ℕ → List ℕ
+lensMade k tolerance budget ws = map (λ (r : Rule). r .len) (reverse (listMade k tolerance budget ws))
+
+unfoldable pub valuesMade : ℕ → ℕ → ℕ → List ℕ → List ℕ
+valuesMade k tolerance budget ws = map (λ (r : Rule). r .value) (reverse (listMade k tolerance budget ws))
+
+unfoldable pub backendsMade : ℕ → ℕ → ℕ → List ℕ → List ℕ
+backendsMade k tolerance budget ws = map (λ (r : Rule). r .backend) (reverse (listMade k tolerance budget ws))

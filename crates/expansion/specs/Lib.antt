@@ -1,0 +1,11 @@
+-- What document 01 says of the expansion of one service and of the count by first match.
+pub mod Sums
+pub mod FirstMatch
+pub mod Imbalance
+pub mod Steps
+pub mod Sound
+pub mod Cases
+pub mod Refusals
+pub mod Answer
+pub mod Kept
+pub mod Counting

@@ -1,0 +1,153 @@
+// The expansion without a text, into lent buffers.
+use crate::list::RuleList;
+use crate::refusal::Refusal;
+use crate::rule::Record;
+ghost use mathlib.Core.Path.{_≡_};
+ghost use mathlib.Core.List.{map};
+ghost use Prim.Native.Nat.{_+_, _≤_, min};
+ghost use lib.Dec.{leb};
+ghost use lib.ListN.{length, take};
+ghost use lib.Seq.{sets};
+ghost use Rattle.expansion.specs.Answer.{inLimits, checkWeights, checkCall, answer, filled, lensMade, valuesMade, backendsMade, stairsMade};
+
+// What the expansion answers: the record of the list, or why it is turned back.
+pub enum Expanded {
+    Made(Record),
+    Refused(Refusal),
+}
+
+// What a check of the numbers handed in finds.
+pub enum Checked {
+    Sound,
+    Refused(Refusal),
+}
+
+// The weights: 1 to 32 of them, each at most 1,000,000, and 1,000,000 together.
+pub fn check_weights(weights: &[u64]) -> Checked
+    ensures { λ r. ⌜ r ≡ checkWeights (now (weights .entry)) ⌝ }
+{
+    if weights.len() == 0 {
+        return Checked::Refused(Refusal::BadField);
+    }
+    if 32 < weights.len() {
+        return Checked::Refused(Refusal::TooMany);
+    }
+    let mut sum: u64 = 0;
+    let mut b = 0;
+    while b < weights.len() {
+        let w = weights[b];
+        if crate::ledger::UNIT < w {
+            return Checked::Refused(Refusal::BadField);
+        }
+        sum += w;
+        b += 1;
+    }
+    if sum == crate::ledger::UNIT {
+        Checked::Sound
+    } else {
+        Checked::Refused(Refusal::Unbalanced)
+    }
+}
+
+// Whether least ≤ x ≤ most.
+pub fn in_limits(least: usize, most: usize, x: usize) -> bool
+    ensures { λ r. ⌜ r ≡ inLimits least most x ⌝ }
+{
+    if x < least {
+        return false;
+    }
+    x <= most
+}
+
+// k, tolerance and budget, then the weights.
+fn check_call(k: usize, tolerance: u64, budget: usize, weights: &[u64]) -> Checked
+    ensures { λ r. ⌜ r ≡ checkCall k tolerance budget (now (weights .entry)) ⌝ }
+{
+    if !in_limits(1, 12, k) {
+        return Checked::Refused(Refusal::BadField);
+    }
+    if crate::ledger::UNIT < tolerance {
+        return Checked::Refused(Refusal::BadField);
+    }
+    if !in_limits(1, 32, budget) {
+        return Checked::Refused(Refusal::BadField);
+    }
+    check_weights(weights)
+}
+
+// The rules and stairs of a list, copied into lent buffers from a position on; there is room for them.
+fn copy_out(
+    list: RuleList,
+    at: usize,
+    lens: &mut [usize],
+    values: &mut [usize],
+    backends: &mut [usize],
+    stairs: &mut [u64],
+)
+    requires { ⌜ (list .count ≤ 32) × ((at + list .count ≤ length (now lens)) × ((at + list .count ≤ length (now values)) × ((at + list .count ≤ length (now backends)) × (at + list .count ≤ length (now stairs))))) ⌝ }
+    ensures lens { λ _. ⌜ now (lens .exit) ≡ sets (now (lens .entry)) at (map (λ r. r .len) (take (list .count) (list .rules))) ⌝ }
+    ensures values { λ _. ⌜ now (values .exit) ≡ sets (now (values .entry)) at (map (λ r. r .value) (take (list .count) (list .rules))) ⌝ }
+    ensures backends { λ _. ⌜ now (backends .exit) ≡ sets (now (backends .entry)) at (map (λ r. r .backend) (take (list .count) (list .rules))) ⌝ }
+    ensures stairs { λ _. ⌜ now (stairs .exit) ≡ sets (now (stairs .entry)) at (take (list .count) (list .stairs)) ⌝ }
+{
+    let n = list.count;
+    let mut i = 0;
+    while i < n {
+        let rule = list.rules[i];
+        lens[at + i] = rule.len;
+        values[at + i] = rule.value;
+        backends[at + i] = rule.backend;
+        stairs[at + i] = list.stairs[i];
+        i += 1;
+    }
+}
+
+// Whether a buffer of `len` places has room for n more from a position on.
+fn has_room(len: usize, at: usize, n: usize) -> bool
+    ensures { λ r. ⌜ r ≡ leb (at + n) len ⌝ }
+{
+    if len < at { false } else { n <= len - at }
+}
+
+// The list of one service: its rules, the oldest first, by length, value and backend, and the imbalance after each,
+// into lent buffers from a position on.
+pub fn expand(
+    k: usize,
+    tolerance: u64,
+    budget: usize,
+    weights: &[u64],
+    at: usize,
+    lens: &mut [usize],
+    values: &mut [usize],
+    backends: &mut [usize],
+    stairs: &mut [u64],
+) -> Expanded
+    ensures answer { λ r. ⌜ r ≡ answer k tolerance budget (now (weights .entry)) at (min (min (length (now (lens .entry))) (length (now (values .entry)))) (min (length (now (backends .entry))) (length (now (stairs .entry))))) ⌝ }
+    ensures lens { λ r. ⌜ now (lens .exit) ≡ filled r (now (lens .entry)) at (lensMade k tolerance budget (now (weights .entry))) ⌝ }
+    ensures values { λ r. ⌜ now (values .exit) ≡ filled r (now (values .entry)) at (valuesMade k tolerance budget (now (weights .entry))) ⌝ }
+    ensures backends { λ r. ⌜ now (backends .exit) ≡ filled r (now (backends .entry)) at (backendsMade k tolerance budget (now (weights .entry))) ⌝ }
+    ensures stairs { λ r. ⌜ now (stairs .exit) ≡ filled r (now (stairs .entry)) at (stairsMade k tolerance budget (now (weights .entry))) ⌝ }
+{
+    let checked = check_call(k, tolerance, budget, weights);
+    if let Checked::Refused(why) = checked {
+        return Expanded::Refused(why);
+    }
+    let made = crate::run::make_list(k, tolerance, budget, weights);
+    let list = made.list;
+    let ended = made.ended;
+    let n = list.count;
+    if !has_room(lens.len(), at, n) {
+        return Expanded::Refused(Refusal::ShortLoan);
+    }
+    if !has_room(values.len(), at, n) {
+        return Expanded::Refused(Refusal::ShortLoan);
+    }
+    if !has_room(backends.len(), at, n) {
+        return Expanded::Refused(Refusal::ShortLoan);
+    }
+    if !has_room(stairs.len(), at, n) {
+        return Expanded::Refused(Refusal::ShortLoan);
+    }
+    copy_out(list, at, lens, values, backends, stairs);
+    Expanded::Made(Record { ended, rules: n })
+}

@@ -1,0 +1,149 @@
+// The ledger of a service: weight, share and error of each backend.
+ghost use mathlib.Core.Path.{_≡_};
+ghost use Prim.Native.Nat.{ℕ, _+_, _^_, _≤_, _<_};
+ghost use lib.Dec.{eqb};
+ghost use lib.IntN.{pos};
+ghost use lib.ListN.{length, getD, set};
+ghost use Rattle.numerals.specs.Pick.{pick};
+ghost use Rattle.expansion.specs.Sums.{sumTo};
+ghost use Rattle.expansion.specs.Answer.{unit};
+ghost use Rattle.expansion.specs.Kept as kept;
+
+// 100 percent, the sum of a service's weights; also one suffix in parts of the imbalance.
+pub const UNIT: u64 = 1000000;
+
+pub struct Backend {
+    pub weight: u64,
+    pub share: u64,
+    pub error: i64,
+}
+
+pub struct Ledger {
+    pub at: [Backend; 32],
+}
+
+// The backend of the largest excess or shortfall, and its size.
+pub struct Extreme {
+    pub backend: usize,
+    pub size: i64,
+}
+
+// A backend that holds `share` of the 2^k suffixes.
+pub fn entry(weight: u64, share: u64, k: usize) -> Backend
+    requires { ⌜ (k ≤ 12) × ((share ≤ 4096) × (weight ≤ unit)) ⌝ }
+    ensures { λ r. ⌜ r ≡ kept.entryOf unit k weight share ⌝ }
+{
+    Backend {
+        weight,
+        share,
+        error: (share * UNIT) as i64 - (weight * (1 << k)) as i64,
+    }
+}
+
+// The ledger where one backend holds everything.
+pub fn opened(weights: &[u64], k: usize, first: usize) -> Ledger
+    requires { ⌜ (k ≤ 12) × (length (now weights) ≤ 32) ⌝ }
+    requires { ⌜ ((b : ℕ) → b < length (now weights) → getD (now weights) b 0 ≤ unit) ⌝ }
+    ensures { λ r. ⌜ ((b : ℕ) → b < length (now (weights .entry)) → kept.entryAt r b ≡ kept.entryOf unit k (getD (now (weights .entry)) b 0) (pick (eqb b first) (2 ^ k) 0)) ⌝ }
+{
+    let mut ledger = Ledger {
+        at: [entry(0, 0, 0); 32],
+    };
+    let mut b = 0;
+    while b < weights.len() {
+        let share = if b == first { 1 << k } else { 0 };
+        ledger.at[b] = entry(weights[b], share, k);
+        b += 1;
+    }
+    ledger
+}
+
+// The excess of an error, or its shortfall, where there is one; else not above zero.
+fn side(error: i64, below: bool) -> i64
+    requires { ⌜ kept.Small error ⌝ }
+    ensures { λ r. ⌜ kept.over r ≡ kept.side below error ⌝ }
+{
+    if below { -error } else { error }
+}
+
+// The largest excess of the first n backends, or with `below` the largest shortfall; the lowest number if equal.
+pub fn largest(ledger: Ledger, n: usize, below: bool) -> Extreme
+    requires { ⌜ (0 < n) × (n ≤ 32) ⌝ }
+    requires { ⌜ ((b : ℕ) → b < n → kept.Small (kept.errorAt ledger b)) ⌝ }
+    ensures { λ r. ⌜ kept.Largest ledger n below r ⌝ }
+{
+    let mut best = 0;
+    let mut size: i64 = 0;
+    let mut b = 0;
+    while b < n {
+        let backend = ledger.at[b];
+        let e = side(backend.error, below);
+        if size < e {
+            size = e;
+            best = b;
+        }
+        b += 1;
+    }
+    Extreme {
+        backend: best,
+        size,
+    }
+}
+
+// The sum of the excesses of the first n backends.
+pub fn imbalance(ledger: Ledger, n: usize) -> u64
+    requires { ⌜ n ≤ 32 ⌝ }
+    requires { ⌜ ((b : ℕ) → b < n → kept.Small (kept.errorAt ledger b)) ⌝ }
+    ensures { λ r. ⌜ r ≡ sumTo n (λ b. kept.over (kept.errorAt ledger b)) ⌝ }
+{
+    let mut sum: u64 = 0;
+    let mut b = 0;
+    while b < n {
+        let backend = ledger.at[b];
+        let e = backend.error;
+        if 0 < e {
+            sum += e as u64;
+        }
+        b += 1;
+    }
+    sum
+}
+
+// A backend that gave `count` suffixes away.
+fn less(b: Backend, count: u64) -> Backend
+    requires { ⌜ (count ≤ 4096) × ((count ≤ b .share) × kept.Small (b .error)) ⌝ }
+    ensures { λ r. ⌜ r ≡ kept.lessOf b count ⌝ }
+{
+    Backend {
+        weight: b.weight,
+        share: b.share - count,
+        error: b.error - (count * UNIT) as i64,
+    }
+}
+
+// A backend that was given `count` suffixes.
+fn more(b: Backend, count: u64) -> Backend
+    requires { ⌜ (count ≤ 4096) × ((b .share ≤ 4096) × kept.Small (b .error)) ⌝ }
+    ensures { λ r. ⌜ r ≡ kept.moreOf b count ⌝ }
+{
+    Backend {
+        weight: b.weight,
+        share: b.share + count,
+        error: b.error + (count * UNIT) as i64,
+    }
+}
+
+// The ledger after `count` suffixes went from the giver to the receiver.
+pub fn moved(ledger: Ledger, giver: usize, receiver: usize, count: u64) -> Ledger
+    requires { ⌜ (giver < 32) × ((receiver < 32) × (count ≤ 4096)) ⌝ }
+    requires { ⌜ (count ≤ kept.entryAt ledger giver .share) × (kept.entryAt ledger receiver .share ≤ 4096) ⌝ }
+    requires { ⌜ kept.Small (kept.errorAt ledger giver) × kept.Small (kept.errorAt ledger receiver) ⌝ }
+    ensures { λ r. ⌜ r .at ≡ set (set (ledger .at) giver (kept.lessOf (kept.entryAt ledger giver) count)) receiver (kept.moreOf (kept.entryAt ledger receiver) count) ⌝ }
+{
+    let mut next = ledger;
+    let from = ledger.at[giver];
+    let to = ledger.at[receiver];
+    next.at[giver] = less(from, count);
+    next.at[receiver] = more(to, count);
+    next
+}

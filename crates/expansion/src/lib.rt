@@ -1,0 +1,21 @@
+// The expansion of one service: its weights approximated by suffix rules, one after the other.
+mod call;
+mod holders;
+mod ledger;
+mod list;
+mod refusal;
+mod rule;
+mod run;
+mod shares;
+mod term;
+
+pub use call::Checked;
+pub use call::Expanded;
+pub use call::check_weights;
+pub use call::expand;
+pub use refusal::Refusal;
+pub use rule::Ended;
+pub use rule::Record;
+pub use rule::Rule;
+pub use shares::Counted;
+pub use shares::count_shares;

@@ -1,0 +1,21 @@
+// Rules, and what a list of them comes to.
+
+// A rule sends the suffix of `len` bits with this value to a backend, by its place in the ledger from 0.
+pub struct Rule {
+    pub len: usize,
+    pub value: usize,
+    pub backend: usize,
+}
+
+// How a list of rules ended.
+pub enum Ended {
+    Within,
+    NoGain,
+    Budget,
+}
+
+// How a list ended, with its number of rules.
+pub struct Record {
+    pub ended: Ended,
+    pub rules: usize,
+}

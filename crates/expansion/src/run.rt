@@ -1,0 +1,166 @@
+// The run of the expansion: rule after rule, until the list is within tolerance, gains nothing or has used its budget.
+use crate::ledger::Ledger;
+use crate::list::RuleList;
+use crate::rule::Ended;
+use crate::rule::Rule;
+ghost use mathlib.Core.Path.{_≡_};
+ghost use Prim.Native.Nat.{ℕ, _+_, _≤_, _<_};
+ghost use lib.ListN.{length, getD, replicate};
+ghost use Rattle.expansion.specs.Sums.{argmax};
+ghost use Rattle.expansion.specs.Answer.{unit};
+ghost use Rattle.expansion.specs.Kept as kept;
+
+// A list, and how it ended.
+pub struct Run {
+    pub list: RuleList,
+    pub ended: Ended,
+}
+
+// The list, the ledger after its rules, and what comes next.
+pub struct State {
+    pub ledger: Ledger,
+    pub list: RuleList,
+    pub next: Next,
+}
+
+// A term of 2^index suffixes from giver to receiver.
+pub struct Move {
+    pub giver: usize,
+    pub receiver: usize,
+    pub index: usize,
+}
+
+pub enum Next {
+    Stop(Ended),
+    Go(Move),
+}
+
+// The backend of the largest weight, the lowest number if equal.
+fn heaviest(weights: &[u64]) -> usize
+    requires { ⌜ 0 < length (now weights) ⌝ }
+    ensures { λ r. ⌜ r ≡ argmax (λ b. getD (now (weights .entry)) b 0) (length (now (weights .entry))) ⌝ }
+{
+    let mut best = 0;
+    let mut b = 1;
+    while b < weights.len() {
+        if weights[best] < weights[b] {
+            best = b;
+        }
+        b += 1;
+    }
+    best
+}
+
+// Steps 2 to 4: whether the list stops here, or the move that comes next.
+fn decide(ledger: Ledger, n: usize, k: usize, tolerance: u64, cap: usize) -> Next
+    requires { ⌜ (0 < n) × ((n ≤ 32) × ((k ≤ 12) × ((tolerance ≤ unit) × (cap ≤ 12)))) ⌝ }
+    requires { ⌜ ((b : ℕ) → b < n → kept.Small (kept.errorAt ledger b)) ⌝ }
+    ensures { λ r. ⌜ r ≡ kept.nextOf ledger n k tolerance cap ⌝ }
+{
+    let give = crate::ledger::largest(ledger, n, false);
+    let take = crate::ledger::largest(ledger, n, true);
+    let slack = (tolerance * (1 << k)) as i64;
+    let o = give.size;
+    let u = take.size;
+    if o <= slack {
+        if u <= slack {
+            return Next::Stop(Ended::Within);
+        }
+    }
+    let term = crate::term::best_term(u, o, cap);
+    if term.reduction <= 0 {
+        return Next::Stop(Ended::NoGain);
+    }
+    Next::Go(Move {
+        giver: give.backend,
+        receiver: take.backend,
+        index: term.index,
+    })
+}
+
+// Step 6: the move is made and its rule is kept.
+fn advance(
+    holders: &mut [u8],
+    state: State,
+    weights: &[u64],
+    k: usize,
+    tolerance: u64,
+    m: Move,
+) -> State
+    requires { ⌜ kept.Valid k tolerance (now weights) × kept.Stands k tolerance (now weights) (now holders) state ⌝ }
+    requires { ⌜ (state .list .count < 32) × (state .next ≡ Next.Go m) ⌝ }
+    ensures stands { λ r. ⌜ kept.Stands k tolerance (now (weights .entry)) (now (holders .exit)) r ⌝ }
+    ensures more { λ r. ⌜ r .list .count ≡ state .list .count + 1 ⌝ }
+{
+    let n = weights.len();
+    let i = m.index;
+    let l = k - i;
+    let giver = m.giver;
+    let receiver = m.receiver;
+    let value = crate::holders::lowest_whole(holders, k, l, giver as u8);
+    crate::holders::give(holders, k, l, value, receiver as u8);
+    let before = state.ledger;
+    let ledger = crate::ledger::moved(before, giver, receiver, 1 << i);
+    let rule = Rule {
+        len: l,
+        value,
+        backend: receiver,
+    };
+    let list = state.list;
+    let sum = crate::ledger::imbalance(ledger, n);
+    State {
+        ledger,
+        list: crate::list::with_rule(list, rule, sum),
+        next: decide(ledger, n, k, tolerance, k - 1),
+    }
+}
+
+// Step 1: everything goes to the largest weight.
+fn begin(weights: &[u64], k: usize, tolerance: u64, first: usize) -> State
+    requires { ⌜ kept.Valid k tolerance (now weights) ⌝ }
+    requires { ⌜ first ≡ argmax (λ b. getD (now weights) b 0) (length (now weights)) ⌝ }
+    ensures stands { λ r. ⌜ kept.Stands k tolerance (now (weights .entry)) (replicate 4096 first) r ⌝ }
+    ensures one { λ r. ⌜ r .list .count ≡ 1 ⌝ }
+{
+    let n = weights.len();
+    let ledger = crate::ledger::opened(weights, k, first);
+    let rule = Rule {
+        len: 0,
+        value: 0,
+        backend: first,
+    };
+    let sum = crate::ledger::imbalance(ledger, n);
+    State {
+        ledger,
+        list: crate::list::with_rule(crate::list::empty(), rule, sum),
+        next: decide(ledger, n, k, tolerance, k - 1),
+    }
+}
+
+// The list of a budget, for numbers that were checked.
+pub fn make_list(k: usize, tolerance: u64, budget: usize, weights: &[u64]) -> Run
+    requires { ⌜ kept.Valid k tolerance (now weights) × ((1 ≤ budget) × (budget ≤ 32)) ⌝ }
+    ensures { λ r. ⌜ kept.Made k tolerance budget (now (weights .entry)) r ⌝ }
+{
+    let first = heaviest(weights);
+    let mut holders = [first as u8; 4096];
+    let mut state = begin(weights, k, tolerance, first);
+    loop {
+        let list = state.list;
+        let next = state.next;
+        match next {
+            Next::Stop(ended) => {
+                return Run { list, ended };
+            }
+            Next::Go(m) => {
+                if budget <= list.count {
+                    return Run {
+                        list,
+                        ended: Ended::Budget,
+                    };
+                }
+                state = advance(&mut holders, state, weights, k, tolerance, m);
+            }
+        }
+    }
+}

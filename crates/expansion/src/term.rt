@@ -1,0 +1,51 @@
+// The term of a move: how many suffixes go from giver to receiver, and what that gains.
+ghost use mathlib.Core.Path.{_≡_};
+ghost use Prim.Native.Nat.{_≤_, min};
+ghost use lib.IntN.{pos};
+ghost use Rattle.expansion.specs.Steps as steps;
+ghost use Rattle.expansion.specs.Kept as kept;
+
+// A term of 2^index suffixes and its reduction.
+pub struct Term {
+    pub index: usize,
+    pub reduction: i64,
+}
+
+fn smaller(a: i64, b: i64) -> i64
+    requires { ⌜ (a ≡ pos (kept.over a)) × (b ≡ pos (kept.over b)) ⌝ }
+    ensures { λ r. ⌜ r ≡ pos (min (kept.over a) (kept.over b)) ⌝ }
+{
+    if a < b { a } else { b }
+}
+
+// The reduction of the term t for the largest shortfall u and the largest excess o, or 0 where it is below.
+fn reduction(u: i64, o: i64, t: i64) -> i64
+    requires { ⌜ (u ≡ pos (kept.over u)) × ((o ≡ pos (kept.over o)) × (t ≡ pos (kept.over t))) ⌝ }
+    requires { ⌜ kept.Small t ⌝ }
+    ensures { λ r. ⌜ r ≡ pos (steps.reduction (kept.over u) (kept.over o) (kept.over t)) ⌝ }
+{
+    let twice = 2 * (smaller(u, t) + smaller(o, t) - t);
+    if twice < 0 { 0 } else { twice }
+}
+
+// The greatest reduction of the terms of 1 to 2^cap suffixes, the larger term if equal.
+pub fn best_term(u: i64, o: i64, cap: usize) -> Term
+    requires { ⌜ (u ≡ pos (kept.over u)) × ((o ≡ pos (kept.over o)) × (cap ≤ 12)) ⌝ }
+    ensures { λ r. ⌜ kept.Best (kept.over u) (kept.over o) cap r ⌝ }
+{
+    let mut index = 0;
+    let mut best: i64 = 0;
+    let mut i = 0;
+    while i <= cap {
+        let r = reduction(u, o, (crate::ledger::UNIT * (1 << i)) as i64);
+        if best <= r {
+            best = r;
+            index = i;
+        }
+        i += 1;
+    }
+    Term {
+        index,
+        reduction: best,
+    }
+}
