@@ -16,7 +16,14 @@ pub mod Shape
 pub mod Base
 pub mod Signed
 pub mod Kept
-pub mod Held
+pub mod Nodes
+pub mod Runs
+pub mod Cuts
+pub mod Found
+pub mod Walk
+pub mod Entries
+pub mod Changes
+pub mod Lending
 pub mod Listing
 pub mod Checks
 pub mod Ready

@@ -1,18 +1,17 @@
--- The move that comes next, as the program makes it: its giver, its receiver and its term are those of the definitions, its search comes to the lowest tree place, and the ledger keeps the shares after it.
+-- The move that comes next, as the program makes it: its giver, its receiver and its term are those of the definitions, its search finds a place that gives the new rule, and the ledger keeps the shares after it.
 use Prim.Native.Nat.{ℕ, _-_, _^_, _≤_, _<_}
 use mathlib.Core.Bool.{Bool, true, false}
 use mathlib.Core.List.{List, _∷_}
-use mathlib.Core.Path.{_≡_, refl, _∙_}
+use mathlib.Core.Path.{_≡_, refl, ap, _∙_}
 use native.Mathlib.Omega.{arith}
 use lib.ListN.{length, set}
 use Rattle.numerals.specs.Pick.{pick}
 use Rattle.numerals.specs.Suffix.{place}
-use Rattle.numerals.proofs.Place.{place-lt}
-use Rattle.expansion.specs.Sums.{firstTo}
 use Rattle.expansion.specs.Imbalance.{Frame, backends, excess, shortfall, giver, receiver, largestExcess, largestShortfall}
-use Rattle.expansion.specs.Steps.{frame, isWithin, isNoGain, isWhole, term, termLength, lowestPlace, newRule, step, endOf}
+use Rattle.expansion.specs.Steps.{frame, isWithin, isNoGain, term, termLength, newRule, step, endOf}
+use Rattle.expansion.specs.Sound.{Sound}
 use Rattle.expansion.specs.Answer.{unit}
-use Rattle.expansion.specs.Kept.{entryAt, lessOf, moreOf, Keeps, Holds, heldWhole, Valid}
+use Rattle.expansion.specs.Kept.{entryAt, lessOf, moreOf, Keeps, Runs, Leads, Given, Valid}
 use Rattle.expansion.specs.declared.rule.Rule.{Rule}
 use Rattle.expansion.specs.declared.rule.Ended.{Ended}
 use Rattle.expansion.specs.declared.rule.Ended.the-variants.{Within, NoGain}
@@ -20,15 +19,15 @@ use Rattle.expansion.specs.declared.ledger.Backend.{Backend}
 use Rattle.expansion.specs.declared.ledger.Ledger.{Ledger}
 use Rattle.expansion.specs.declared.run.Move.{Move}
 use Rattle.expansion.specs.declared.run.Next.the-variants.{Stop, Go}
-use Rattle.expansion.proofs.Searches.{first-ext}
 use Rattle.expansion.proofs.Balance.{giver-lt, receiver-lt}
 use Rattle.expansion.proofs.NoGain.{term-le}
-use Rattle.expansion.proofs.Moves.{Good, some-excess, some-shortfall, apart, place-found, new-giver, new-receiver, new-other}
+use Rattle.expansion.proofs.Moves.{Good, some-excess, some-shortfall, apart, new-giver, new-receiver, new-other}
 use Rattle.expansion.proofs.Turns.{Going, step-within, step-none, ended-within, ended-none}
 use Rattle.expansion.proofs.Kept.{moveOf, nextBy, kept-share, kept-few, kept-inside, kept-moved}
-use Rattle.expansion.proofs.Held.{held-whole}
+use Rattle.expansion.proofs.Found.{found-some, found-value, found-runs}
 use Rattle.expansion.proofs.Checks.{sound}
 
+-- what it means that the program stops, or goes on
 pub next-stop : (F : Frame) (rs : List Rule) (e : Ended) → nextBy F rs ≡ Stop e → (step F rs ≡ rs) × (endOf F rs ≡ e)
 unfolding nextBy
 next-stop F rs e h = go (isWithin F rs) refl (isNoGain F rs) refl h
@@ -49,10 +48,6 @@ next-go F rs m h = go (isWithin F rs) refl (isNoGain F rs) refl h
     go false p true q n = absurd (let z : _≡_ {A = ℕ} 0 1 = cc in omega arith)
     go false p false q n = (record { outside = p; gain = q }, cc)
 
--- the tree place that the program's search comes to
-abbrev pub searched : List ℕ → ℕ → ℕ → ℕ → ℕ
-searched holders k l g = firstTo (2 ^ l) (λ p. heldWhole holders k l (place l p) g)
-
 -- a ledger after suffixes went from one backend to another
 abbrev pub movedBy : Ledger → Move → List Backend
 movedBy L m =
@@ -60,59 +55,56 @@ movedBy L m =
     (moreOf (entryAt L (m .receiver)) (2 ^ m .index))
 
 -- a move that the program is about to make, after the rules rs
-pub record Ready (k tolerance : ℕ) (ws holders : List ℕ) (rs : List Rule) (L : Ledger) (m : Move) : Type 0 where
+pub record Ready (k tolerance : ℕ) (ws holder run : List ℕ) (rs : List Rule) (L : Ledger) (m : Move) : Type 0 where
   pub index : m .index ≤ k
   pub giver : m .giver < length ws
   pub receiver : m .receiver < length ws
-  pub found : searched holders k (k - m .index) (m .giver) < 2 ^ (k - m .index)
+  pub found : (r : ℕ) × Leads holder run (m .giver) (2 ^ m .index) (2 ^ k) 0 r
   pub held : 2 ^ m .index ≤ entryAt L (m .giver) .share
   pub taken : entryAt L (m .receiver) .share ≤ 4096
   pub rule :
-      record { len = k - m .index; value = place (k - m .index) (searched holders k (k - m .index) (m .giver)); backend = m .receiver }
-      ≡ newRule (frame k unit tolerance ws) rs
+      (r : ℕ) → Leads holder run (m .giver) (2 ^ m .index) (2 ^ k) 0 r
+      → record { len = k - m .index; value = place k r; backend = m .receiver } ≡ newRule (frame k unit tolerance ws) rs
+  pub runs :
+      (r : ℕ) → Leads holder run (m .giver) (2 ^ m .index) (2 ^ k) 0 r
+      → (holder′ run′ : List ℕ) → Given r (2 ^ m .index) (m .receiver) holder run holder′ run′
+      → Runs k (newRule (frame k unit tolerance ws) rs ∷ rs) holder′ run′ 0
   pub moved : (M : Ledger) → M .at ≡ movedBy L m → Keeps (frame k unit tolerance ws) (newRule (frame k unit tolerance ws) rs ∷ rs) M
 
-module _ (k tolerance : ℕ) (ws : List ℕ) (valid : Valid k tolerance ws) where
-  -- a move with a gain
-  module _ (holders : List ℕ) (rs : List Rule) (L : Ledger) (H : Holds k rs holders) (K : Keeps (frame k unit tolerance ws) rs L)
-      (G : Good (frame k unit tolerance ws) rs) (gain : isNoGain (frame k unit tolerance ws) rs ≡ false) where
-    searched-is : searched holders k (termLength (frame k unit tolerance ws) rs) (giver (frame k unit tolerance ws) rs)
-        ≡ lowestPlace (frame k unit tolerance ws) rs
-    unfolding frame lowestPlace termLength
-    searched-is =
-        first-ext (2 ^ l) (λ p. heldWhole holders k l (place l p) g) (λ p. isWhole k rs l (place l p) g)
-        (λ p m. held-whole k rs holders H l (place l p) g (omega arith) (place-lt l p))
-      where
-        l : ℕ
-        l = termLength (frame k unit tolerance ws) rs
+-- a move with a gain
+module _ (k tolerance : ℕ) (ws : List ℕ) (valid : Valid k tolerance ws) (holder run : List ℕ) (rs : List Rule) (L : Ledger)
+    (R : Runs k rs holder run 0) (K : Keeps (frame k unit tolerance ws) rs L)
+    (G : Good (frame k unit tolerance ws) rs) (gain : isNoGain (frame k unit tolerance ws) rs ≡ false) where
+  pub ready : Ready k tolerance ws holder run rs L (moveOf (frame k unit tolerance ws) rs)
+  unfolding frame backends moveOf termLength newRule largestExcess largestShortfall
+  ready =
+      record {
+        index = omega (arith, term-le F rs);
+        giver = giver-lt F S rs;
+        receiver = receiver-lt F S rs;
+        found = found-some F S rs G gain holder run R;
+        held = omega (arith, new-giver F S rs G gain, kept-share F rs L K (giver F rs) (giver-lt F S rs));
+        taken = kept-few F rs L K (valid .few-bits) (receiver F rs) (receiver-lt F S rs);
+        rule = λ r w.
+            ap (λ (v : ℕ). record { len = k - term F rs; value = v; backend = receiver F rs })
+            (found-value F S rs G gain holder run R r w);
+        runs = found-runs F S rs G gain holder run R;
+        moved = λ M e.
+            kept-moved F rs (newRule F rs ∷ rs) L M K refl (giver F rs) (receiver F rs) (2 ^ term F rs) (apart F S rs gain)
+            (new-giver F S rs G gain) (new-receiver F S rs G gain) (new-other F S rs G gain)
+            (kept-inside F rs L K (giver F rs) (giver-lt F S rs) (omega (arith, over-some)))
+            (kept-inside F rs L K (receiver F rs) (receiver-lt F S rs) (omega (arith, under-some)))
+            e;
+      }
+    where
+      F : Frame
+      F = frame k unit tolerance ws
 
-        g : ℕ
-        g = giver (frame k unit tolerance ws) rs
+      S : Sound F
+      S = sound k tolerance ws valid
 
-    pub ready : Ready k tolerance ws holders rs L (moveOf (frame k unit tolerance ws) rs)
-    unfolding frame backends moveOf termLength newRule largestExcess largestShortfall
-    ready =
-        record {
-          index = omega (arith, term-le F rs);
-          giver = giver-lt F (sound k tolerance ws valid) rs;
-          receiver = receiver-lt F (sound k tolerance ws valid) rs;
-          found = rw searched-is (place-found F (sound k tolerance ws valid) rs G gain);
-          held = omega (arith, new-giver F (sound k tolerance ws valid) rs G gain, kept-share F rs L K (giver F rs) (giver-lt F (sound k tolerance ws valid) rs));
-          taken = kept-few F rs L K (valid .few-bits) (receiver F rs) (receiver-lt F (sound k tolerance ws valid) rs);
-          rule = rw searched-is refl;
-          moved = λ M e.
-              kept-moved F rs (newRule F rs ∷ rs) L M K refl (giver F rs) (receiver F rs) (2 ^ term F rs) (apart F (sound k tolerance ws valid) rs gain)
-              (new-giver F (sound k tolerance ws valid) rs G gain) (new-receiver F (sound k tolerance ws valid) rs G gain) (new-other F (sound k tolerance ws valid) rs G gain)
-              (kept-inside F rs L K (giver F rs) (giver-lt F (sound k tolerance ws valid) rs) (omega (arith, over-some)))
-              (kept-inside F rs L K (receiver F rs) (receiver-lt F (sound k tolerance ws valid) rs) (omega (arith, under-some)))
-              e;
-        }
-      where
-        F : Frame
-        F = frame k unit tolerance ws
+      over-some : 0 < excess F rs (giver F rs)
+      over-some = some-excess F S rs gain
 
-        over-some : 0 < excess F rs (giver F rs)
-        over-some = some-excess F (sound k tolerance ws valid) rs gain
-
-        under-some : 0 < shortfall F rs (receiver F rs)
-        under-some = some-shortfall F (sound k tolerance ws valid) rs gain
+      under-some : 0 < shortfall F rs (receiver F rs)
+      under-some = some-shortfall F S rs gain

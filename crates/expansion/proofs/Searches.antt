@@ -48,11 +48,6 @@ unfolding allTo
 true-all zero t h = refl
 true-all (suc n) t h = true-both (allTo n t) (t n) (true-all n t (λ i l. h i (omega arith))) (h n (omega arith))
 
-pub all-ext : (n : ℕ) (s t : ℕ → Bool) → ((i : ℕ) → i < n → s i ≡ t i) → allTo n s ≡ allTo n t
-unfolding allTo
-all-ext zero s t h = refl
-all-ext (suc n) s t h = rw (all-ext n s t (λ i l. h i (omega arith)), h n (omega arith))
-
 -- one that fails
 pub all-false : (n : ℕ) (t : ℕ → Bool) (i : ℕ) → i < n → t i ≡ false → allTo n t ≡ false
 all-false n t i l e = go (allTo n t) refl
@@ -111,11 +106,6 @@ pub first-here : (n : ℕ) (t : ℕ → Bool) (i : ℕ) → i < n → t i ≡ tr
 first-here n t i l e h =
     first-unique n t (firstTo n t) i (first-is n t) (record { most = omega arith; passes = λ m. e; below = h })
 
-pub first-none : (n : ℕ) (t : ℕ → Bool) → ((i : ℕ) → i < n → t i ≡ false) → firstTo n t ≡ n
-first-none n t h =
-    first-unique n t (firstTo n t) n (first-is n t)
-    (record { most = omega arith; passes = λ m. absurd (omega arith); below = h })
-
 -- where one passes, the first isn't above it
 pub first-le : (n : ℕ) (t : ℕ → Bool) (i : ℕ) → i < n → t i ≡ true → firstTo n t ≤ i
 first-le n t i l e = go (decLt i (firstTo n t))
@@ -123,17 +113,6 @@ first-le n t i l e = go (decLt i (firstTo n t))
     go : Dec (i < firstTo n t) → firstTo n t ≤ i
     go (yes m) = absurd (clash (t i) e (first-is n t .below i m))
     go (no m) = omega arith
-
-pub first-ext : (n : ℕ) (s t : ℕ → Bool) → ((i : ℕ) → i < n → s i ≡ t i) → firstTo n s ≡ firstTo n t
-first-ext n s t h = first-unique n t (firstTo n s) (firstTo n t) (go (first-is n s)) (first-is n t)
-  where
-    go : IsFirst n s (firstTo n s) → IsFirst n t (firstTo n s)
-    go p =
-        record {
-          most = p .most;
-          passes = λ l. sym (h (firstTo n s) l) ∙ p .passes l;
-          below = λ j l. sym (h j (omega (arith, p .most))) ∙ p .below j l;
-        }
 
 -- the first place of the greatest value
 

@@ -1,17 +1,20 @@
 -- What the program keeps while it makes a list, and how that stands to the definitions: each kept share and error is that of the count by first match.
-use Prim.Native.Nat.{ℕ, zero, suc, _+_, _-_, _*_, _%_, _^_, _≤_, _<_}
+use Prim.Native.Nat.{ℕ, zero, suc, _+_, _-_, _*_, _^_, _≤_, _<_}
 use mathlib.Core.Path.{_≡_}
 use mathlib.Core.Bool.{Bool, true, false}
 use mathlib.Core.List.{List, [], _∷_}
+use mathlib.Core.Logic.{_≢_}
 use lib.Dec.{leb, eqb}
 use lib.IntN.{ℤ, pos, negsuc, subℕ, _+ℤ_, _-ℤ_}
 use lib.Signed.{mag}
 use lib.ListN.{length, getD, set}
 use Rattle.numerals.specs.Pick.{pick, both}
-use Rattle.expansion.specs.Sums.{sumTo, allTo, argmax, lastmax}
+use Rattle.numerals.specs.Suffix.{place}
+use Rattle.expansion.specs.Sums.{sumTo, argmax, lastmax}
 use Rattle.expansion.specs.FirstMatch.{gives, share}
 use Rattle.expansion.specs.Imbalance.{Frame, backends, weight, imbalance}
 use Rattle.expansion.specs.Steps.{frame, reduction, after, stair, endOf}
+use Rattle.expansion.specs.Sound.{Lengths}
 use Rattle.expansion.specs.Answer.{unit, listMade}
 use Rattle.expansion.specs.declared.rule.Rule.{Rule}
 use Rattle.expansion.specs.declared.rule.Ended.the-variants.{Within, NoGain}
@@ -21,6 +24,7 @@ use Rattle.expansion.specs.declared.ledger.Extreme.{Extreme}
 use Rattle.expansion.specs.declared.list.RuleList.{RuleList}
 use Rattle.expansion.specs.declared.run.State.{State}
 use Rattle.expansion.specs.declared.run.Run.{Run}
+use Rattle.expansion.specs.declared.run.Move.{Move}
 use Rattle.expansion.specs.declared.run.Next.{Next}
 use Rattle.expansion.specs.declared.run.Next.the-variants.{Stop, Go}
 use Rattle.expansion.specs.declared.term.Term.{Term}
@@ -63,6 +67,21 @@ lessOf b c = record { weight = b .weight; share = b .share - c; error = b .error
 unfoldable pub moreOf : Backend → ℕ → Backend
 moreOf b c = record { weight = b .weight; share = b .share + c; error = b .error +ℤ pos (c * unit) }
 
+-- the entries after c suffixes went from the giver to the receiver
+abbrev pub movedOf : List Backend → ℕ → ℕ → ℕ → List Backend
+movedOf es giver receiver c =
+    set (set es giver (lessOf (getD es giver noBackend) c)) receiver (moreOf (getD es receiver noBackend) c)
+
+-- they can go: the giver has them, and no number gets large
+pub record Movable (es : List Backend) (giver receiver c : ℕ) : Type 0 where
+  pub giver-in : giver < length es
+  pub receiver-in : receiver < length es
+  pub few : c ≤ 4096
+  pub held : c ≤ getD es giver noBackend .share
+  pub bounded : getD es receiver noBackend .share ≤ 4096
+  pub giver-small : Small (getD es giver noBackend .error)
+  pub receiver-small : Small (getD es receiver noBackend .error)
+
 -- the backend of the largest excess or shortfall of the first n, and its size
 pub record Largest (L : Ledger) (n : ℕ) (below : Bool) (r : Extreme) : Type 0 where
   pub backend : r .backend ≡ argmax (λ b. side below (errorAt L b)) n
@@ -89,18 +108,40 @@ nextOf L n k tolerance cap =
 pub record Keeps (F : Frame) (rs : List Rule) (L : Ledger) : Type 0 where
   pub entries : (b : ℕ) → b < backends F → entryAt L b ≡ entryOf (F .unit) (F .k) (weight F b) (share (F .k) rs b)
 
--- the holder of each suffix after the rules rs
-pub record Holds (k : ℕ) (rs : List Rule) (holders : List ℕ) : Type 0 where
-  pub given : (s : ℕ) → s < 2 ^ k → gives rs s (getD holders s 0) ≡ true
+-- who holds which k-bit suffixes after the rules rs, as runs in the order of their tree places, from the place `at` on. Each run is one holder's, and made of whole nodes of every length that no rule is above.
+pub data Runs (k : ℕ) (rs : List Rule) (holder run : List ℕ) : ℕ → Type 0 where
+  end : {at : ℕ} → at ≡ 2 ^ k → Runs k rs holder run at
+  link : {at : ℕ} → 0 < getD run at 0
+      → ((m : ℕ) → m ≤ k → Lengths m rs → (d : ℕ) × (getD run at 0 ≡ d * 2 ^ (k - m)))
+      → ((q : ℕ) → at ≤ q → q < at + getD run at 0 → gives rs (place k q) (getD holder at 0) ≡ true)
+      → Runs k rs holder run (at + getD run at 0)
+      → Runs k rs holder run at
 
--- the suffix of l bits is wholly held, by the holders kept
-unfoldable pub heldWhole : List ℕ → ℕ → ℕ → ℕ → ℕ → Bool
-heldWhole holders k l v b = allTo (2 ^ (k - l)) (λ j. eqb (getD holders (v + j * 2 ^ l) 0) b)
+-- the walk over the runs, from the place `at` on: it comes to a run of the giver's, of `size` places at least, that starts at r
+pub data Leads (holder run : List ℕ) (giver size all : ℕ) : ℕ → ℕ → Type 0 where
+  here : {at r : ℕ} → at ≡ r → getD holder at 0 ≡ giver → size ≤ getD run at 0 → at + getD run at 0 ≤ all
+      → Leads holder run giver size all at r
+  on : {at r : ℕ} → at < all → getD holder at 0 ≢ giver → 0 < getD run at 0 → at + getD run at 0 ≤ all
+      → Leads holder run giver size all (at + getD run at 0) r
+      → Leads holder run giver size all at r
 
--- the holders after every suffix that the suffix of l bits covers went to a backend
-pub record Given (k l v b : ℕ) (before now : List ℕ) : Type 0 where
-  pub long : length now ≡ length before
-  pub at : (s : ℕ) → s < 2 ^ k → getD now s 0 ≡ pick (eqb (s % 2 ^ l) v) b (getD before s 0)
+-- the runs after the first `size` places of the one at `at` went to a backend
+pub record Given (at size b : ℕ) (holder run holder′ run′ : List ℕ) : Type 0 where
+  pub long : (length holder′ ≡ length holder) × (length run′ ≡ length run)
+  pub taken : (getD holder′ at 0 ≡ b) × (getD run′ at 0 ≡ size)
+  pub left :
+      size < getD run at 0
+      → (getD holder′ (at + size) 0 ≡ getD holder at 0) × (getD run′ (at + size) 0 ≡ getD run at 0 - size)
+  pub other :
+      (j : ℕ) → (at ≤ j → at + getD run at 0 ≤ j)
+      → (getD holder′ j 0 ≡ getD holder j 0) × (getD run′ j 0 ≡ getD run j 0)
+
+-- a move made on the runs: what the walk found went to the receiver, and the suffix has this value
+pub record Handed (k : ℕ) (m : Move) (value : ℕ) (holder run holder′ run′ : List ℕ) : Type 0 where
+  pub at : ℕ
+  pub found : Leads holder run (m .giver) (2 ^ m .index) (2 ^ k) 0 at
+  pub given : Given at (2 ^ m .index) (m .receiver) holder run holder′ run′
+  pub is : value ≡ place k at
 
 abbrev pub noRule : Rule
 noRule = record { len = 0; value = 0; backend = 0 }
@@ -119,18 +160,26 @@ pub record Valid (k tolerance : ℕ) (ws : List ℕ) : Type 0 where
   pub few : length ws ≤ 32
   pub balanced : sumTo (length ws) (λ b. getD ws b 0) ≡ unit
 
--- the state of the program after its rules: they are those of document 01's run, with the ledger, the holders and the stairs that go with them
-pub record Stands (k tolerance : ℕ) (ws holders : List ℕ) (st : State) : Type 0 where
-  pub some-rules : 1 ≤ st .list .count
-  pub few-rules : st .list .count ≤ 32
-  pub rules : newestFirst (st .list .rules) (st .list .count) ≡ after (frame k unit tolerance ws) (st .list .count - 1)
-  pub keeps : Keeps (frame k unit tolerance ws) (after (frame k unit tolerance ws) (st .list .count - 1)) (st .ledger)
-  pub holds : Holds k (after (frame k unit tolerance ws) (st .list .count - 1)) holders
-  pub long : length holders ≡ 4096
-  pub stairs :
-      (c : ℕ) → c < st .list .count
-      → getD (st .list .stairs) c 0 ≡ imbalance (frame k unit tolerance ws) (after (frame k unit tolerance ws) c)
+-- the state of the program after its rules, those of document 01's run: the ledger and the runs that go with them, and what comes next
+pub record Stands (k tolerance : ℕ) (ws holder run : List ℕ) (st : State) : Type 0 where
+  pub some-rules : 1 ≤ st .count
+  pub keeps : Keeps (frame k unit tolerance ws) (after (frame k unit tolerance ws) (st .count - 1)) (st .ledger)
+  pub runs : Runs k (after (frame k unit tolerance ws) (st .count - 1)) holder run 0
+  pub long : (length holder ≡ 4096) × (length run ≡ 4096)
+  pub stair : st .imbalance ≡ imbalance (frame k unit tolerance ws) (after (frame k unit tolerance ws) (st .count - 1))
   pub next : st .next ≡ nextOf (st .ledger) (length ws) k tolerance (k - 1)
+
+-- the rule that comes before the first c of that run
+pub record Adds (k tolerance : ℕ) (ws : List ℕ) (c : ℕ) (r : Rule) : Type 0 where
+  pub rules : after (frame k unit tolerance ws) c ≡ r ∷ after (frame k unit tolerance ws) (c - 1)
+
+-- the list kept: the rules of that run and the imbalance after each
+pub record Listed (k tolerance : ℕ) (ws : List ℕ) (list : RuleList) : Type 0 where
+  pub few-rules : list .count ≤ 32
+  pub rules : newestFirst (list .rules) (list .count) ≡ after (frame k unit tolerance ws) (list .count - 1)
+  pub stairs :
+      (c : ℕ) → c < list .count
+      → getD (list .stairs) c 0 ≡ imbalance (frame k unit tolerance ws) (after (frame k unit tolerance ws) c)
 
 -- the list of document 01 that a run came to: its rules, its stairs and how it ended
 pub record Made (k tolerance budget : ℕ) (ws : List ℕ) (r : Run) : Type 0 where

@@ -3,7 +3,7 @@ ghost use mathlib.Core.Path.{_≡_};
 ghost use Prim.Native.Nat.{ℕ, _+_, _^_, _≤_, _<_};
 ghost use lib.Dec.{eqb};
 ghost use lib.IntN.{pos};
-ghost use lib.ListN.{length, getD, set};
+ghost use lib.ListN.{length, getD};
 ghost use Rattle.numerals.specs.Pick.{pick};
 ghost use Rattle.expansion.specs.Sums.{sumTo};
 ghost use Rattle.expansion.specs.Answer.{unit};
@@ -133,17 +133,25 @@ fn more(b: Backend, count: u64) -> Backend
     }
 }
 
-// The ledger after `count` suffixes went from the giver to the receiver.
+// In a lent ledger, `count` suffixes go from the giver to the receiver. This and `moved` are walked by hand: both stay thin.
+fn shift(ledger: &mut [Backend], giver: usize, receiver: usize, count: u64)
+    requires { ⌜ kept.Movable (now ledger) giver receiver count ⌝ }
+    ensures { λ _. ⌜ now (ledger .exit) ≡ kept.movedOf (now (ledger .entry)) giver receiver count ⌝ }
+{
+    let from = ledger[giver];
+    let to = ledger[receiver];
+    ledger[giver] = less(from, count);
+    ledger[receiver] = more(to, count);
+}
+
+// The ledger after `count` suffixes went from the giver to the receiver. Whoever calls this needs no walk.
 pub fn moved(ledger: Ledger, giver: usize, receiver: usize, count: u64) -> Ledger
     requires { ⌜ (giver < 32) × ((receiver < 32) × (count ≤ 4096)) ⌝ }
     requires { ⌜ (count ≤ kept.entryAt ledger giver .share) × (kept.entryAt ledger receiver .share ≤ 4096) ⌝ }
     requires { ⌜ kept.Small (kept.errorAt ledger giver) × kept.Small (kept.errorAt ledger receiver) ⌝ }
-    ensures { λ r. ⌜ r .at ≡ set (set (ledger .at) giver (kept.lessOf (kept.entryAt ledger giver) count)) receiver (kept.moreOf (kept.entryAt ledger receiver) count) ⌝ }
+    ensures { λ r. ⌜ r .at ≡ kept.movedOf (ledger .at) giver receiver count ⌝ }
 {
-    let mut next = ledger;
-    let from = ledger.at[giver];
-    let to = ledger.at[receiver];
-    next.at[giver] = less(from, count);
-    next.at[receiver] = more(to, count);
-    next
+    let mut at = ledger.at;
+    shift(&mut at, giver, receiver, count);
+    Ledger { at }
 }

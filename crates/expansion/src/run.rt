@@ -4,8 +4,9 @@ use crate::list::RuleList;
 use crate::rule::Ended;
 use crate::rule::Rule;
 ghost use mathlib.Core.Path.{_≡_};
-ghost use Prim.Native.Nat.{ℕ, _+_, _≤_, _<_};
+ghost use Prim.Native.Nat.{ℕ, _+_, _^_, _≤_, _<_};
 ghost use lib.ListN.{length, getD, replicate};
+ghost use Rattle.numerals.specs.Suffix.{Places};
 ghost use Rattle.expansion.specs.Sums.{argmax};
 ghost use Rattle.expansion.specs.Answer.{unit};
 ghost use Rattle.expansion.specs.Kept as kept;
@@ -16,10 +17,12 @@ pub struct Run {
     pub ended: Ended,
 }
 
-// The list, the ledger after its rules, and what comes next.
+// The ledger after the rules so far, the newest rule, their number and the imbalance after them, and what comes next.
 pub struct State {
     pub ledger: Ledger,
-    pub list: RuleList,
+    pub rule: Rule,
+    pub count: usize,
+    pub imbalance: u64,
     pub next: Next,
 }
 
@@ -78,39 +81,35 @@ fn decide(ledger: Ledger, n: usize, k: usize, tolerance: u64, cap: usize) -> Nex
     })
 }
 
-// Step 6: the move is made and its rule is kept.
+// Step 6: the move is made, and its rule is the newest.
 fn advance(
-    holders: &mut [u8],
+    holder: &mut [u8],
+    run: &mut [u16],
+    places: &[u16],
     state: State,
     weights: &[u64],
     k: usize,
     tolerance: u64,
     m: Move,
 ) -> State
-    requires { ⌜ kept.Valid k tolerance (now weights) × kept.Stands k tolerance (now weights) (now holders) state ⌝ }
-    requires { ⌜ (state .list .count < 32) × (state .next ≡ Next.Go m) ⌝ }
-    ensures stands { λ r. ⌜ kept.Stands k tolerance (now (weights .entry)) (now (holders .exit)) r ⌝ }
-    ensures more { λ r. ⌜ r .list .count ≡ state .list .count + 1 ⌝ }
+    requires { ⌜ kept.Valid k tolerance (now weights) × (kept.Stands k tolerance (now weights) (now holder) (now run) state × Places 12 (now places)) ⌝ }
+    requires { ⌜ (state .count < 32) × (state .next ≡ Next.Go m) ⌝ }
+    ensures stands { λ r. ⌜ kept.Stands k tolerance (now (weights .entry)) (now (holder .exit)) (now (run .exit)) r ⌝ }
+    ensures adds { λ r. ⌜ (r .count ≡ state .count + 1) × kept.Adds k tolerance (now (weights .entry)) (state .count) (r .rule) ⌝ }
 {
     let n = weights.len();
-    let i = m.index;
-    let l = k - i;
-    let giver = m.giver;
-    let receiver = m.receiver;
-    let value = crate::holders::lowest_whole(holders, k, l, giver as u8);
-    crate::holders::give(holders, k, l, value, receiver as u8);
+    let value = crate::holders::hand_over(holder, run, places, k, m);
     let before = state.ledger;
-    let ledger = crate::ledger::moved(before, giver, receiver, 1 << i);
-    let rule = Rule {
-        len: l,
-        value,
-        backend: receiver,
-    };
-    let list = state.list;
-    let sum = crate::ledger::imbalance(ledger, n);
+    let ledger = crate::ledger::moved(before, m.giver, m.receiver, 1 << m.index);
     State {
         ledger,
-        list: crate::list::with_rule(list, rule, sum),
+        rule: Rule {
+            len: k - m.index,
+            value,
+            backend: m.receiver,
+        },
+        count: state.count + 1,
+        imbalance: crate::ledger::imbalance(ledger, n),
         next: decide(ledger, n, k, tolerance, k - 1),
     }
 }
@@ -119,20 +118,20 @@ fn advance(
 fn begin(weights: &[u64], k: usize, tolerance: u64, first: usize) -> State
     requires { ⌜ kept.Valid k tolerance (now weights) ⌝ }
     requires { ⌜ first ≡ argmax (λ b. getD (now weights) b 0) (length (now weights)) ⌝ }
-    ensures stands { λ r. ⌜ kept.Stands k tolerance (now (weights .entry)) (replicate 4096 first) r ⌝ }
-    ensures one { λ r. ⌜ r .list .count ≡ 1 ⌝ }
+    ensures stands { λ r. ⌜ kept.Stands k tolerance (now (weights .entry)) (replicate 4096 first) (replicate 4096 (2 ^ k)) r ⌝ }
+    ensures one { λ r. ⌜ (r .count ≡ 1) × (r .rule ≡ record { len = 0; value = 0; backend = first }) ⌝ }
 {
     let n = weights.len();
     let ledger = crate::ledger::opened(weights, k, first);
-    let rule = Rule {
-        len: 0,
-        value: 0,
-        backend: first,
-    };
-    let sum = crate::ledger::imbalance(ledger, n);
     State {
         ledger,
-        list: crate::list::with_rule(crate::list::empty(), rule, sum),
+        rule: Rule {
+            len: 0,
+            value: 0,
+            backend: first,
+        },
+        count: 1,
+        imbalance: crate::ledger::imbalance(ledger, n),
         next: decide(ledger, n, k, tolerance, k - 1),
     }
 }
@@ -142,24 +141,42 @@ pub fn make_list(k: usize, tolerance: u64, budget: usize, weights: &[u64]) -> Ru
     requires { ⌜ kept.Valid k tolerance (now weights) × ((1 ≤ budget) × (budget ≤ 32)) ⌝ }
     ensures { λ r. ⌜ kept.Made k tolerance budget (now (weights .entry)) r ⌝ }
 {
+    let places = numerals::all_places();
     let first = heaviest(weights);
-    let mut holders = [first as u8; 4096];
+    let all: usize = 1 << k;
+    let mut holder = [first as u8; 4096];
+    let mut run = [all as u16; 4096];
     let mut state = begin(weights, k, tolerance, first);
+    let star = state.rule;
+    let mut list = crate::list::of_one(star, state.imbalance);
     loop {
-        let list = state.list;
         let next = state.next;
         match next {
             Next::Stop(ended) => {
                 return Run { list, ended };
             }
             Next::Go(m) => {
-                if budget <= list.count {
+                let n = list.count;
+                if budget <= n {
                     return Run {
                         list,
                         ended: Ended::Budget,
                     };
                 }
-                state = advance(&mut holders, state, weights, k, tolerance, m);
+                state = advance(
+                    &mut holder,
+                    &mut run,
+                    &places,
+                    state,
+                    weights,
+                    k,
+                    tolerance,
+                    m,
+                );
+                let rule = state.rule;
+                list.rules[n] = rule;
+                list.stairs[n] = state.imbalance;
+                list.count = n + 1;
             }
         }
     }

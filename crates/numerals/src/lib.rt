@@ -12,6 +12,7 @@ pub use numbers::decimal_width;
 pub use numbers::read_number;
 pub use numbers::write_number;
 pub use percentages::read_percentage;
+pub use places::all_places;
 pub use suffixes::SuffixRead;
 pub use suffixes::read_suffix;
 pub use suffixes::suffix_place;

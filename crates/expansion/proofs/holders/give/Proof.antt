@@ -1,84 +1,109 @@
--- `holders::give` meets its contract. The loop's invariant: what the suffix covers below s is given, the rest is as it was.
-use Prim.Native.Nat.{_-_, _%_, _^_, _<_}
-use mathlib.Core.Path.{_≡_, refl, _∙_}
-use native.Mathlib.Nat.{mod-eq-of-lt, add-mod-right}
+-- `holders::give` meets its contract.
+use Prim.Native.Nat.{ℕ, _+_, _≤_, _<_}
+use mathlib.Core.List.{List}
+use mathlib.Core.Logic.{⊎-elim}
+use mathlib.Core.Path.{_≡_, ap, sym, _∙_, subst₂}
 use native.Mathlib.Omega.{arith}
-use lib.ListN.{length, length-set}
-use lib.Pow.{pow-pos, pow-mono}
-use Rattle.expansion.proofs.Powers.{shifted}
-use Rattle.expansion.proofs.Held.{GivenTo, given-none, given-more, given-all}
+use borrow.Author.Needs.{needs}
+use lib.ListN.{length, getD, set, length-set}
+use Rattle.expansion.specs.Kept.{Given}
+use Rattle.expansion.proofs.Cuts.{given-whole, given-cut}
 use Rattle.expansion.proofs.holders.give.Statement.{statement}
 use Rattle.expansion.proofs.holders.give.Tie as tie
 
-abbrev Inv-loop : tie.InvT-loop
-Inv-loop holders₀ k l value receiver all nodes s₀ holders s =
-    (all ≡ 2 ^ k) × (nodes ≡ 2 ^ l) × (length holders ≡ length holders₀) × (s % 2 ^ l ≡ value) × GivenTo s (2 ^ l) value receiver holders₀ holders
+mul-len : tie.Need-mul-len
+mul-len c = omega arith
 
-abbrev μ-loop : tie.MeasureT-loop
-μ-loop holders₀ k l value receiver all nodes s₀ holders s = all - s
+slice-read-len : tie.Need-slice-read-len
+slice-read-len c = omega arith
 
-shl-all : tie.Need-shl-all Inv-loop μ-loop
-shl-all c = omega arith
+cast-len : tie.Need-cast-len
+cast-len c = omega arith
 
-shl-nodes : tie.Need-shl-nodes Inv-loop μ-loop
-shl-nodes c = omega arith
+slice-read-holder : tie.Need-slice-read-holder
+slice-read-holder c = omega arith
 
-loop-holds : tie.Need-loop-holds Inv-loop μ-loop
-loop-holds c =
-    let a = c .args in
-    let small : a .value < 2 ^ (a .l) = omega arith in (
-      shifted (a .k) (omega arith),
-      shifted (a .l) (omega arith),
-      refl,
-      mod-eq-of-lt small,
-      given-none (2 ^ (a .l)) (a .value) (a .receiver) (a .holders .now) small,
-    )
+add-holder : tie.Need-add-holder
+add-holder c = omega arith
 
-slice-write-holders : tie.Need-slice-write-holders Inv-loop μ-loop
-slice-write-holders c = omega arith
+slice-write-holder : tie.Need-slice-write-holder
+slice-write-holder c = omega arith
 
-add-s : tie.Need-add-s Inv-loop μ-loop
-add-s c =
-    let a = c .before .before .args in
-    omega (arith, pow-mono {i = a .k} {j = 12} (omega arith), pow-mono {i = a .l} {j = 12} (omega arith))
+sub-run : tie.Need-sub-run
+sub-run c = omega arith
 
-loop-less : tie.Need-loop-less Inv-loop μ-loop
-loop-less c = omega (arith, pow-pos (c .before .before .args .l))
+cast-run : tie.Need-cast-run
+cast-run c = omega arith
 
-loop-again : tie.Need-loop-again Inv-loop μ-loop
-loop-again c =
-    let a = c .before .before .args in
-    let l = c .before .loop in
-    let n = 2 ^ (a .l) in (
-      l .inv .0,
-      l .inv .1,
-      simp length-set (l .inv .2),
-      rw (l .inv .1) (add-mod-right (l .s) n ∙ l .inv .3),
-      rw (l .inv .1)
-          (given-more (l .s) n (a .value) (a .receiver) (a .holders .now) (l .holders) (pow-pos (a .l)) (l .inv .3) (omega arith) (l .inv .4)),
-    )
+add-run : tie.Need-add-run
+add-run c = omega arith
 
-same-length : tie.Need-same-length Inv-loop μ-loop
-same-length c = c .before .loop .inv .2
+mul-run : tie.Need-mul-run
+mul-run c = omega arith
 
-returns : tie.Need-returns Inv-loop μ-loop
+slice-write-run : tie.Need-slice-write-run
+slice-write-run c = omega arith
+
+-- both ways keep the lengths
+lengths : (c : tie.Joined1)
+    → let a = c .before .before .args in
+    (length (c .if1 .holder) ≡ length (a .holder .now)) × (length (c .if1 .run) ≡ length (a .run .now))
+lengths c =
+    ⊎-elim (λ w. (ap length (w .2) ∙ simp length-set, ap length (w .3) ∙ simp length-set)) (λ w. (ap length (w .1), ap length (w .2))) (c .if1 .came)
+
+slice-write-holder-2 : tie.Need-slice-write-holder-2
+slice-write-holder-2 c = omega (arith, lengths c .0)
+
+cast-run-2 : tie.Need-cast-run-2
+cast-run-2 c = omega arith
+
+mul-run-2 : tie.Need-mul-run-2
+mul-run-2 c = omega arith
+
+slice-write-run-2 : tie.Need-slice-write-run-2
+slice-write-run-2 c = omega (arith, lengths c .1)
+
+same-length : tie.Need-same-length
+same-length c = simp length-set (lengths c .0)
+
+same-length-2 : tie.Need-same-length-2
+same-length-2 c = simp length-set (lengths c .1)
+
+returns : tie.Need-returns
 returns c =
     let a = c .before .before .args in
-    let l = c .before .loop in
-    given-all (a .k) (a .l) (a .value) (a .receiver) (l .s) (a .holders .now) (l .holders) (l .inv .2) (omega arith) (l .inv .4)
+    let p = c .before .before .pre in
+    let inside : (a .at + getD (a .run .now) (a .at) 0 ≤ length (a .holder .now)) × (a .at + getD (a .run .now) (a .at) 0 ≤ length (a .run .now)) = (omega arith, omega arith) in
+    ⊎-elim
+    (λ w.
+    subst₂ (λ (h r : List ℕ). Given (a .at) (a .size) (a .receiver) (a .holder .now) (a .run .now) (set h (a .at) (a .receiver)) (set r (a .at) (a .size)))
+    (sym (w .2)) (sym (w .3))
+    (given-cut (a .at) (a .size) (a .receiver) (a .holder .now) (a .run .now) (p .0 .0) (p .0 .1 .0) inside (w .0 .taken)))
+    (λ w.
+    subst₂ (λ (h r : List ℕ). Given (a .at) (a .size) (a .receiver) (a .holder .now) (a .run .now) (set h (a .at) (a .receiver)) (set r (a .at) (a .size)))
+    (sym (w .1)) (sym (w .2))
+    (given-whole (a .at) (a .size) (a .receiver) (a .holder .now) (a .run .now) (p .0 .0) (p .0 .1 .0) inside (omega (arith, w .0 .left))))
+    (c .if1 .came)
 
 pub give-spec : {M : Type 1} → statement M
 give-spec =
     tie.close
     (tie.spec
-    Inv-loop
-    μ-loop
-    shl-all
-    shl-nodes
-    loop-holds
-    slice-write-holders
-    add-s
-    loop-less
-    loop-again
+    mul-len
+    slice-read-len
+    cast-len
+    slice-read-holder
+    add-holder
+    slice-write-holder
+    sub-run
+    cast-run
+    add-run
+    mul-run
+    slice-write-run
+    slice-write-holder-2
+    cast-run-2
+    mul-run-2
+    slice-write-run-2
     same-length
+    same-length-2
     returns)

@@ -1,125 +1,102 @@
--- `holders::lowest_whole` meets its contract. The outer loop's invariant: no node before p is held wholly. The inner one's: what its node covers below s is held.
-use Prim.Native.Nat.{ℕ, _-_, _%_, _^_, _≤_, _<_, min}
-use mathlib.Core.Bool.{true, false}
-use mathlib.Core.Path.{_≡_, sym, ap, _∙_}
-use native.Mathlib.Nat.{mod-eq-of-lt, add-mod-right}
+-- `holders::lowest_whole` meets its contract. The outer loop's invariant: the walks from the start and from `at` come to the same run. The inner one's: it is at its node's start, or past the node, which the giver holds.
+use Prim.Native.Nat.{ℕ, _+_, _-_, _≤_, _<_}
+use mathlib.Core.Path.{_≡_, refl, ap, sym, _∙_, subst}
 use native.Mathlib.Omega.{arith}
-use borrow.Author.Count.{below-more}
-use lib.Pow.{pow-pos, pow-mono}
-use Rattle.numerals.specs.Suffix.{place}
-use Rattle.expansion.specs.Sums.{firstTo}
-use Rattle.expansion.specs.Kept.{heldWhole}
-use Rattle.numerals.proofs.Place.{place-lt}
-use Rattle.expansion.proofs.Powers.{shifted}
-use Rattle.expansion.proofs.Searches.{first-here, first-none}
-use Rattle.expansion.proofs.Held.{HeldTo, held-none, held-more, held-all, held-mixed}
+use lib.ListN.{getD}
+use Rattle.expansion.specs.Kept.{Leads}
+use Rattle.expansion.proofs.Runs.{leads-inside, leads-here, leads-on}
 use Rattle.expansion.proofs.holders.lowest_whole.Statement.{statement}
 use Rattle.expansion.proofs.holders.lowest_whole.Tie as tie
 
 abbrev Inv-loop : tie.InvT-loop
-Inv-loop holders k l giver nodes all found p value s₀ s =
-    (value < 2 ^ l) × (s % 2 ^ l ≡ value) × HeldTo s (2 ^ l) value giver holders
+Inv-loop holder run all size giver found at₀ s₀ at s =
+    (at ≡ at₀) × (s < at + size → s ≡ at) × (at < s → getD holder at 0 ≡ giver)
 
 abbrev μ-loop : tie.MeasureT-loop
-μ-loop holders k l giver nodes all found p value s₀ s = all - s
+μ-loop holder run all size giver found at₀ s₀ at s = at + size - s
 
 abbrev Inv-nodes : tie.InvT-nodes
-Inv-nodes holders k l giver nodes all found₀ p₀ found p =
-    (all ≡ 2 ^ k) × (nodes ≡ 2 ^ l) × (p ≤ 2 ^ l) × ((j : ℕ) → j < p → heldWhole holders k l (place l j) giver ≡ false)
+Inv-nodes holder run all size giver found₀ at₀ found at =
+    (r : ℕ) × Leads holder run giver size all 0 r × Leads holder run giver size all at r
 
 abbrev μ-nodes : tie.MeasureT-nodes
-μ-nodes holders k l giver nodes all found₀ p₀ found p = nodes - p
-
-shl-nodes : tie.Need-shl-nodes Inv-loop μ-loop Inv-nodes μ-nodes
-shl-nodes c = omega arith
-
-shl-all : tie.Need-shl-all Inv-loop μ-loop Inv-nodes μ-nodes
-shl-all c = omega arith
+μ-nodes holder run all size giver found₀ at₀ found at = all - at
 
 nodes-holds : tie.Need-nodes-holds Inv-loop μ-loop Inv-nodes μ-nodes
-nodes-holds c =
-    let a = c .before .args in
-    (shifted (a .k) (omega arith), shifted (a .l) (omega arith), omega arith, λ j h. absurd (omega arith))
-
-suffix-place-requires : tie.Need-suffix-place-requires Inv-loop μ-loop Inv-nodes μ-nodes
-suffix-place-requires c κs = tt
-
-add-p : tie.Need-add-p Inv-loop μ-loop Inv-nodes μ-nodes
-add-p c = omega (arith, pow-mono {i = c .before .before .before .before .args .l} {j = 12} (omega arith))
-
--- the suffix of the node
-value-is :
-    (c : tie.After-suffix-place Inv-loop μ-loop Inv-nodes μ-nodes)
-    → let a = c .before .before .before .before .args in
-    c .suffix-place .result ≡ place (a .l) (c .before .before .nodes .p)
-value-is c =
-    let a = c .before .before .before .before .args in
-    let twelve : min (a .l) 12 ≡ a .l = omega arith in
-    c .suffix-place .ensures ∙ ap (λ (l : ℕ). place l (c .before .before .nodes .p)) twelve
+nodes-holds c = (c .pre .1 .0, c .pre .1 .1, c .pre .1 .1)
 
 loop-holds : tie.Need-loop-holds Inv-loop μ-loop Inv-nodes μ-nodes
-loop-holds c =
+loop-holds c = (refl, λ m. refl, λ m. absurd (omega arith))
+
+add-loop : tie.Need-add-loop Inv-loop μ-loop Inv-nodes μ-nodes
+add-loop c = omega arith
+
+-- the walk from where the inner loop is
+walk : (c : tie.In-loop Inv-loop μ-loop Inv-nodes μ-nodes)
+    → let a = c .before .before .before .before .args in
+    Leads (a .holder .now) (a .run .now) (a .giver) (a .size) (a .all) (c .before .loop .s) (c .before .before .before .nodes .inv .0)
+walk c =
     let a = c .before .before .before .before .args in
-    let v = c .suffix-place .result in
-    let small : v < 2 ^ (a .l) = omega (arith, value-is c, place-lt (a .l) (c .before .before .nodes .p)) in
-    (small, mod-eq-of-lt small, held-none (2 ^ (a .l)) v (a .giver) (a .holders .now) small)
+    let o = c .before .before .before .nodes in
+    let l = c .before .loop in
+    subst (λ (x : ℕ). Leads (a .holder .now) (a .run .now) (a .giver) (a .size) (a .all) x (o .inv .0))
+    (sym (l .inv .1 (c .loop-test .taken) ∙ l .inv .0)) (o .inv .2)
+
+inside : (c : tie.In-loop Inv-loop μ-loop Inv-nodes μ-nodes) → c .before .loop .s < c .before .before .before .before .args .all
+inside c = leads-inside (c .before .before .before .before .pre .0 .1 .0) (walk c)
+
+mul-len : tie.Need-mul-len Inv-loop μ-loop Inv-nodes μ-nodes
+mul-len c = omega (arith, inside c)
+
+shared-slice-read-len : tie.Need-shared-slice-read-len Inv-loop μ-loop Inv-nodes μ-nodes
+shared-slice-read-len c = omega (arith, inside (c .before))
+
+cast-len : tie.Need-cast-len Inv-loop μ-loop Inv-nodes μ-nodes
+cast-len c = omega (arith, c .shared-slice-known .given (c .before .before .loop .s))
 
 shared-slice-read-if1 : tie.Need-shared-slice-read-if1 Inv-loop μ-loop Inv-nodes μ-nodes
-shared-slice-read-if1 c = omega arith
+shared-slice-read-if1 c = omega (arith, inside (c .before .before))
+
+add-at : tie.Need-add-at Inv-loop μ-loop Inv-nodes μ-nodes
+add-at c = let w = leads-on (walk (c .before .before .before)) (c .if1 .taken) in omega (arith, w .1)
 
 nodes-less : tie.Need-nodes-less Inv-loop μ-loop Inv-nodes μ-nodes
-nodes-less c = omega arith
+nodes-less c =
+    let w = leads-on (walk (c .before .before .before)) (c .if1 .taken) in
+    let l = c .before .before .before .before .loop in
+    let at-start : l .s ≡ l .at = l .inv .1 (c .before .before .before .loop-test .taken) in
+    omega (arith, w .0)
 
 nodes-again : tie.Need-nodes-again Inv-loop μ-loop Inv-nodes μ-nodes
 nodes-again c =
-    let a = c .before .before .before .before .before .before .before .before .args in
     let o = c .before .before .before .before .before .before .nodes in
-    let l = c .before .before .before .loop in
-    let mixed : heldWhole (a .holders .now) (a .k) (a .l) (place (a .l) (o .p)) (a .giver) ≡ false =
-    held-mixed (a .k) (a .l) (place (a .l) (o .p)) (a .giver) (l .s) (a .holders .now) (omega arith) (omega arith)
-    (l .inv .1 ∙ value-is (c .before .before .before .before)) (c .if1 .taken) in
-    (o .inv .0, o .inv .1, omega arith, below-more _ _ (o .inv .3) mixed)
+    (o .inv .0, o .inv .1, leads-on (walk (c .before .before .before)) (c .if1 .taken) .2)
 
 add-s : tie.Need-add-s Inv-loop μ-loop Inv-nodes μ-nodes
-add-s c =
-    let a = c .before .before .before .before .before .before .before .before .args in
-    omega (arith, pow-mono {i = a .k} {j = 12} (omega arith), pow-mono {i = a .l} {j = 12} (omega arith))
+add-s c = let w = leads-here (walk (c .before .before .before)) (c .if1 .left) in omega (arith, w .2)
 
 loop-less : tie.Need-loop-less Inv-loop μ-loop Inv-nodes μ-nodes
-loop-less c = omega (arith, pow-pos (c .before .before .before .before .before .before .before .before .args .l))
+loop-less c = let w = leads-here (walk (c .before .before .before)) (c .if1 .left) in omega (arith, w .1)
 
 loop-again : tie.Need-loop-again Inv-loop μ-loop Inv-nodes μ-nodes
 loop-again c =
-    let a = c .before .before .before .before .before .before .before .before .args in
-    let o = c .before .before .before .before .before .before .nodes in
-    let l = c .before .before .before .loop in
-    let v = c .before .before .before .before .suffix-place .result in
-    let n = 2 ^ (a .l) in (
-      l .inv .0,
-      rw (o .inv .1) (add-mod-right (l .s) n ∙ l .inv .1),
-      rw (o .inv .1) (held-more (l .s) n v (a .giver) (a .holders .now) (pow-pos (a .l)) (l .inv .1) (c .if1 .left) (l .inv .2)),
-    )
+    let a = c .before .before .before .before .before .before .before .args in
+    let l = c .before .before .before .before .loop in
+    let at-start : l .s ≡ l .at = l .inv .1 (c .before .before .before .loop-test .taken) in
+    let w = leads-here (walk (c .before .before .before)) (c .if1 .left) in
+    (l .inv .0, λ m. absurd (omega (arith, w .1)), λ m. ap (λ (x : ℕ). getD (a .holder .now) x 0) (sym at-start) ∙ c .if1 .left)
 
 returns : tie.Need-returns Inv-loop μ-loop Inv-nodes μ-nodes
-returns c =
-    let a = c .before .before .before .args in
-    let o = c .before .nodes in
-    let none : firstTo (2 ^ (a .l)) (λ p. heldWhole (a .holders .now) (a .k) (a .l) (place (a .l) p) (a .giver)) ≡ 2 ^ (a .l) =
-    first-none (2 ^ (a .l)) (λ p. heldWhole (a .holders .now) (a .k) (a .l) (place (a .l) p) (a .giver)) (λ j h. o .inv .3 j (omega arith)) in
-    absurd (omega (arith, none, c .before .before .before .pre .1))
+returns c = absurd (omega (arith, leads-inside (c .before .before .pre .0 .1 .0) (c .before .nodes .inv .2)))
 
 returns-2 : tie.Need-returns-2 Inv-loop μ-loop Inv-nodes μ-nodes
 returns-2 c =
-    let a = c .before .before .before .before .before .before .args in
-    let o = c .before .before .before .before .nodes in
+    let a = c .before .before .before .before .args in
+    let o = c .before .before .before .nodes in
     let l = c .before .loop in
-    let v = c .before .before .suffix-place .result in
-    let is = value-is (c .before .before) in
-    let whole : heldWhole (a .holders .now) (a .k) (a .l) v (a .giver) ≡ true =
-    held-all (a .k) (a .l) v (a .giver) (l .s) (a .holders .now) (omega arith) (l .inv .0) (omega arith) (l .inv .2) in
-    let first : firstTo (2 ^ (a .l)) (λ p. heldWhole (a .holders .now) (a .k) (a .l) (place (a .l) p) (a .giver)) ≡ o .p =
-    first-here (2 ^ (a .l)) (λ p. heldWhole (a .holders .now) (a .k) (a .l) (place (a .l) p) (a .giver)) (o .p) (omega arith) (rw (← is) whole) (o .inv .3) in
-    is ∙ ap (place (a .l)) (sym first)
+    let held : getD (a .holder .now) (o .at) 0 ≡ a .giver = ap (λ (x : ℕ). getD (a .holder .now) x 0) (sym (l .inv .0)) ∙ l .inv .2 (omega arith) in
+    subst (λ (x : ℕ). Leads (a .holder .now) (a .run .now) (a .giver) (a .size) (a .all) 0 x)
+    (sym (l .inv .0 ∙ leads-here (o .inv .2) held .0)) (o .inv .1)
 
 pub lowest-whole-spec : {M : Type 1} → statement M
 lowest-whole-spec =
@@ -129,13 +106,14 @@ lowest-whole-spec =
     μ-loop
     Inv-nodes
     μ-nodes
-    shl-nodes
-    shl-all
     nodes-holds
-    suffix-place-requires
-    add-p
     loop-holds
+    add-loop
+    mul-len
+    shared-slice-read-len
+    cast-len
     shared-slice-read-if1
+    add-at
     nodes-less
     nodes-again
     add-s

@@ -1,154 +1,135 @@
 -- `run::advance` meets its contract: the move that comes next can be made, and after it the state stands with its rule.
 use Prim.Native.Nat.{ℕ, _-_, _≤_, _<_}
 use mathlib.Core.List.{_∷_}
-use mathlib.Core.Path.{_≡_, ap}
+use mathlib.Core.Path.{_≡_, refl}
 use native.Mathlib.Omega.{arith}
-use lib.ListN.{length, length-map}
+use lib.ListN.{length}
 use borrow.Author.Needs.{needs}
-use Rattle.numerals.proofs.Place.{place-lt}
 use Rattle.expansion.specs.Answer.{unit}
 use Rattle.expansion.specs.Steps.{frame, newRule, after}
 use Rattle.expansion.specs.Kept.{Small, errorAt}
-use Rattle.expansion.specs.declared.list.RuleList.{RuleList}
 use Rattle.expansion.proofs.Powers.{pow-few, shifted}
-use Rattle.expansion.proofs.Ready.{Ready, searched, movedBy}
-use Rattle.expansion.proofs.Standing.{small, ready-go, stands-moved}
+use Rattle.expansion.proofs.Ready.{Ready, movedBy}
+use Rattle.expansion.proofs.Standing.{small, ready-go, adds-rule, stands-moved}
 use Rattle.expansion.proofs.run.advance.Statement.{statement}
 use Rattle.expansion.proofs.run.advance.Tie as tie
 
 ready : (s : tie.Start)
     → let a = s .args in
-    Ready (a .k) (a .tolerance) (a .weights .now) (a .holders .now)
-    (after (frame (a .k) unit (a .tolerance) (a .weights .now)) (a .state .list .count - 1)) (a .state .ledger) (a .m)
+    Ready (a .k) (a .tolerance) (a .weights .now) (a .holder .now) (a .run .now)
+    (after (frame (a .k) unit (a .tolerance) (a .weights .now)) (a .state .count - 1)) (a .state .ledger) (a .m)
 ready s =
     let a = s .args in
-    ready-go (a .k) (a .tolerance) (a .weights .now) (s .pre .0 .0) (a .holders .now) (a .state) (s .pre .0 .1) (a .m) (s .pre .1 .1)
+    ready-go (a .k) (a .tolerance) (a .weights .now) (s .pre .0 .0) (a .holder .now) (a .run .now) (a .state) (s .pre .0 .1 .0) (a .m) (s .pre .1 .1)
 
 smalls : (s : tie.Start) (b : ℕ) → b < length (s .args .weights .now) → Small (errorAt (s .args .state .ledger) b)
 smalls s =
     let a = s .args in
     small (a .k) (a .tolerance) (a .weights .now) (s .pre .0 .0)
-    (after (frame (a .k) unit (a .tolerance) (a .weights .now)) (a .state .list .count - 1)) (a .state .ledger) (s .pre .0 .1 .keeps)
+    (after (frame (a .k) unit (a .tolerance) (a .weights .now)) (a .state .count - 1)) (a .state .ledger) (s .pre .0 .1 .0 .keeps)
 
-sub-l : tie.Need-sub-l
-sub-l c = ready (c .before .before) .index
+-- the term
+low : (s : tie.Start) → s .args .m .index ≤ 12
+low s = omega (arith, ready s .index, s .pre .0 .0 .few-bits)
 
-cast-lowest-whole : tie.Need-cast-lowest-whole
-cast-lowest-whole c = let s = c .before .before .before in omega (arith, ready s .giver, s .pre .0 .0 .few)
-
-lowest-whole-requires : tie.Need-lowest-whole-requires
-lowest-whole-requires c κs =
-    let s = c .before .before .before in
-    let few = s .pre .0 .0 .few-bits in
-    ((few, (omega arith, omega (arith, pow-few (s .args .k) few, s .pre .0 .1 .long))), ready s .found)
-
-cast-give : tie.Need-cast-give
-cast-give c = let s = c .before .before .before .before .before in omega (arith, ready s .receiver, s .pre .0 .0 .few)
-
-give-requires : tie.Need-give-requires
-give-requires c κs =
-    let s = c .before .before .before .before .before in
-    let a = s .args in
-    let few = s .pre .0 .0 .few-bits in (
-      few,
-      (
-        omega arith,
-        (
-          rw (c .before .lowest-whole .ensures)
-              (place-lt (a .k - a .m .index) (searched (a .holders .now) (a .k) (a .k - a .m .index) (a .m .giver))),
-          omega (arith, pow-few (a .k) few, s .pre .0 .1 .long),
-        ),
-      ),
+hand-over-requires : tie.Need-hand-over-requires
+hand-over-requires c κs =
+    let s = c .before .before .before .before .before .before in
+    let R = ready s in
+    let v = s .pre .0 .0 in
+    let S = s .pre .0 .1 .0 in (
+      (v .few-bits, (R .index, (omega (arith, R .giver, v .few), omega (arith, R .receiver, v .few)))),
+      ((S .long .0, (S .long .1, s .pre .0 .1 .1)), R .found),
     )
 
+-- from the call of `moved` back to the start
+abbrev begun : tie.After-before2 → tie.Start
+begun c = c .before .before .before .before .before .before .before .before .before .before .before .before
+
 shl-moved : tie.Need-shl-moved
-shl-moved c = let s = c .before .before .before .before .before .before .before .before .before in omega (arith, ready s .index, s .pre .0 .0 .few-bits)
+shl-moved c = omega (arith, low (begun c))
 
 moved-requires : tie.Need-moved-requires
 moved-requires c κs =
-    let s = c .before .before .before .before .before .before .before .before .before in
-    let a = s .args in
+    let s = begun c in
+    let m = s .args .m in
     let v = s .pre .0 .0 in
     let R = ready s in
-    let low : a .m .index ≤ 12 = omega (arith, R .index, v .few-bits) in (
-      (omega (arith, R .giver, v .few), (omega (arith, R .receiver, v .few), omega (arith, shifted (a .m .index) low, pow-few (a .m .index) low))),
-      (
-        (omega (arith, shifted (a .m .index) low, R .held), R .taken),
-        (smalls s (a .m .giver) (R .giver), smalls s (a .m .receiver) (R .receiver)),
-      ),
+    rw (shifted (m .index) (low s)) (
+      (omega (arith, R .giver, v .few), (omega (arith, R .receiver, v .few), pow-few (m .index) (low s))),
+      ((R .held, R .taken), (smalls s (m .giver) (R .giver), smalls s (m .receiver) (R .receiver))),
     )
 
 -- the ledger afterwards
-moved-at : (c : tie.After-moved) → let a = c .before .before .before .before .before .before .before .before .before .before .args in c .moved .result .at ≡ movedBy (a .state .ledger) (a .m)
-moved-at c =
-    let s = c .before .before .before .before .before .before .before .before .before .before in
-    let low : s .args .m .index ≤ 12 = omega (arith, ready s .index, s .pre .0 .0 .few-bits) in
-    simp (shifted (s .args .m .index) low) at (c .moved .ensures)
+moved-at : (c : tie.After-moved) → let a = begun (c .before) .args in c .moved .result .at ≡ movedBy (a .state .ledger) (a .m)
+moved-at c = let s = begun (c .before) in simp (shifted (s .args .m .index) (low s)) at (c .moved .ensures)
 
-moved-small : (c : tie.After-moved) (b : ℕ) → b < length (c .before .before .before .before .before .before .before .before .before .before .args .weights .now) → Small (errorAt (c .moved .result) b)
+moved-small : (c : tie.After-moved) (b : ℕ) → b < length (begun (c .before) .args .weights .now) → Small (errorAt (c .moved .result) b)
 moved-small c =
-    let s = c .before .before .before .before .before .before .before .before .before .before in
+    let s = begun (c .before) in
     let a = s .args in
     let F = frame (a .k) unit (a .tolerance) (a .weights .now) in
-    let rs = after F (a .state .list .count - 1) in
+    let rs = after F (a .state .count - 1) in
     small (a .k) (a .tolerance) (a .weights .now) (s .pre .0 .0) (newRule F rs ∷ rs) (c .moved .result) (ready s .moved (c .moved .result) (moved-at c))
 
-imbalance-requires : tie.Need-imbalance-requires
-imbalance-requires c κs = (c .before .before .before .before .before .before .before .before .before .before .before .pre .0 .0 .few, moved-small (c .before))
+sub-t19 : tie.Need-sub-t19
+sub-t19 c = ready (begun (c .before .before)) .index
 
-with-rule-requires : tie.Need-with-rule-requires
-with-rule-requires c κs = search needs
+add-t21 : tie.Need-add-t21
+add-t21 c = omega (arith, begun (c .before .before .before) .pre .1 .0)
+
+imbalance-requires : tie.Need-imbalance-requires
+imbalance-requires c κs =
+    let M = c .before .before in
+    (begun (M .before) .pre .0 .0 .few, moved-small M)
 
 sub-decide : tie.Need-sub-decide
-sub-decide c = search needs
+sub-decide c = omega (arith, begun (c .before .before .before .before) .pre .0 .0 .some-bits)
 
 decide-requires : tie.Need-decide-requires
 decide-requires c κs =
-    let v = c .before .before .before .before .before .before .before .before .before .before .before .before .before .pre .0 .0 in
-    ((v .someone, (v .few, (v .few-bits, (v .tolerable, omega (arith, v .few-bits))))), moved-small (c .before .before .before))
+    let M = c .before .before .before in
+    let v = begun (M .before) .pre .0 .0 in
+    ((v .someone, (v .few, (v .few-bits, (v .tolerable, omega (arith, v .few-bits))))), moved-small M)
 
 same-length : tie.Need-same-length
 same-length c = search needs
 
--- the arrays of the list
-rules-long : (s : tie.Start) → length (s .args .state .list .rules) ≡ 32
-rules-long s = simp length-map at (s .good .1 .0 .1 .1 .1 .0 .1 .1 .0 .1 .0 .1)
-
-stairs-long : (s : tie.Start) → length (s .args .state .list .stairs) ≡ 32
-stairs-long s = simp length-map at (s .good .1 .0 .1 .1 .1 .0 .1 .1 .1 .0 .1 .0 .1)
+same-length-2 : tie.Need-same-length-2
+same-length-2 c = search needs
 
 returns : tie.Need-returns
 returns c =
-    let s = c .before .before .before .before .before .before .before .before .before .before .before .before .before .before in
-    let a = s .args in
     let M = c .before .before .before .before in
-    let g = c .before .before .before .before .before .before .before .before in
-    let w = c .before in (
-      stands-moved (a .k) (a .tolerance) (a .weights .now) (s .pre .0 .0) (a .holders .now) (a .state) (s .pre .0 .1) (a .m) (s .pre .1 .1)
-          (s .pre .1 .0) (rules-long s) (stairs-long s)
-          (g .before .before .lowest-whole .result) (g .before .before .lowest-whole .ensures)
-          (g .give .last .0) (g .give .ensures)
+    let s = begun (M .before) in
+    let a = s .args in
+    let g = M .before .before .before .before .before .before in
+    let H = g .hand-over .ensures in (
+      stands-moved (a .k) (a .tolerance) (a .weights .now) (s .pre .0 .0) (a .holder .now) (a .run .now) (a .state) (s .pre .0 .1 .0) (a .m) (s .pre .1 .1)
+          (H .at) (H .found) (g .hand-over .last .0) (g .hand-over .last .1 .0) (H .given)
           (M .moved .result) (moved-at M)
-          (w .before .imbalance .result) (w .before .imbalance .ensures)
+          (c .before .imbalance .result) (c .before .imbalance .ensures)
           (c .decide .result) (c .decide .ensures)
-          (w .with-rule .result) (w .with-rule .ensures),
-      ap (λ (x : RuleList). x .count) (w .with-rule .ensures),
+          (record { len = a .k - a .m .index; value = g .hand-over .result; backend = a .m .receiver }),
+      (
+        refl,
+        adds-rule (a .k) (a .tolerance) (a .weights .now) (s .pre .0 .0) (a .holder .now) (a .run .now) (a .state) (s .pre .0 .1 .0) (a .m) (s .pre .1 .1)
+            (H .at) (H .found) (g .hand-over .result) (H .is),
+      ),
     )
 
 pub advance-spec : {M : Type 1} → statement M
 advance-spec =
     tie.close
     (tie.spec
-    sub-l
-    cast-lowest-whole
-    lowest-whole-requires
-    cast-give
-    give-requires
+    hand-over-requires
     shl-moved
     moved-requires
+    sub-t19
+    add-t21
     imbalance-requires
-    with-rule-requires
     sub-decide
     decide-requires
     same-length
+    same-length-2
     returns)

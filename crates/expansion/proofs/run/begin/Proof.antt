@@ -1,13 +1,10 @@
 -- `run::begin` meets its contract.
-use Prim.Native.Nat.{ℕ, _+_}
-use mathlib.Core.Path.{_≡_, ap, _∙_}
+use mathlib.Core.Path.{refl}
 use native.Mathlib.Omega.{arith}
-use lib.ListN.{length, length-map}
 use borrow.Author.Needs.{needs}
 use Rattle.expansion.specs.Answer.{unit}
 use Rattle.expansion.specs.Steps.{firstRule, frame}
 use Rattle.expansion.specs.Kept.{Keeps}
-use Rattle.expansion.specs.declared.list.RuleList.{RuleList}
 use Rattle.expansion.proofs.Checks.{each-weight}
 use Rattle.expansion.proofs.Standing.{small, keeps-first, stands-first}
 use Rattle.expansion.proofs.run.begin.Statement.{statement}
@@ -29,51 +26,27 @@ imbalance-requires c κs =
     let s = c .before .before in
     (s .pre .0 .few, small (s .args .k) (s .args .tolerance) (s .args .weights .now) (s .pre .0) (firstRule (s .args .weights .now)) (c .opened .result) (keeps c))
 
-empty-requires : tie.Need-empty-requires
-empty-requires c κs = search needs
-
-with-rule-requires : tie.Need-with-rule-requires
-with-rule-requires c κs = search needs
-
 sub-decide : tie.Need-sub-decide
 sub-decide c = search needs
 
 decide-requires : tie.Need-decide-requires
 decide-requires c κs =
-    let s = c .before .before .before .before .before in
-    let o = c .before .before .before in
+    let s = c .before .before .before in
+    let o = c .before in
     let v = s .pre .0 in (
       (v .someone, (v .few, (v .few-bits, (v .tolerable, omega (arith, v .few-bits))))),
       small (s .args .k) (s .args .tolerance) (s .args .weights .now) v (firstRule (s .args .weights .now)) (o .opened .result) (keeps o),
     )
 
--- the arrays of the list
-rules-long : (c : tie.After-empty) → length (c .empty .result .rules) ≡ 32
-rules-long c = simp length-map at (c .empty .ok .1 .1 .0 .1 .0 .1)
-
-stairs-long : (c : tie.After-empty) → length (c .empty .result .stairs) ≡ 32
-stairs-long c = simp length-map at (c .empty .ok .1 .1 .1 .0 .1 .0 .1)
-
 returns : tie.Need-returns
 returns c =
-    let o = c .before .before .before .before in
-    let s = o .before .before in
-    let l = c .before .before in (
-      stands-first (s .args .k) (s .args .tolerance) (s .args .weights .now) (s .pre .0) (s .args .first) (s .pre .1)
-          (l .empty .result) (l .empty .ensures) (rules-long l) (stairs-long l) (o .opened .result) (keeps o)
-          (l .before .imbalance .result) (l .before .imbalance .ensures) (c .decide .result) (c .decide .ensures)
-          (c .before .with-rule .result) (c .before .with-rule .ensures),
-      ap (λ (x : RuleList). x .count) (c .before .with-rule .ensures) ∙ ap (λ (n : ℕ). n + 1) (l .empty .ensures),
+    let o = c .before .before in
+    let s = o .before .before in (
+      stands-first (s .args .k) (s .args .tolerance) (s .args .weights .now) (s .pre .0) (s .args .first) (s .pre .1) (o .opened .result) (keeps o)
+          (c .before .imbalance .result) (c .before .imbalance .ensures) (c .decide .result) (c .decide .ensures),
+      (refl, refl),
     )
 
 pub begin-spec : {M : Type 1} → statement M
 begin-spec =
-    tie.close
-    (tie.spec
-    opened-requires
-    imbalance-requires
-    empty-requires
-    with-rule-requires
-    sub-decide
-    decide-requires
-    returns)
+    tie.close (tie.spec opened-requires imbalance-requires sub-decide decide-requires returns)

@@ -1,29 +1,23 @@
--- `places::place_of_twelve` meets its contract: the table's rule is a test at each of its 4,096 entries, which antt computes.
-use Prim.Native.Nat.{ℕ}
-use mathlib.Core.Path.{refl}
-use mathlib.Core.List.{List}
-use native.Mathlib.Omega.{arith}
-use Rattle.numerals.specs.Digits.{lowest, value, valueFrom}
-use Rattle.numerals.specs.Suffix.{place}
-use Rattle.numerals.proofs.Table.{at}
+-- `places::place_of_twelve` meets its contract.
+use borrow.Author.Needs.{needs}
 use Rattle.numerals.proofs.places.place_of_twelve.Statement.{statement}
 use Rattle.numerals.proofs.places.place_of_twelve.Tie as tie
-use Rattle.numerals.proofs.places.place_of_twelve.Reads as reads
-use Rattle.numerals.proofs.places.place_of_twelve.Lts as lts
+
+all-places-requires : tie.Need-all-places-requires
+all-places-requires c κs = search needs
 
 mul-result : tie.Need-mul-result
-mul-result c = omega arith
+mul-result c = search needs
 
 array-read-result : tie.Need-array-read-result
-array-read-result c = omega arith
+array-read-result c = search needs
 
--- the table, as the function has it
-abbrev places : tie.Start → List ℕ
-places c = lts.m2 reads.Pre reads.Post (c .args) (c .blocks) .1 .1 .0
+cast-result : tie.Need-cast-result
+cast-result c = search needs
 
 returns : tie.Need-returns
-unfolding place lowest value valueFrom
-returns c = at (place 12) (places c) refl (c .args .value) (c .pre)
+returns c = c .all-places .ensures .at (c .before .args .value) (c .before .pre)
 
 pub place-of-twelve-spec : {M : Type 1} → statement M
-place-of-twelve-spec = tie.close (tie.spec mul-result array-read-result returns)
+place-of-twelve-spec =
+    tie.close (tie.spec all-places-requires mul-result array-read-result cast-result returns)

@@ -1,0 +1,101 @@
+-- Nodes in the order of tree places: what the suffix of l bits with the place p covers has the places from p × 2^(k-l) on, 2^(k-l) of them.
+use Prim.Native.Nat.{ℕ, _+_, _-_, _*_, _/_, _%_, _^_, _≤_, _<_}
+use mathlib.Core.Bool.{Bool, true, false}
+use mathlib.Core.List.{List}
+use mathlib.Core.Path.{_≡_, ap, sym, _∙_}
+use native.Mathlib.Nat.{mul-comm, mod-lt, mod-eq-of-lt, lt-of-lt-of-le, div-add-mod', div-lt-iff-lt-mul, add-mul-mod-self-right}
+use native.Mathlib.Omega.{arith}
+use lib.Arith.{digits-lt, digits-div}
+use lib.Pow.{pow-pos, pow-mono}
+use borrow.Author.Tests.{eq-eqb, ne-eqb}
+use Rattle.numerals.specs.Suffix.{place}
+use Rattle.numerals.proofs.Place.{place-lt, place-mod, place-twice, place-involution, place-injective, place-shorter, place-high}
+use Rattle.expansion.specs.Sums.{allTo}
+use Rattle.expansion.specs.FirstMatch.{matches, gives}
+use Rattle.expansion.specs.Steps.{isWhole}
+use Rattle.expansion.specs.declared.rule.Rule.{Rule}
+use Rattle.expansion.proofs.Searches.{all-true, true-all}
+use Rattle.expansion.proofs.Count.{pow-split}
+
+-- a test of all that the suffix of l bits with the value v covers
+module _ (k l v : ℕ) (h : l ≤ k) (f : ℕ → Bool) where
+  covered-true : v < 2 ^ l → ((s : ℕ) → s < 2 ^ k → s % 2 ^ l ≡ v → f s ≡ true) → allTo (2 ^ (k - l)) (λ j. f (v + j * 2 ^ l)) ≡ true
+  covered-true small p =
+      true-all (2 ^ (k - l)) (λ j. f (v + j * 2 ^ l)) (λ j m.
+      p (v + j * 2 ^ l)
+      (omega (arith, pow-split l k h, digits-lt {c = 2 ^ l} m small))
+      (add-mul-mod-self-right v j (2 ^ l) ∙ mod-eq-of-lt small))
+
+  covered-at : allTo (2 ^ (k - l)) (λ j. f (v + j * 2 ^ l)) ≡ true → (s : ℕ) → s < 2 ^ k → s % 2 ^ l ≡ v → f s ≡ true
+  covered-at w s m e =
+      ap f (omega (arith, div-add-mod' s (2 ^ l)))
+      ∙ all-true (2 ^ (k - l)) (λ j. f (v + j * 2 ^ l)) w (s / 2 ^ l)
+      (div-lt-iff-lt-mul (pow-pos l) .1 (omega (arith, pow-split l k h)))
+
+module _ (k l : ℕ) (h : l ≤ k) where
+  -- all places are those of 2^l nodes
+  pub all-nodes : 2 ^ k ≡ 2 ^ l * 2 ^ (k - l)
+  all-nodes = pow-split l k h ∙ mul-comm (2 ^ (k - l)) (2 ^ l)
+
+  -- the node of a suffix
+  node-of : (s : ℕ) → place k s / 2 ^ (k - l) ≡ place l s
+  node-of s = let sum : l + (k - l) ≡ k = omega arith in rw sum at (place-high l (k - l) s)
+
+  -- the lowest bits of the suffix at a place
+  bits-at : (q : ℕ) → q < 2 ^ k → place k q % 2 ^ l ≡ place l (q / 2 ^ (k - l))
+  bits-at q m =
+      sym (place-twice l (place k q))
+      ∙ ap (place l) (sym (node-of (place k q)) ∙ ap (λ (x : ℕ). x / 2 ^ (k - l)) (place-involution k q m))
+
+  node-at : (p q : ℕ) → p * 2 ^ (k - l) ≤ q → q < p * 2 ^ (k - l) + 2 ^ (k - l) → q / 2 ^ (k - l) ≡ p
+  node-at p q from to =
+      let r : ℕ = q - p * 2 ^ (k - l) in
+      let is : q ≡ p * 2 ^ (k - l) + r = omega arith in
+      let low : r < 2 ^ (k - l) = omega arith in
+      ap (λ (x : ℕ). x / 2 ^ (k - l)) is ∙ digits-div p low
+
+  -- the suffix at the first place of a node
+  pub suffix-of : (p : ℕ) → p < 2 ^ l → place k (p * 2 ^ (k - l)) ≡ place l p
+  suffix-of p m =
+      ap (place k) (sym (place-shorter l k (place l p) h (place-lt l p) ∙ ap (λ (x : ℕ). x * 2 ^ (k - l)) (place-involution l p m)))
+      ∙ place-involution k (place l p) (lt-of-lt-of-le (place-lt l p) (pow-mono h))
+
+  -- a node is wholly held if each of its places is
+  module _ (rs : List Rule) (b p : ℕ) where
+    pub whole-node : p < 2 ^ l
+        → ((q : ℕ) → p * 2 ^ (k - l) ≤ q → q < p * 2 ^ (k - l) + 2 ^ (k - l) → gives rs (place k q) b ≡ true)
+        → isWhole k rs l (place l p) b ≡ true
+    unfolding isWhole
+    whole-node small each =
+        covered-true k l (place l p) h (λ s. gives rs s b) (place-lt l p) (λ s m e.
+        let here : place k s / 2 ^ (k - l) ≡ p = node-of s ∙ sym (place-mod l s) ∙ ap (place l) e ∙ place-involution l p small in
+        let split : p * 2 ^ (k - l) + place k s % 2 ^ (k - l) ≡ place k s = ap (λ (x : ℕ). x * 2 ^ (k - l) + place k s % 2 ^ (k - l)) (sym here) ∙ div-add-mod' (place k s) (2 ^ (k - l)) in
+        let low : place k s % 2 ^ (k - l) < 2 ^ (k - l) = mod-lt (place k s) (pow-pos (k - l)) in
+        ap (λ (x : ℕ). gives rs x b) (sym (place-involution k s m)) ∙ each (place k s) (omega arith) (omega arith))
+
+    pub node-held : isWhole k rs l (place l p) b ≡ true
+        → (q : ℕ) → q < 2 ^ k → p * 2 ^ (k - l) ≤ q → q < p * 2 ^ (k - l) + 2 ^ (k - l) → gives rs (place k q) b ≡ true
+    unfolding isWhole
+    node-held w q m from to =
+        covered-at k l (place l p) h (λ s. gives rs s b) w (place k q) (place-lt k q) (bits-at q m ∙ ap (place l) (node-at p q from to))
+
+  -- a rule matches what its node has, and nothing else
+  module _ (p : ℕ) (small : p < 2 ^ l) (b q : ℕ) (m : q < 2 ^ k) where
+    pub match-inside : p * 2 ^ (k - l) ≤ q → q < p * 2 ^ (k - l) + 2 ^ (k - l)
+        → matches (record { len = l; value = place l p; backend = b }) (place k q) ≡ true
+    unfolding matches
+    match-inside from to =
+        eq-eqb (place k q % 2 ^ l) (place l p) (bits-at q m ∙ ap (place l) (node-at p q from to))
+
+    pub match-outside : (p * 2 ^ (k - l) ≤ q → p * 2 ^ (k - l) + 2 ^ (k - l) ≤ q)
+        → matches (record { len = l; value = place l p; backend = b }) (place k q) ≡ false
+    unfolding matches
+    match-outside out =
+        ne-eqb (place k q % 2 ^ l) (place l p) (λ e.
+        let same : place l (q / 2 ^ (k - l)) ≡ place l p = sym (bits-at q m) ∙ e in
+        let below : q / 2 ^ (k - l) < 2 ^ l = rw (sym (ap (λ (x : ℕ). x / 2 ^ (k - l)) (sym (place-involution k q m)) ∙ node-of (place k q))) at (place-lt l (place k q)) in
+        let here : q / 2 ^ (k - l) ≡ p = place-injective l (q / 2 ^ (k - l)) p below small same in
+        let split : p * 2 ^ (k - l) + q % 2 ^ (k - l) ≡ q = ap (λ (x : ℕ). x * 2 ^ (k - l) + q % 2 ^ (k - l)) (sym here) ∙ div-add-mod' q (2 ^ (k - l)) in
+        let low : q % 2 ^ (k - l) < 2 ^ (k - l) = mod-lt q (pow-pos (k - l)) in
+        let beyond : p * 2 ^ (k - l) + 2 ^ (k - l) ≤ q = out (omega arith) in
+        omega arith)
