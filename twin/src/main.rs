@@ -4,7 +4,8 @@ use std::io::{Read, Write};
 use std::path::Path;
 use std::process::ExitCode;
 
-const USAGE: &str = "twin split | twin vectors KIND OUTDIR | twin answer KIND";
+const USAGE: &str =
+    "twin split | twin vectors KIND OUTDIR | twin answer KIND | twin hostile SEED COUNT";
 
 fn main() -> ExitCode {
     let words: Vec<String> = std::env::args().skip(1).collect();
@@ -32,6 +33,12 @@ fn run(words: &[&str]) -> Result<Vec<u8>, String> {
         ["answer", kind] => {
             let answers = twin::vectors::answer(kind, &standard_input()?)?;
             Ok(answers.into_bytes())
+        }
+        ["hostile", seed, count] => {
+            let seed = seed.parse().map_err(|_| USAGE.to_string())?;
+            let count = count.parse().map_err(|_| USAGE.to_string())?;
+            let records = twin::vectors::percentage_sheets::hostile(seed, count);
+            Ok(records.bytes().to_vec())
         }
         _ => Err(USAGE.to_string()),
     }

@@ -3,7 +3,7 @@
 pub mod expansion;
 pub mod numerals;
 pub mod packing;
-mod percentage_sheets;
+pub mod percentage_sheets;
 pub mod records;
 mod rule_sheets;
 pub mod shapes;

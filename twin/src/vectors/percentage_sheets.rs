@@ -217,6 +217,18 @@ fn spoilt(records: &mut Records, random: &mut Random) {
     }
 }
 
+/// As many sheets spoilt at random as asked, another run for each seed.
+pub fn hostile(seed: u64, count: usize) -> Records {
+    let mut random = Random::new(seed);
+    let mut records = Records::default();
+    for _ in 0..count {
+        let order = small(&mut random);
+        let text = sheet_text(&mut random, &order);
+        records.add("R", &spoil(&mut random, &text));
+    }
+    records
+}
+
 /// Sheets with a weight too much or too little, a capacity below the services
 /// or no service at all.
 fn unbalanced(records: &mut Records, random: &mut Random) {

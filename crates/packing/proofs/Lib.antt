@@ -1,0 +1,18 @@
+-- Laws of the packing.
+pub mod Runs
+pub mod Agree
+pub mod Best
+pub mod Lines
+pub mod Tables
+pub mod Convexity
+pub mod Demand
+pub mod Checks
+pub mod Listing
+pub mod Cases
+pub mod Stores
+pub mod Scan
+pub mod Payable
+pub mod Granting
+pub mod Meant
+pub mod Written
+pub mod Settled

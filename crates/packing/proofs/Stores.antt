@@ -1,0 +1,96 @@
+-- Runs of stores one after the other, and the lengths of what is written into the figures and the table.
+use Prim.Native.Nat.{ℕ, zero, suc, _+_, _-_, _*_, _≤_, _<_}
+use mathlib.Core.Path.{_≡_, refl, ap, ap₂, sym, _∙_}
+use mathlib.Core.List.{List, [], _∷_, _++_}
+use native.Mathlib.Decide.{le-ind}
+use native.Mathlib.Nat.{add-zero}
+use native.Mathlib.Numerals.{add-one}
+use native.Mathlib.Omega.{arith}
+use lib.ListN.{length, getD, set, length-append}
+use lib.Seq.{sets}
+use Rattle.expansion.specs.Sums.{sumTo}
+use Rattle.packing.specs.Stored.{storedFigures, storedCells, storedTable}
+
+-- a run after another one
+pub sets-append : (l : List ℕ) (i : ℕ) (a b : List ℕ) → sets l i (a ++ b) ≡ sets (sets l i a) (i + length a) b
+sets-append l i [] b = ap (λ (n : ℕ). sets l n b) (sym (add-zero i))
+sets-append l i (x ∷ a) b =
+    let e : suc i + length a ≡ i + suc (length a) = omega arith in
+    sets-append (set l i x) (suc i) a b ∙ ap (λ (n : ℕ). sets (sets (set l i x) (suc i) a) n b) e
+
+-- a sum up to a place, and what stands there, is part of the sum
+pub sum-before : (n m : ℕ) (f : ℕ → ℕ) → n < m → sumTo n f + f n ≤ sumTo m f
+unfolding sumTo
+sum-before n m f l = le-ind (λ m. sumTo n f + f n ≤ sumTo m f) (omega arith) (λ m _ ih. omega (arith, ih)) m l
+
+-- three figures to a service
+pub length-figures : (grants counts ends : List ℕ) (n : ℕ) → length (storedFigures grants counts ends n) ≡ 3 * n
+unfolding storedFigures
+length-figures grants counts ends zero = refl
+length-figures grants counts ends (suc n) =
+    omega (
+      arith,
+      length-append (storedFigures grants counts ends n) (getD grants n 0 ∷ getD counts n 0 ∷ getD ends n 0 ∷ []),
+      length-figures grants counts ends n,
+    )
+
+-- the figures of one service more
+pub figures-more :
+    (out₀ out out′ grants counts ends : List ℕ) (n : ℕ) → out ≡ sets out₀ 0 (storedFigures grants counts ends n)
+    → out′ ≡ sets out (3 * n) (getD grants n 0 ∷ getD counts n 0 ∷ getD ends n 0 ∷ [])
+    → out′ ≡ sets out₀ 0 (storedFigures grants counts ends (n + 1))
+unfolding storedFigures
+figures-more out₀ out out′ grants counts ends n p q =
+    let old : List ℕ = storedFigures grants counts ends n in
+    let new : List ℕ = getD grants n 0 ∷ getD counts n 0 ∷ getD ends n 0 ∷ [] in
+    let e : 3 * n ≡ 0 + length old = omega (arith, length-figures grants counts ends n) in
+    rw add-one (q ∙ ap₂ (λ (l : List ℕ) (i : ℕ). sets l i new) p e ∙ sym (sets-append out₀ 0 old new))
+
+module _ (lens values backends : List ℕ) where
+  -- four cells to a line
+  pub length-cells : (s c : ℕ) → length (storedCells lens values backends s c) ≡ 4 * c
+  unfolding storedCells
+  length-cells s zero = refl
+  length-cells s (suc c) = omega (arith, length-cells s c)
+
+  pub length-stored :
+      (grants : List ℕ) (n : ℕ)
+      → length (storedTable grants lens values backends n) ≡ 4 * sumTo n (λ s. getD grants s 0)
+  unfolding storedTable sumTo
+  length-stored grants zero = refl
+  length-stored grants (suc n) =
+      omega (
+        arith,
+        length-append (storedTable grants lens values backends n) (storedCells lens values backends n (getD grants n 0)),
+        length-stored grants n,
+        length-cells n (getD grants n 0),
+      )
+
+  -- the cells of one service more
+  pub table-more :
+      (out₀ out out′ grants : List ℕ) (n at : ℕ) → out ≡ sets out₀ 0 (storedTable grants lens values backends n)
+      → at ≡ 4 * sumTo n (λ s. getD grants s 0)
+      → out′ ≡ sets out at (storedCells lens values backends n (getD grants n 0))
+      → out′ ≡ sets out₀ 0 (storedTable grants lens values backends (n + 1))
+  unfolding storedTable
+  table-more out₀ out out′ grants n at p here q =
+      let old : List ℕ = storedTable grants lens values backends n in
+      let new : List ℕ = storedCells lens values backends n (getD grants n 0) in
+      let e : at ≡ 0 + length old = omega (arith, length-stored grants n) in
+      rw add-one (q ∙ ap₂ (λ (l : List ℕ) (i : ℕ). sets l i new) p e ∙ sym (sets-append out₀ 0 old new))
+
+  -- of the lines left of a service, the first is stored, and one less is left
+  pub line-more :
+      (out out′ : List ℕ) (i s c : ℕ) → 0 < c
+      → out′ ≡ sets (set out i s) (i + 1) (getD lens (32 * s + (c - 1)) 0 ∷ getD values (32 * s + (c - 1)) 0 ∷ getD backends (32 * s + (c - 1)) 0 ∷ [])
+      → sets out i (storedCells lens values backends s c) ≡ sets out′ (i + 4) (storedCells lens values backends s (c - 1))
+  unfolding storedCells
+  line-more out out′ i s zero l p = absurd (omega arith)
+  line-more out out′ i s (suc c) l p =
+      let four : i + 4 ≡ suc (suc (suc (suc i))) = omega arith in
+      let less : suc c - 1 ≡ c = omega arith in
+      rw (p, four, add-one, less)
+
+  pub none-left : (out : List ℕ) (i s c : ℕ) → c ≡ 0 → sets out i (storedCells lens values backends s c) ≡ out
+  unfolding storedCells
+  none-left out i s c e = rw e

@@ -1,0 +1,213 @@
+-- `call::pack` meets its contract: the checks, the lists, the grants, the two tests of room, and what is written.
+use mathlib.Core.Path.{_≡_, refl, sym, ap, _∙_}
+use native.Mathlib.Omega.{arith}
+use lib.ListN.{getD-replicate}
+use Rattle.expansion.specs.declared.call.Checked.the-variants.{Sound as Passed}
+use Rattle.packing.specs.Answer.{servicesOf, checkAll}
+use Rattle.packing.specs.Kept.{Listed}
+use Rattle.packing.specs.declared.call.Packing.the-variants.{Made}
+use Rattle.packing.proofs.Checks.{Accepted, all-passed, sized}
+use Rattle.packing.proofs.Settled.{answer-refused, answer-figures, answer-table, answer-made, Settled, ready, settled}
+use borrow.Author.Needs.{needs}
+use Rattle.packing.proofs.call.pack.Statement.{statement}
+use Rattle.packing.proofs.call.pack.Tie as tie
+
+check-all-requires : tie.Need-check-all-requires
+check-all-requires c κs = search needs
+
+enum-known-checked : tie.Need-enum-known-checked
+enum-known-checked c = search needs
+
+returns : tie.Need-returns
+returns c =
+    (sym (answer-refused _ _ _ _ _ _ _ _ _ (sym (c .before .before .before .check-all .ensures) ∙ c .before .checked .given .1)), (refl, (refl, tt)))
+
+enum-told : tie.Need-enum-told
+enum-told c = search needs
+
+slice-aggregate-make-lists : tie.Need-slice-aggregate-make-lists
+slice-aggregate-make-lists c = search needs
+
+slice-aggregate-make-lists-2 : tie.Need-slice-aggregate-make-lists-2
+slice-aggregate-make-lists-2 c = search needs
+
+slice-aggregate-make-lists-3 : tie.Need-slice-aggregate-make-lists-3
+slice-aggregate-make-lists-3 c = search needs
+
+slice-aggregate-make-lists-4 : tie.Need-slice-aggregate-make-lists-4
+slice-aggregate-make-lists-4 c = search needs
+
+slice-aggregate-make-lists-5 : tie.Need-slice-aggregate-make-lists-5
+slice-aggregate-make-lists-5 c = search needs
+
+slice-aggregate-make-lists-6 : tie.Need-slice-aggregate-make-lists-6
+slice-aggregate-make-lists-6 c = search needs
+
+-- the checks passed
+passed :
+    (c : tie.After-enum-told)
+    → let a = c .before .before .before .before .before .before .before .before .args in
+    checkAll (a .k) (a .tolerance) (a .capacity) (a .volumes .now) (a .sizes .now) (a .weights .now) ≡ Passed
+passed c = sym (c .before .before .check-all .ensures) ∙ c .enum-told .given .1
+
+accepted :
+    (c : tie.After-enum-told)
+    → let a = c .before .before .before .before .before .before .before .before .args in
+    Accepted (a .k) (a .tolerance) (a .capacity) (a .volumes .now) (a .sizes .now) (a .weights .now)
+accepted c = all-passed _ _ _ _ _ _ (passed c)
+
+make-lists-requires : tie.Need-make-lists-requires
+make-lists-requires c κs =
+    let A = accepted (c .before .before .before .before .before .before) in
+    (sized A, (omega (arith, A .few), omega (arith, A .few)))
+
+slice-aggregate-grant-all : tie.Need-slice-aggregate-grant-all
+slice-aggregate-grant-all c = search needs
+
+slice-aggregate-grant-all-2 : tie.Need-slice-aggregate-grant-all-2
+slice-aggregate-grant-all-2 c = search needs
+
+slice-aggregate-grant-all-3 : tie.Need-slice-aggregate-grant-all-3
+slice-aggregate-grant-all-3 c = search needs
+
+-- the lists are those of the definitions
+listed :
+    (c : tie.After-make-lists)
+    → let a = c .before .before .before .before .before .before .before .before .before .before .before .before .before .before .before .args in
+    let m = c .make-lists in
+    Listed (servicesOf (a .k) (a .volumes .now) (a .sizes .now) (a .weights .now)) (a .tolerance)
+    (m .last .1 .1 .1 .1 .0) (m .last .1 .1 .1 .1 .1 .0) (m .last .1 .1 .1 .1 .1 .1 .0)
+    (m .last .1 .1 .1 .1 .1 .1 .1 .0) (m .last .1 .1 .1 .1 .1 .1 .1 .1 .0) (m .last .1 .1 .1 .1 .1 .1 .1 .1 .1 .0)
+listed c = c .make-lists .ensures (c .before .before .before .before .before .before .before .before .before .before .before .before .before .before .before .args .volumes .now) (accepted (c .before .before .before .before .before .before .before) .same)
+
+grant-all-requires : tie.Need-grant-all-requires
+grant-all-requires c κs =
+    let A = accepted (c .before .before .before .before .before .before .before .before .before .before .before .before .before .before .before .before) in
+    let m = c .before .before .before .before .before .before .before .before .before .make-lists in (
+      ready _ _ _ _ _ _ _ _ _ _ _ _ A (listed (c .before .before .before .before .before .before .before .before .before)) (m .kept .1 .1 .1 .1 .1 .1 .1 .0) (m .kept .1 .1 .1 .1 .1 .1 .1 .1 .0),
+      (
+        (omega (arith, A .some, A .same), (omega (arith, A .room, A .same), omega (arith, A .few, A .same))),
+        λ s l. getD-replicate 64 s 1 0 (omega (arith, A .few, A .same)),
+      ),
+    )
+
+-- and so are the grants
+done :
+    (c : tie.After-grant-all)
+    → let a = c .before .before .before .before .before .before .before .before .before .before .before .before .before .before .before .before .before .before .before .before .before .before .before .before .before .args in
+    let m = c .before .before .before .before .before .before .before .before .before .before .make-lists in
+    Settled (a .k) (a .tolerance) (a .capacity) (a .volumes .now) (a .sizes .now) (a .weights .now)
+    (m .last .1 .1 .1 .1 .0) (m .last .1 .1 .1 .1 .1 .0) (m .last .1 .1 .1 .1 .1 .1 .0)
+    (m .last .1 .1 .1 .1 .1 .1 .1 .0) (m .last .1 .1 .1 .1 .1 .1 .1 .1 .0) (m .last .1 .1 .1 .1 .1 .1 .1 .1 .1 .0)
+    (c .grant-all .last .1 .1 .1 .1 .0) (c .grant-all .result)
+done c =
+    let m = c .before .before .before .before .before .before .before .before .before .before .make-lists in
+    settled _ _ _ _ _ _ _ _ _ _ _ _ (accepted (c .before .before .before .before .before .before .before .before .before .before .before .before .before .before .before .before .before)) (listed (c .before .before .before .before .before .before .before .before .before .before)) _ _
+    (m .kept .1 .1 .1 .1 .0) (m .kept .1 .1 .1 .1 .1 .0) (m .kept .1 .1 .1 .1 .1 .1 .0) (m .kept .1 .1 .1 .1 .1 .1 .1 .0) (m .kept .1 .1 .1 .1 .1 .1 .1 .1 .0) (c .grant-all .kept .1 .1 .1 .1 .0) (c .grant-all .ensures)
+
+mul-if1 : tie.Need-mul-if1
+mul-if1 c = omega (arith, accepted (c .before .before .before .before .before .before .before .before .before .before .before .before .before .before .before .before .before .before) .few, accepted (c .before .before .before .before .before .before .before .before .before .before .before .before .before .before .before .before .before .before) .same)
+
+returns-2 : tie.Need-returns-2
+returns-2 c = (sym (answer-figures _ _ _ _ _ _ _ _ (passed (c .before .before .before .before .before .before .before .before .before .before .before .before .before .before .before .before .before .before .before)) (c .if1 .taken)), (refl, (refl, tt)))
+
+mul-if2 : tie.Need-mul-if2
+mul-if2 c = omega (arith, done (c .before .before) .little)
+
+returns-3 : tie.Need-returns-3
+returns-3 c =
+    (sym (answer-table _ _ _ _ _ _ _ _ (passed (c .before .before .before .before .before .before .before .before .before .before .before .before .before .before .before .before .before .before .before .before)) _ (done (c .before .before .before) .rules) (c .before .if1 .left) (c .if2 .taken)), (refl, (refl, tt)))
+
+slice-aggregate-write-figures : tie.Need-slice-aggregate-write-figures
+slice-aggregate-write-figures c = search needs
+
+slice-aggregate-write-figures-2 : tie.Need-slice-aggregate-write-figures-2
+slice-aggregate-write-figures-2 c = search needs
+
+slice-aggregate-write-figures-3 : tie.Need-slice-aggregate-write-figures-3
+slice-aggregate-write-figures-3 c = search needs
+
+write-figures-requires : tie.Need-write-figures-requires
+write-figures-requires c κs =
+    let A = accepted (c .before .before .before .before .before .before .before .before .before .before .before .before .before .before .before .before .before .before .before .before .before .before .before .before) in
+    let m = c .before .before .before .before .before .before .before .before .before .before .before .before .before .before .before .before .before .make-lists in
+    (omega (arith, A .few, A .same, c .before .before .before .before .before .before .before .grant-all .kept .1 .1 .1 .1 .0), (omega (arith, A .few, A .same, m .kept .1 .1 .1 .1 .1 .1 .1 .1 .0), (omega (arith, A .few, A .same, m .kept .1 .1 .1 .1 .1 .1 .1 .1 .1 .0), c .before .before .before .before .before .if1 .left)))
+
+slice-aggregate-write-table : tie.Need-slice-aggregate-write-table
+slice-aggregate-write-table c = search needs
+
+slice-aggregate-write-table-2 : tie.Need-slice-aggregate-write-table-2
+slice-aggregate-write-table-2 c = search needs
+
+slice-aggregate-write-table-3 : tie.Need-slice-aggregate-write-table-3
+slice-aggregate-write-table-3 c = search needs
+
+slice-aggregate-write-table-4 : tie.Need-slice-aggregate-write-table-4
+slice-aggregate-write-table-4 c = search needs
+
+write-table-requires : tie.Need-write-table-requires
+write-table-requires c κs = done (c .before .before .before .before .before .before .before .before .before .before .before .before .before .before .before) .room _ (c .before .before .before .before .before .before .before .before .before .before .before .before .if2 .left)
+
+slice-aggregate-total-cost : tie.Need-slice-aggregate-total-cost
+slice-aggregate-total-cost c = search needs
+
+slice-aggregate-total-cost-2 : tie.Need-slice-aggregate-total-cost-2
+slice-aggregate-total-cost-2 c = search needs
+
+total-cost-requires : tie.Need-total-cost-requires
+total-cost-requires c κs = done (c .before .before .before .before .before .before .before .before .before .before .before .before .before .before .before .before .before .before .before .before) .payable
+
+same-length : tie.Need-same-length
+same-length c = search needs
+
+same-length-2 : tie.Need-same-length-2
+same-length-2 c = search needs
+
+returns-4 : tie.Need-returns-4
+returns-4 c =
+    let w = c .before .before .before .before .before .before .before .before .before .before .before .before .before in
+    let g = w .before .before .before .before .before .before .before .before in
+    let d = done g in
+    let t = c .total-cost .ensures in (
+      ap Made (d .made _ t) ∙ sym (answer-made _ _ _ _ _ _ _ _ (passed (g .before .before .before .before .before .before .before .before .before .before .before .before .before .before .before .before .before)) _ (d .rules) (w .before .before .before .before .before .before .if1 .left) (w .before .before .before .before .before .if2 .left)),
+      (rw (d .figures) at (w .write-figures .ensures), (rw (d .table) at (c .before .before .before .before .before .write-table .ensures), d .demand _ t)),
+    )
+
+pub pack-spec : {M : Type 1} → statement M
+pack-spec =
+    tie.close
+    (tie.spec
+    check-all-requires
+    enum-known-checked
+    returns
+    enum-told
+    slice-aggregate-make-lists
+    slice-aggregate-make-lists-2
+    slice-aggregate-make-lists-3
+    slice-aggregate-make-lists-4
+    slice-aggregate-make-lists-5
+    slice-aggregate-make-lists-6
+    make-lists-requires
+    slice-aggregate-grant-all
+    slice-aggregate-grant-all-2
+    slice-aggregate-grant-all-3
+    grant-all-requires
+    mul-if1
+    returns-2
+    mul-if2
+    returns-3
+    slice-aggregate-write-figures
+    slice-aggregate-write-figures-2
+    slice-aggregate-write-figures-3
+    write-figures-requires
+    slice-aggregate-write-table
+    slice-aggregate-write-table-2
+    slice-aggregate-write-table-3
+    slice-aggregate-write-table-4
+    write-table-requires
+    slice-aggregate-total-cost
+    slice-aggregate-total-cost-2
+    total-cost-requires
+    same-length
+    same-length-2
+    returns-4)

@@ -1,0 +1,26 @@
+-- The worked case P7 of document 01: the sample sheet is granted 2 and 3; and its table and total.
+use Prim.Native.Nat.{ℕ}
+use mathlib.Core.Path.{_≡_}
+use mathlib.Core.List.{[], _∷_}
+use Rattle.packing.specs.Count.{Line, Services, counted}
+use Rattle.packing.specs.Table.{table, granted}
+
+abbrev pub sample : Services
+sample =
+    record {
+      k = 5;
+      unit = 1000000;
+      volumes = 55 ∷ 45 ∷ [];
+      weights = (166667 ∷ 333333 ∷ 500000 ∷ []) ∷ (250000 ∷ 250000 ∷ 500000 ∷ []) ∷ [];
+    }
+
+abbrev pub line : ℕ → ℕ → ℕ → ℕ → Line
+line s l v b = record { service = s; rule = record { len = l; value = v; backend = b } }
+
+pub record P7 : Type 0 where
+  pub first : granted sample 20000 5 0 ≡ 2
+  pub second : granted sample 20000 5 1 ≡ 3
+  pub lines :
+      table sample 20000 (granted sample 20000 5)
+      ≡ line 0 1 0 1 ∷ line 0 0 0 2 ∷ line 1 2 0 1 ∷ line 1 1 0 0 ∷ line 1 0 0 2 ∷ []
+  pub amount : counted sample (table sample 20000 (granted sample 20000 5)) ≡ 293333920

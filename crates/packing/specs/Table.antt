@@ -1,0 +1,47 @@
+-- The table of grants (document 01, "Packing" and "The count by first match"), and the packing that finds the grants.
+use Prim.Native.Nat.{ℕ, zero, suc, _*_}
+use mathlib.Core.List.{List, [], _∷_, _++_}
+use Rattle.expansion.specs.Imbalance.{Frame}
+use Rattle.expansion.specs.Steps.{frame, listOf, oldest, stair}
+use Rattle.expansion.specs.declared.rule.Rule.{Rule}
+use Rattle.packing.specs.Grants.{Problem, Grants, packed}
+use Rattle.packing.specs.Count.{Line, Services, services, volume, weightsOf}
+
+-- each list is made with this budget
+unfoldable pub ruleBudget : ℕ
+ruleBudget = 32
+
+-- the expansion of service s
+unfoldable pub frameOf : Services → ℕ → ℕ → Frame
+frameOf S tolerance s = frame (S .k) (S .unit) tolerance (weightsOf S s)
+
+-- the list of service s, the newest rule first
+unfoldable pub listFor : Services → ℕ → ℕ → List Rule
+listFor S tolerance s = listOf (frameOf S tolerance s) ruleBudget
+
+unfoldable pub linesOf : ℕ → List Rule → List Line
+linesOf s [] = []
+linesOf s (r ∷ rs) = record { service = s; rule = r } ∷ linesOf s rs
+
+-- the lines of the first n services: of each, as many oldest rules as granted, or the whole list if it is shorter; services ascending, the newest rule first
+unfoldable pub tableOf : ℕ → (ℕ → List Rule) → Grants → List Line
+tableOf zero lists g = []
+tableOf (suc n) lists g = tableOf n lists g ++ linesOf n (oldest (g n) (lists n))
+
+-- the table of grants
+unfoldable pub table : Services → ℕ → Grants → List Line
+table S tolerance g = tableOf (services S) (listFor S tolerance) g
+
+-- what the packing packs: a service costs its volume × its stair, and is granted one rule at least
+unfoldable pub problem : Services → ℕ → ℕ → Problem
+problem S tolerance capacity =
+    record {
+      services = services S;
+      cost = λ s x. volume S s * stair (frameOf S tolerance s) x (listFor S tolerance s);
+      least = λ s. 1;
+      capacity = capacity;
+    }
+
+-- the grants of the packing
+unfoldable pub granted : Services → ℕ → ℕ → Grants
+granted S tolerance capacity = packed (problem S tolerance capacity)

@@ -1,0 +1,11 @@
+// One table for all services: which service is granted how many rules, the table's lines, and its total.
+mod call;
+mod check;
+mod grants;
+mod lists;
+mod output;
+
+pub use call::Packed;
+pub use call::Packing;
+pub use call::pack;
+pub use check::check_services;

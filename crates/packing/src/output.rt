@@ -1,0 +1,81 @@
+// What is written into the lent buffers: three figures for each service, four numbers for each line of the table.
+ghost use mathlib.Core.Path.{_≡_};
+ghost use mathlib.Core.List.{[], _∷_};
+ghost use Prim.Native.Nat.{_+_, _*_, _≤_};
+ghost use lib.ListN.{length};
+ghost use lib.Seq.{sets};
+ghost use Rattle.packing.specs.Stored.{storedFigures, storedCells, storedTable, Tabled};
+
+// Three numbers from position `at` on.
+fn write_three(out: &mut [usize], at: usize, a: usize, b: usize, c: usize)
+    requires { ⌜ at + 3 ≤ length (now out) ⌝ }
+    ensures { λ _. ⌜ now (out .exit) ≡ sets (now (out .entry)) at (a ∷ b ∷ c ∷ []) ⌝ }
+{
+    out[at] = a;
+    out[at + 1] = b;
+    out[at + 2] = c;
+}
+
+// Of each service its grant, the length of its list and how the list ended.
+pub fn write_figures(
+    figures: &mut [usize],
+    n: usize,
+    grants: &[usize],
+    counts: &[usize],
+    ends: &[usize],
+)
+    requires { ⌜ (n ≤ length (now grants)) × ((n ≤ length (now counts)) × ((n ≤ length (now ends)) × (3 * n ≤ length (now figures)))) ⌝ }
+    ensures { λ _. ⌜ now (figures .exit) ≡ sets (now (figures .entry)) 0 (storedFigures (now (grants .entry)) (now (counts .entry)) (now (ends .entry)) n) ⌝ }
+{
+    let mut s = 0;
+    while s < n {
+        write_three(figures, 3 * s, grants[s], counts[s], ends[s]);
+        s += 1;
+    }
+}
+
+// The lines of one service from position `at` on, the newest rule first.
+fn write_service(
+    table: &mut [usize],
+    at: usize,
+    s: usize,
+    grant: usize,
+    lens: &[usize],
+    values: &[usize],
+    backends: &[usize],
+)
+    requires { ⌜ (at + 4 * grant ≤ length (now table)) × ((32 * s + grant ≤ length (now lens)) × ((32 * s + grant ≤ length (now values)) × (32 * s + grant ≤ length (now backends)))) ⌝ }
+    ensures { λ _. ⌜ now (table .exit) ≡ sets (now (table .entry)) at (storedCells (now (lens .entry)) (now (values .entry)) (now (backends .entry)) s grant) ⌝ }
+{
+    let mut left = grant;
+    let mut i = at;
+    while 0 < left {
+        left -= 1;
+        let from = 32 * s + left;
+        table[i] = s;
+        write_three(table, i + 1, lens[from], values[from], backends[from]);
+        i += 4;
+    }
+}
+
+// The lines of all services, ascending.
+pub fn write_table(
+    table: &mut [usize],
+    n: usize,
+    grants: &[usize],
+    lens: &[usize],
+    values: &[usize],
+    backends: &[usize],
+)
+    requires { ⌜ Tabled n (now grants) (now lens) (now values) (now backends) (length (now table)) ⌝ }
+    ensures { λ _. ⌜ now (table .exit) ≡ sets (now (table .entry)) 0 (storedTable (now (grants .entry)) (now (lens .entry)) (now (values .entry)) (now (backends .entry)) n) ⌝ }
+{
+    let mut at = 0;
+    let mut s = 0;
+    while s < n {
+        let grant = grants[s];
+        write_service(table, at, s, grant, lens, values, backends);
+        at += 4 * grant;
+        s += 1;
+    }
+}

@@ -1,0 +1,14 @@
+-- The worked cases hold of the definitions.
+use mathlib.Core.Path.{refl}
+use Rattle.numerals.specs.Digits.{isDigit, allDigits, value, valueFrom, onValue}
+use Rattle.numerals.specs.Decimal.{noLeadingZero, isNumeral, number}
+use Rattle.numerals.specs.Text.{onto, split}
+use Rattle.numerals.specs.Percentage.{fraction, atMostAll, percentOf, percentage}
+use Rattle.expansion.specs.Answer.{unit}
+use Rattle.sheets.specs.Reading.{then, unless, onField, same}
+use Rattle.sheets.specs.PercentageSheet.{headFields, weightFields, sum, serviceFields, serviceLines, volumesOf, weightsOf, whole, sheetLines, textLimit, readSheet}
+use Rattle.sheets.specs.Cases.{bytes, cases, AllRight}
+
+pub right : AllRight cases
+unfolding bytes cases readSheet textLimit sheetLines whole volumesOf weightsOf serviceLines serviceFields sum weightFields headFields same onField unless then unit percentage percentOf split onto number isNumeral noLeadingZero allDigits isDigit value valueFrom onValue fraction atMostAll
+right = (refl, (refl, (refl, (refl, (refl, (refl, (refl, (refl, (refl, (refl, (refl, tt)))))))))))

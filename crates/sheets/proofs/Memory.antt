@@ -1,0 +1,81 @@
+-- The memory of the reader of the percentage sheet: one service more behind those that it holds, and the sheet that it holds after the last.
+use Prim.Native.Nat.{ℕ, _+_, _<_, _≤_}
+use mathlib.Core.Path.{_≡_, refl, sym, ap, _∙_}
+use mathlib.Core.Bool.{Bool, true, false}
+use mathlib.Core.List.{List, [], _∷_, _++_, append-assoc, append-nil}
+use native.Mathlib.Numerals.{add-one}
+use native.Mathlib.Omega.{arith}
+use lib.Dec.{leb, ltb}
+use lib.ListN.{length, take, set, length-append}
+use lib.Seq.{take-suc-set}
+use Rattle.sheets.specs.Reading.{unless}
+use Rattle.sheets.specs.PercentageSheet.{Service, volumesOf, weightsOf, whole}
+use Rattle.sheets.specs.Kept.{headOf, Stored, sizesOf, rowOf, Holds, SheetOf, finished}
+use Rattle.sheets.specs.declared.percentage_sheet.Head.{Head}
+
+pub volumes-more : (ss : List Service) (s : Service) → volumesOf (ss ++ s ∷ []) ≡ volumesOf ss ++ s .volume ∷ []
+unfolding volumesOf
+volumes-more [] s = refl
+volumes-more (r ∷ ss) s = ap (λ (vs : List ℕ). r .volume ∷ vs) (volumes-more ss s)
+
+pub weights-more : (ss : List Service) (s : Service) → weightsOf (ss ++ s ∷ []) ≡ weightsOf ss ++ s .weights ∷ []
+unfolding weightsOf
+weights-more [] s = refl
+weights-more (r ∷ ss) s = ap (λ (ws : List (List ℕ)). r .weights ∷ ws) (weights-more ss s)
+
+sizes-more : (wss : List (List ℕ)) (ws : List ℕ) → sizesOf (wss ++ ws ∷ []) ≡ sizesOf wss ++ length ws ∷ []
+unfolding sizesOf
+sizes-more [] ws = refl
+sizes-more (us ∷ wss) ws = ap (λ (zs : List ℕ). length us ∷ zs) (sizes-more wss ws)
+
+row-more : (wss : List (List ℕ)) (ws : List ℕ) → rowOf (wss ++ ws ∷ []) ≡ rowOf wss ++ ws
+unfolding rowOf
+row-more [] ws = append-nil ws
+row-more (us ∷ wss) ws = ap (λ (l : List ℕ). us ++ l) (row-more wss ws) ∙ sym (append-assoc us (rowOf wss) ws)
+
+pub holds-none : (vs zs ws : List ℕ) → Holds [] [] vs zs ws 0 0
+unfolding sizesOf rowOf
+holds-none vs zs ws =
+    record { services = refl; few = omega arith; short = omega arith; held-volumes = refl; held-sizes = refl; held-weights = refl }
+
+pub holds-more :
+    {volumes : List ℕ} {weights : List (List ℕ)} {vs vs′ zs ws ws′ : List ℕ} {i at n : ℕ} {s : Service}
+    → Holds volumes weights vs zs ws i at
+    → Stored s vs vs′ ws ws′ at i n
+    → i < length zs
+    → Holds (volumes ++ s .volume ∷ []) (weights ++ s .weights ∷ []) vs′ (set zs i n) ws′ (i + 1) (at + n)
+holds-more {volumes} {weights} {zs = zs} {i = i} {n = n} {s = s} h k room =
+    record {
+      services = length-append volumes (s .volume ∷ []) ∙ omega arith;
+      few = omega arith;
+      short = omega arith;
+      held-volumes = k .volumes ∙ ap (λ (l : List ℕ). l ++ s .volume ∷ []) (h .held-volumes);
+      held-sizes =
+          rw (add-one i, take-suc-set zs i n room, sizes-more weights (s .weights), k .size)
+          (ap (λ (l : List ℕ). l ++ n ∷ []) (h .held-sizes));
+      held-weights = k .row ∙ ap (λ (l : List ℕ). l ++ s .weights) (h .held-weights) ∙ sym (row-more weights (s .weights));
+    }
+
+-- what is answered after the lines
+pub kept-whole :
+    (head : Head) (ss : List Service) {vs zs ws : List ℕ} {n row : ℕ} → length ss ≡ n
+    → Holds (volumesOf ss) (weightsOf ss) vs zs ws n row
+    → SheetOf (finished head n row) (whole (headOf head) ss) vs zs ws
+unfolding finished whole unless
+kept-whole head ss {vs} {zs} {ws} {n} {row} count h = go (ltb 0 n) (leb n (head .capacity)) refl refl
+  where
+    go :
+        (t u : Bool) → ltb 0 n ≡ t → leb n (head .capacity) ≡ u
+        → SheetOf (finished head n row) (whole (headOf head) ss) vs zs ws
+    go false u e f = simp (count, e) refl
+    go true false e f = simp (count, e, f) refl
+    go true true e f =
+        simp (count, e, f)
+        (record {
+          sheet = record { k = head .k; tolerance = head .tolerance; capacity = head .capacity; volumes = volumesOf ss; weights = weightsOf ss };
+          read = refl;
+          k = refl;
+          tolerance = refl;
+          capacity = refl;
+          holds = h;
+        })

@@ -1,0 +1,22 @@
+-- A text for a lent buffer: what is answered where it fits, and where it doesn't.
+use Prim.Native.Nat.{ℕ, _≤_, _<_}
+use mathlib.Core.Path.{_≡_, refl}
+use mathlib.Core.List.{List}
+use native.Mathlib.Omega.{arith}
+use lib.ListN.{length}
+use borrow.Author.Tests.{le-leb, lt-leb}
+use Rattle.expansion.specs.declared.refusal.Refusal.the-variants.{ShortLoan}
+use Rattle.sheets.specs.Calls.{refusedAt, printText, printFilled}
+use Rattle.sheets.specs.Writing.{Wrote}
+use Rattle.sheets.specs.declared.answer.Printed.the-variants.{End, Refused}
+
+module _ (bytes out : List ℕ) where
+  pub no-room : length out < length bytes → (Refused (refusedAt ShortLoan 0) ≡ printText bytes (length out)) × (out ≡ printFilled (Refused (refusedAt ShortLoan 0)) out bytes)
+  unfolding printText
+  no-room h = (rw (lt-leb (length bytes) (length out) h), refl)
+
+  pub printed : (after : List ℕ) (end : ℕ) → length bytes ≤ length out → Wrote out after 0 end bytes → (End end ≡ printText bytes (length out)) × (after ≡ printFilled (End end) out bytes)
+  unfolding printText
+  printed after end h w =
+      let all : end ≡ length bytes = omega (arith, w .ends) in
+      (rw (le-leb (length bytes) (length out) h, all), w .holds)

@@ -1,0 +1,45 @@
+-- The lines that numbers are, four of each: one line more, none left, and back from the numbers of lines.
+use Prim.Native.Nat.{ℕ, _+_, _*_, _≤_, _<_}
+use mathlib.Core.Path.{_≡_, refl, ap, _∙_}
+use mathlib.Core.List.{List, [], _∷_, _++_}
+use native.Mathlib.Omega.{arith}
+use lib.ListN.{length, getD}
+use lib.Seq.{slice}
+use Rattle.numerals.proofs.Slice.{slice-more, slice-none}
+use Rattle.packing.specs.Count.{Line}
+use Rattle.packing.specs.Answer.{cells}
+use Rattle.sheets.specs.Calls.{linesFrom}
+use Rattle.sheets.specs.Rows.{lineAt}
+
+module _ (table : List ℕ) (n : ℕ) (room : 4 * n ≤ length table) where
+  pub rows-more : (i : ℕ) → i < n → linesFrom (slice (4 * i) (4 * n) table) ≡ lineAt table i ∷ linesFrom (slice (4 * (i + 1)) (4 * n) table)
+  unfolding linesFrom
+  rows-more i h =
+      let t : ℕ = 4 * n in
+      let one : 4 * i + 1 + 1 ≡ 4 * i + 2 = omega arith in
+      let two : 4 * i + 2 + 1 ≡ 4 * i + 3 = omega arith in
+      let three : 4 * i + 3 + 1 ≡ 4 * (i + 1) = omega arith in
+      let cut : slice (4 * i) t table
+      ≡ getD table (4 * i) 0 ∷ getD table (4 * i + 1) 0 ∷ getD table (4 * i + 2) 0 ∷ getD table (4 * i + 3) 0 ∷ slice (4 * (i + 1)) t table =
+      slice-more (4 * i) t table (omega arith) (omega arith)
+      ∙ rw (slice-more (4 * i + 1) t table (omega arith) (omega arith), one, slice-more (4 * i + 2) t table (omega arith) (omega arith), two, slice-more (4 * i + 3) t table (omega arith) (omega arith), three) in
+      ap linesFrom cut
+
+  pub rows-none : (i : ℕ) → n ≤ i → linesFrom (slice (4 * i) (4 * n) table) ≡ []
+  unfolding linesFrom
+  rows-none i h = ap linesFrom (slice-none (4 * i) (4 * n) table (omega arith))
+
+pub lines-cells : (ls : List Line) → linesFrom (cells ls) ≡ ls
+unfolding linesFrom cells
+lines-cells [] = refl
+lines-cells (l ∷ ls) = ap (λ (r : List Line). l ∷ r) (lines-cells ls)
+
+pub length-cells : (ls : List Line) → length (cells ls) ≡ 4 * length ls
+unfolding cells
+length-cells [] = refl
+length-cells (l ∷ ls) = omega (arith, length-cells ls)
+
+pub cells-append : (ls ms : List Line) → cells (ls ++ ms) ≡ cells ls ++ cells ms
+unfolding cells
+cells-append [] ms = refl
+cells-append (l ∷ ls) ms = ap (λ (r : List ℕ). l .service ∷ l .rule .len ∷ l .rule .value ∷ l .rule .backend ∷ r) (cells-append ls ms)

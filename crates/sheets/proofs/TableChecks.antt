@@ -1,0 +1,110 @@
+-- What a table that passed the checks has, and that this is enough to pass.
+use Prim.Native.Nat.{ℕ, _^_, _≤_, _<_}
+use mathlib.Core.Path.{_≡_, refl, sym, ap, _∙_}
+use mathlib.Core.Bool.{true}
+use mathlib.Core.List.{List, [], _∷_, reverse, reverseAux}
+use lib.Dec.{leb, ltb}
+use lib.ListN.{length}
+use borrow.Author.Tests.{lt-ltb, le-leb, ltb-true, leb-true}
+use Rattle.numerals.specs.Pick.{both}
+use Rattle.numerals.proofs.Choice.{both-left, both-right}
+use Rattle.packing.specs.Count.{Line}
+use Rattle.sheets.specs.Reading.{got, then, unless}
+use Rattle.sheets.specs.RuleSheet.{Table, totalLimit, countOf, inOrder, placed, closed, isLine, checkLines, checkTable}
+use Rattle.sheets.proofs.Readings.{got-same, unless-got, then-got}
+
+-- a rule line in its limits
+pub record Formed (k : ℕ) (l : Line) : Type 0 where
+  pub service : l .service < 64
+  pub short : l .rule .len ≤ k
+  pub bits : l .rule .value < 2 ^ (l .rule .len)
+  pub backend : l .rule .backend < 32
+
+pub formed : (k : ℕ) (l : Line) → isLine k l ≡ true → Formed k l
+unfolding isLine
+formed k l h =
+    let rest = both-right (ltb (l .service) 64) _ h in
+    let suffix = both-left (both (leb (l .rule .len) k) (ltb (l .rule .value) (2 ^ (l .rule .len)))) _ rest in
+    record {
+      service = ltb-true (l .service) 64 (both-left (ltb (l .service) 64) _ h);
+      short = leb-true (l .rule .len) k (both-left (leb (l .rule .len) k) _ suffix);
+      bits = ltb-true (l .rule .value) (2 ^ (l .rule .len)) (both-right (leb (l .rule .len) k) _ suffix);
+      backend = ltb-true (l .rule .backend) 32 (both-right (both (leb (l .rule .len) k) (ltb (l .rule .value) (2 ^ (l .rule .len)))) _ rest);
+    }
+
+pub is-formed : (k : ℕ) (l : Line) → Formed k l → isLine k l ≡ true
+unfolding isLine
+is-formed k l f =
+    rw (
+      lt-ltb (l .service) 64 (f .service),
+      le-leb (l .rule .len) k (f .short),
+      lt-ltb (l .rule .value) (2 ^ (l .rule .len)) (f .bits),
+      lt-ltb (l .rule .backend) 32 (f .backend),
+    )
+
+-- a line that passed behind others
+pub record Follows (k : ℕ) (before : List Line) (l : Line) : Type 0 where
+  pub form : isLine k l ≡ true
+  pub few : ltb (countOf (l .service) before) 32 ≡ true
+  pub sorted : inOrder before l ≡ true
+
+-- each line passed behind those before it, the last of them first
+unfoldable pub InOrder : ℕ → List Line → List Line → Type 0
+InOrder k before [] = Unit {0}
+InOrder k before (l ∷ ls) = Follows k before l × InOrder k (l ∷ before) ls
+
+pub in-order : (k : ℕ) (before ls : List Line) {r : List Line} → checkLines k before ls ≡ got r → InOrder k before ls
+unfolding checkLines placed InOrder
+in-order k before [] h = tt
+in-order k before (l ∷ ls) h =
+    let form = unless-got _ _ _ _ h in
+    let few = unless-got _ _ _ _ (form .1) in
+    let sorted = unless-got _ _ _ _ (few .1) in
+    (record { form = form .0; few = few .0; sorted = sorted .0 }, in-order k (l ∷ before) ls (sorted .1))
+
+pub check-lines : (k : ℕ) (before ls : List Line) → InOrder k before ls → checkLines k before ls ≡ got (reverseAux ls before)
+unfolding checkLines placed InOrder unless
+check-lines k before [] h = refl
+check-lines k before (l ∷ ls) h = rw (h .0 .form, h .0 .few, h .0 .sorted) (check-lines k (l ∷ before) ls (h .1))
+
+-- a table as its sheet would have it
+pub record Proper (t : Table) : Type 0 where
+  pub bits : 1 ≤ t .k
+  pub few-bits : t .k ≤ 12
+  pub some : 1 ≤ length (t .lines)
+  pub few : length (t .lines) ≤ 2048
+  pub small : t .total ≤ totalLimit
+  pub sorted : InOrder (t .k) [] (t .lines)
+  pub ends : closed (reverse (t .lines)) ≡ true
+
+pub proper : (t : Table) → checkTable t ≡ got t → Proper t
+unfolding checkTable
+proper t h =
+    let k = unless-got _ _ _ _ h in
+    let n = unless-got _ _ _ _ (k .1) in
+    let total = unless-got _ _ _ _ (n .1) in
+    let lines = then-got _ _ (total .1) in
+    let sorted = in-order (t .k) [] (t .lines) (lines .1) in
+    let last : lines .0 ≡ reverse (t .lines) = got-same (sym (lines .1) ∙ check-lines (t .k) [] (t .lines) sorted) in
+    record {
+      bits = leb-true 1 (t .k) (both-left (leb 1 (t .k)) _ (k .0));
+      few-bits = leb-true (t .k) 12 (both-right (leb 1 (t .k)) _ (k .0));
+      some = leb-true 1 (length (t .lines)) (both-left (leb 1 (length (t .lines))) _ (n .0));
+      few = leb-true (length (t .lines)) 2048 (both-right (leb 1 (length (t .lines))) _ (n .0));
+      small = leb-true (t .total) totalLimit (total .0);
+      sorted = sorted;
+      ends = ap closed (sym last) ∙ unless-got _ _ _ _ (lines .2) .0;
+    }
+
+pub checked : (t : Table) → Proper t → checkTable t ≡ got t
+unfolding checkTable unless then
+checked t p =
+    rw (
+      le-leb 1 (t .k) (p .bits),
+      le-leb (t .k) 12 (p .few-bits),
+      le-leb 1 (length (t .lines)) (p .some),
+      le-leb (length (t .lines)) 2048 (p .few),
+      le-leb (t .total) totalLimit (p .small),
+      check-lines (t .k) [] (t .lines) (p .sorted),
+      p .ends,
+    )

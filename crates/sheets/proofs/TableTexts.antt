@@ -1,0 +1,127 @@
+-- The text of a rule sheet as its lines, and of each line as its fields; and how long it is.
+use Prim.Native.Nat.{ℕ, _+_, _≤_, _<_}
+use mathlib.Core.Path.{_≡_, refl, sym, ap, _∙_}
+use mathlib.Core.List.{List, [], _∷_, _++_, append-assoc}
+use native.Mathlib.Omega.{arith}
+use lib.ListN.{length, length-append}
+use Rattle.numerals.specs.Decimal.{width, decimal}
+use Rattle.numerals.specs.Suffix.{suffixText}
+use Rattle.numerals.specs.Text.{split}
+use Rattle.numerals.proofs.Decimal.{length-decimal, decimal-free, width-least}
+use Rattle.numerals.proofs.Fields.{Free}
+use Rattle.numerals.proofs.Suffix.{length-suffix, suffix-free}
+use Rattle.packing.specs.Count.{Line}
+use Rattle.sheets.specs.RuleSheet.{Table, tableWord, lineText, linesText, tableText}
+use Rattle.sheets.specs.Writing.{headText, lineWidth}
+use Rattle.sheets.proofs.Joins.{join, join-more, join-free, AllFree, split-join}
+
+-- the fields of line 1 and of a rule line
+abbrev pub headRow : ℕ → ℕ → ℕ → List (List ℕ)
+headRow k n total = tableWord ∷ decimal k ∷ decimal n ∷ decimal total ∷ []
+
+abbrev pub lineRow : Line → List (List ℕ)
+lineRow l = decimal (l .service + 1) ∷ suffixText (l .rule .len) (l .rule .value) ∷ decimal (l .rule .backend + 1) ∷ []
+
+-- the lines, and the empty one behind the last LF
+unfoldable pub rows : List Line → List (List ℕ)
+rows [] = [] ∷ []
+rows (l ∷ ls) = join 32 (lineRow l) ∷ rows ls
+
+pub rows-some : (ls : List Line) → 1 ≤ length (rows ls)
+unfolding rows
+rows-some [] = omega arith
+rows-some (l ∷ ls) = omega arith
+
+abbrev pub tableRows : Table → List (List ℕ)
+tableRows t = join 32 (headRow (t .k) (length (t .lines)) (t .total)) ∷ rows (t .lines)
+
+-- a rule line is its fields joined, and an LF
+line-joined : (l : Line) (rest : List ℕ) → lineText l ++ rest ≡ join 32 (lineRow l) ++ 10 ∷ rest
+unfolding lineText join
+line-joined l rest = simp append-assoc
+
+lines-joined : (ls : List Line) → linesText ls ≡ join 10 (rows ls)
+unfolding linesText rows join
+lines-joined [] = refl
+lines-joined (l ∷ ls) =
+    line-joined l (linesText ls)
+    ∙ ap (λ (r : List ℕ). join 32 (lineRow l) ++ 10 ∷ r) (lines-joined ls)
+    ∙ sym (join-more 10 (join 32 (lineRow l)) (rows ls) (rows-some ls))
+
+-- a rule sheet is its lines joined
+pub table-joined : (t : Table) → tableText t ≡ join 10 (tableRows t)
+unfolding tableText join
+table-joined t =
+    let head = join 32 (headRow (t .k) (length (t .lines)) (t .total)) in
+    let front : tableText t ≡ head ++ 10 ∷ linesText (t .lines) = simp append-assoc in
+    front ∙ ap (λ (r : List ℕ). head ++ 10 ∷ r) (lines-joined (t .lines)) ∙ sym (join-more 10 head (rows (t .lines)) (rows-some (t .lines)))
+
+-- what the fields are free of
+
+word-free : (c : ℕ) → c < 65 → Free c tableWord
+word-free c h = (λ e. omega arith, (λ e. omega arith, (λ e. omega arith, (λ e. omega arith, (λ e. omega arith, tt)))))
+
+head-free : (c k n total : ℕ) → c < 42 → AllFree c (headRow k n total)
+head-free c k n total h =
+    (word-free c (omega arith), (decimal-free c k (omega arith), (decimal-free c n (omega arith), (decimal-free c total (omega arith), tt))))
+
+line-free : (c : ℕ) (l : Line) → c < 42 → AllFree c (lineRow l)
+line-free c l h =
+    (decimal-free c (l .service + 1) (omega arith), (suffix-free c (l .rule .len) (l .rule .value) h, (decimal-free c (l .rule .backend + 1) (omega arith), tt)))
+
+rows-free : (ls : List Line) → AllFree 10 (rows ls)
+unfolding rows
+rows-free [] = (tt, tt)
+rows-free (l ∷ ls) = (join-free 32 10 (lineRow l) (λ e. omega arith) (line-free 10 l (omega arith)), rows-free ls)
+
+-- so each text has these lines, and each line these fields
+
+pub head-split : (k n total : ℕ) → split 32 (join 32 (headRow k n total)) ≡ headRow k n total
+head-split k n total = split-join 32 tableWord (decimal k ∷ decimal n ∷ decimal total ∷ []) (head-free 32 k n total (omega arith))
+
+pub line-split : (l : Line) → split 32 (join 32 (lineRow l)) ≡ lineRow l
+line-split l =
+    split-join 32 (decimal (l .service + 1)) (suffixText (l .rule .len) (l .rule .value) ∷ decimal (l .rule .backend + 1) ∷ [])
+    (line-free 32 l (omega arith))
+
+pub table-split : (t : Table) → split 10 (tableText t) ≡ tableRows t
+table-split t =
+    let n = length (t .lines) in
+    let head = headRow (t .k) n (t .total) in
+    ap (split 10) (table-joined t)
+    ∙ split-join 10 (join 32 head) (rows (t .lines))
+    (join-free 32 10 head (λ e. omega arith) (head-free 10 (t .k) n (t .total) (omega arith)), rows-free (t .lines))
+
+-- how many bytes the lines have
+
+unfoldable pub linesWidth : List Line → ℕ
+linesWidth [] = 0
+linesWidth (l ∷ ls) = lineWidth (l .service) (l .rule .len) (l .rule .backend) + linesWidth ls
+
+-- a line in its limits has at most 20
+pub line-short : (service len backend : ℕ) → service < 64 → len ≤ 12 → backend < 32 → lineWidth service len backend ≤ 20
+line-short service len backend s l b =
+    omega (arith, width-least 1 (service + 1) (omega arith), width-least 1 (backend + 1) (omega arith))
+
+pub length-line : (l : Line) → length (lineText l) ≡ lineWidth (l .service) (l .rule .len) (l .rule .backend)
+unfolding lineText
+length-line l =
+    simp (length-append, length-decimal, length-suffix) (omega arith)
+
+pub length-lines : (ls : List Line) → length (linesText ls) ≡ linesWidth ls
+unfolding linesText linesWidth
+length-lines [] = refl
+length-lines (l ∷ ls) = omega (arith, length-append (lineText l) (linesText ls), length-line l, length-lines ls)
+
+pub length-table : (t : Table) → length (tableText t) ≡ 9 + width (t .k) + width (length (t .lines)) + width (t .total) + linesWidth (t .lines)
+unfolding tableText
+length-table t = simp (length-append, length-decimal, length-lines) (omega arith)
+
+pub length-head : (k n total : ℕ) → length (headText k n total) ≡ 9 + width k + width n + width total
+unfolding headText
+length-head k n total = simp (length-append, length-decimal) (omega arith)
+
+-- a rule sheet is line 1 and the rule lines
+pub head-lines : (t : Table) → tableText t ≡ headText (t .k) (length (t .lines)) (t .total) ++ linesText (t .lines)
+unfolding tableText headText
+head-lines t = simp append-assoc

@@ -1,0 +1,176 @@
+-- `percentage_sheet::read_services` meets its contract. The invariant: the memory holds the services read so far, and they stand before what is read from `start` on.
+use Prim.Native.Nat.{ℕ, _-_, _≤_}
+use mathlib.Core.Path.{_≡_, refl, sym, ap, _∙_}
+use mathlib.Core.List.{List, [], _∷_, _++_}
+use native.Mathlib.Omega.{arith}
+use lib.ListN.{length, length-set, length-append}
+use lib.Seq.{slice, slice-empty}
+use borrow.Author.Needs.{needs}
+use Rattle.numerals.specs.Text.{split}
+use Rattle.sheets.specs.Reading.{got, then}
+use Rattle.sheets.specs.PercentageSheet.{Service, serviceLines, volumesOf, weightsOf}
+use Rattle.sheets.specs.Kept.{Holds, Followed}
+use Rattle.sheets.proofs.Steps.{behind, behind-none, behind-one, behind-all, behind-turned, lines-end}
+use Rattle.sheets.proofs.Memory.{volumes-more, weights-more, holds-none, holds-more, kept-whole}
+use Rattle.sheets.proofs.percentage_sheet.read_services.Statement.{statement}
+use Rattle.sheets.proofs.percentage_sheet.read_services.Tie as tie
+
+-- the lines from a position on
+abbrev lines : List ℕ → ℕ → List (List ℕ)
+lines text start = split 10 (slice start (length text) text)
+
+record Serving (text : List ℕ) (from : ℕ) (volumes₀ sizes₀ weights₀ volumes sizes weights : List ℕ) (start i at : ℕ) : Type 0 where
+  done : List Service
+  count : length done ≡ i
+  inside : start ≤ length text
+  long-volumes : length volumes ≡ length volumes₀
+  long-sizes : length sizes ≡ length sizes₀
+  long-weights : length weights ≡ length weights₀
+  holds : Holds (volumesOf done) (weightsOf done) volumes sizes weights i at
+  read : serviceLines 0 (lines text from) ≡ behind done (serviceLines i (lines text start))
+
+abbrev Inv-loop : tie.InvT-loop
+Inv-loop text head from volumes₀ sizes₀ weights₀ start₀ i₀ at₀ volumes sizes weights start i at =
+    Serving text from volumes₀ sizes₀ weights₀ volumes sizes weights start i at
+
+abbrev μ-loop : tie.MeasureT-loop
+μ-loop text head from volumes₀ sizes₀ weights₀ start₀ i₀ at₀ volumes sizes weights start i at = length text - start
+
+loop-holds : tie.Need-loop-holds Inv-loop μ-loop
+unfolding volumesOf weightsOf
+loop-holds c =
+    let a = c .before .before .before .before .args in
+    record {
+      done = [];
+      count = refl;
+      inside = omega arith;
+      long-volumes = refl;
+      long-sizes = refl;
+      long-weights = refl;
+      holds = holds-none (a .volumes .now) (a .sizes .now) (a .weights .now);
+      read = sym (behind-none (serviceLines 0 (lines (a .text .now) (a .from))));
+    }
+
+read-line-requires : tie.Need-read-line-requires Inv-loop μ-loop
+read-line-requires c κs = (omega arith, ((omega arith, omega arith), omega arith))
+
+enum-known-read : tie.Need-enum-known-read Inv-loop μ-loop
+enum-known-read c = search needs
+
+add-refused : tie.Need-add-refused Inv-loop μ-loop
+add-refused c = omega (arith, c .before .before .before .before .before .before .before .before .before .before .before .loop .inv .holds .few)
+
+refused-requires : tie.Need-refused-requires Inv-loop μ-loop
+refused-requires c κs = tt
+
+same-length : tie.Need-same-length Inv-loop μ-loop
+same-length c = c .before .before .before .before .before .before .before .before .read-line .kept .1 .1 .1 .0 ∙ c .before .before .before .before .before .before .before .before .before .before .before .before .loop .inv .long-volumes
+
+same-length-2 : tie.Need-same-length-2 Inv-loop μ-loop
+same-length-2 c = c .before .before .before .before .before .before .before .before .before .before .before .before .loop .inv .long-sizes
+
+same-length-3 : tie.Need-same-length-3 Inv-loop μ-loop
+same-length-3 c = c .before .before .before .before .before .before .before .before .read-line .kept .1 .1 .1 .1 .0 ∙ c .before .before .before .before .before .before .before .before .before .before .before .before .loop .inv .long-weights
+
+returns : tie.Need-returns Inv-loop μ-loop
+unfolding then
+returns c =
+    let i = c .before .before .before .before .before .before .before .before .before .before .before .before .loop .inv in
+    let turned = rw (c .before .before .read .given .1) at (c .before .before .before .before .before .before .before .before .read-line .ensures) in
+    rw (c .refused .ensures, i .read, turned, behind-turned (i .done)) refl
+
+enum-known-read-2 : tie.Need-enum-known-read-2 Inv-loop μ-loop
+enum-known-read-2 c = search needs
+
+-- the line that was read
+followed :
+    (c : tie.After-known-told2 Inv-loop μ-loop)
+    → let l = c .before .before .before .before .before .before .before .before .before .before .before .loop in
+    let r = c .before .before .before .before .before .before .before .read-line in
+    Followed (c .before .before .before .before .before .before .before .before .before .before .before .before .before .before .before .before .args .text .now) (l .volumes) (r .last .1 .1 .1 .0) (l .weights) (r .last .1 .1 .1 .1 .0) (l .at) (l .i) (l .start) (c .before .read2 .given .0 .0) (c .before .read2 .given .0 .1 .0)
+followed c = rw (c .before .read2 .given .1) at (c .before .before .before .before .before .before .before .read-line .ensures)
+
+mul-sizes : tie.Need-mul-sizes Inv-loop μ-loop
+mul-sizes c = omega (arith, followed c, c .before .before .before .before .before .before .before .before .before .before .before .loop .inv)
+
+slice-write-sizes : tie.Need-slice-write-sizes Inv-loop μ-loop
+slice-write-sizes c = omega (arith, followed c, c .before .before .before .before .before .before .before .before .before .before .before .loop .inv)
+
+add-at : tie.Need-add-at Inv-loop μ-loop
+add-at c = omega (arith, followed c, c .before .before .before .before .before .before .before .before .before .before .before .loop .inv)
+
+add-i : tie.Need-add-i Inv-loop μ-loop
+add-i c = omega (arith, followed c, c .before .before .before .before .before .before .before .before .before .before .before .loop .inv)
+
+loop-less : tie.Need-loop-less Inv-loop μ-loop
+loop-less c = omega (arith, followed c, c .before .before .before .before .before .before .before .before .before .before .before .loop .inv)
+
+loop-again : tie.Need-loop-again Inv-loop μ-loop
+loop-again c =
+    let f = followed c in
+    let l = c .before .before .before .before .before .before .before .before .before .before .before .loop in
+    let r = c .before .before .before .before .before .before .before .read-line in
+    let s = f .service in
+    record {
+      done = l .inv .done ++ s ∷ [];
+      count = length-append (l .inv .done) (s ∷ []) ∙ omega (arith, l .inv .count);
+      inside = f .within;
+      long-volumes = r .kept .1 .1 .1 .0 ∙ l .inv .long-volumes;
+      long-sizes = length-set (l .sizes) (l .i) (c .before .read2 .given .0 .0) ∙ l .inv .long-sizes;
+      long-weights = r .kept .1 .1 .1 .1 .0 ∙ l .inv .long-weights;
+      holds =
+          rw (volumes-more (l .inv .done) s, weights-more (l .inv .done) s)
+          (holds-more (l .inv .holds) (f .stored) (omega (arith, f .stored .place, l .inv .long-sizes)));
+      read = l .inv .read ∙ ap (behind (l .inv .done)) (f .read) ∙ behind-one (l .inv .done) s _;
+    }
+
+finish-requires : tie.Need-finish-requires Inv-loop μ-loop
+finish-requires c κs = tt
+
+same-length-4 : tie.Need-same-length-4 Inv-loop μ-loop
+same-length-4 c = c .before .before .loop .inv .long-volumes
+
+same-length-5 : tie.Need-same-length-5 Inv-loop μ-loop
+same-length-5 c = c .before .before .loop .inv .long-sizes
+
+same-length-6 : tie.Need-same-length-6 Inv-loop μ-loop
+same-length-6 c = c .before .before .loop .inv .long-weights
+
+returns-2 : tie.Need-returns-2 Inv-loop μ-loop
+unfolding then split
+returns-2 c =
+    let a = c .before .before .before .before .before .before .before .args in
+    let l = c .before .before .loop in
+    let ends : l .start ≡ length (a .text .now) = omega (arith, l .inv .inside) in
+    let none : lines (a .text .now) (l .start) ≡ [] ∷ [] = rw (ends, slice-empty (length (a .text .now)) (a .text .now)) in
+    let all : serviceLines 0 (lines (a .text .now) (a .from)) ≡ got (l .inv .done) =
+    l .inv .read ∙ rw (none, lines-end (l .i)) (behind-all (l .inv .done)) in
+    rw (c .finish .ensures, all) (kept-whole (a .head) (l .inv .done) (l .inv .count) (l .inv .holds))
+
+pub read-services-spec : {M : Type 1} → statement M
+read-services-spec =
+    tie.close
+    (tie.spec
+    Inv-loop
+    μ-loop
+    loop-holds
+    read-line-requires
+    enum-known-read
+    add-refused
+    refused-requires
+    same-length
+    same-length-2
+    same-length-3
+    returns
+    enum-known-read-2
+    mul-sizes
+    slice-write-sizes
+    add-at
+    add-i
+    loop-less
+    loop-again
+    finish-requires
+    same-length-4
+    same-length-5
+    same-length-6
+    returns-2)

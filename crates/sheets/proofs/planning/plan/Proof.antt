@@ -1,0 +1,180 @@
+-- `planning::plan` meets its contract: what the memory holds is packed.
+use Prim.Native.Nat.{_≤_}
+use mathlib.Core.Path.{_≡_, refl, sym}
+use native.Mathlib.Omega.{arith}
+use lib.ListN.{length}
+use lib.Seq.{length-take-le}
+use borrow.Author.Needs.{needs}
+use Rattle.sheets.specs.PercentageSheet.{readSheet}
+use Rattle.sheets.specs.Calls.{planAnswer, fromSheet, planFilled, figuresFor, cellsFor}
+use Rattle.sheets.specs.Kept.{SheetKept}
+use Rattle.sheets.proofs.Packable.{planFrom, held-figures, held-cells, plan-made, plan-buffer}
+use Rattle.sheets.proofs.planning.plan.Statement.{statement}
+use Rattle.sheets.proofs.planning.plan.Tie as tie
+
+slice-aggregate-read-sheet : tie.Need-slice-aggregate-read-sheet
+slice-aggregate-read-sheet c = search needs
+
+slice-aggregate-read-sheet-2 : tie.Need-slice-aggregate-read-sheet-2
+slice-aggregate-read-sheet-2 c = search needs
+
+slice-aggregate-read-sheet-3 : tie.Need-slice-aggregate-read-sheet-3
+slice-aggregate-read-sheet-3 c = search needs
+
+read-sheet-requires : tie.Need-read-sheet-requires
+read-sheet-requires c κs = search needs
+
+enum-known-read : tie.Need-enum-known-read
+enum-known-read c = search needs
+
+enum-known-read-2 : tie.Need-enum-known-read-2
+enum-known-read-2 c = search needs
+
+kept :
+    (c : tie.After-known-told2)
+    → let l = c .before .before .before .before .before .before .read-sheet .last in
+    let g = c .before .read2 .given .0 in
+    SheetKept (readSheet (c .before .before .before .before .before .before .before .before .before .before .before .before .before .args .text .now)) (l .1 .0) (l .1 .1 .0) (l .1 .1 .1 .0) (g .0) (g .1 .0) (g .1 .1 .0)
+kept c = rw (c .before .read2 .given .1) at (c .before .before .before .before .before .before .read-sheet .ensures)
+
+-- the arrays are long enough
+room-volumes : (c : tie.After-known-told2) → c .before .read2 .given .0 .1 .0 ≤ length (c .before .before .before .before .before .before .read-sheet .last .1 .0)
+room-volumes c = omega (arith, kept c .holds .few, c .before .before .before .before .before .before .read-sheet .kept .1 .0)
+
+room-sizes : (c : tie.After-known-told2) → c .before .read2 .given .0 .1 .0 ≤ length (c .before .before .before .before .before .before .read-sheet .last .1 .1 .0)
+room-sizes c = omega (arith, kept c .holds .few, c .before .before .before .before .before .before .read-sheet .kept .1 .1 .0)
+
+room-weights : (c : tie.After-known-told2) → c .before .read2 .given .0 .1 .1 .0 ≤ length (c .before .before .before .before .before .before .read-sheet .last .1 .1 .1 .0)
+room-weights c = omega (arith, kept c .holds .few, kept c .holds .short, c .before .before .before .before .before .before .read-sheet .kept .1 .1 .1 .0)
+
+array-share-prefix-volumes : tie.Need-array-share-prefix-volumes
+array-share-prefix-volumes c = room-volumes (c)
+
+slice-aggregate-pack : tie.Need-slice-aggregate-pack
+slice-aggregate-pack c = sym (length-take-le _ _ (room-volumes (c .before)))
+
+array-share-prefix-sizes : tie.Need-array-share-prefix-sizes
+array-share-prefix-sizes c = room-sizes (c .before)
+
+slice-aggregate-pack-2 : tie.Need-slice-aggregate-pack-2
+slice-aggregate-pack-2 c = sym (length-take-le _ _ (room-sizes (c .before .before)))
+
+array-share-prefix-weights : tie.Need-array-share-prefix-weights
+array-share-prefix-weights c = room-weights (c .before .before)
+
+slice-aggregate-pack-3 : tie.Need-slice-aggregate-pack-3
+slice-aggregate-pack-3 c = sym (length-take-le _ _ (room-weights (c .before .before .before)))
+
+pack-requires : tie.Need-pack-requires
+pack-requires c κs = search needs
+
+enum-known-packed : tie.Need-enum-known-packed
+enum-known-packed c = search needs
+
+enum-known-packed-2 : tie.Need-enum-known-packed-2
+enum-known-packed-2 c = search needs
+
+enum-told : tie.Need-enum-told
+enum-told c = search needs
+
+enum-told-2 : tie.Need-enum-told-2
+enum-told-2 c = search needs
+
+returns : tie.Need-returns
+unfolding planAnswer
+returns c =
+    let turned = rw (c .before .read .given .1) at (c .before .before .before .before .before .before .read-sheet .ensures) in
+    (rw turned refl, (refl, refl))
+
+same-length : tie.Need-same-length
+same-length c = search needs
+
+same-length-2 : tie.Need-same-length-2
+same-length-2 c = search needs
+
+-- the answer and the buffers, from the packing's
+packed :
+    (c : tie.After-pack)
+    → let k = c .before .before .before .before .before .before in
+    let a = k .before .before .before .before .before .before .before .before .before .before .before .before .before .args in
+    let r = planFrom (k .before .read2 .given .0 .0 .k) (k .before .read2 .given .0 .1 .0) (c .pack .result) in
+    let l = c .pack .last .1 .1 .1 .1 .1 .1 in
+    (r ≡ planAnswer (a .text .now) (length (a .figures .now)) (length (a .table .now)))
+    × ((l .0 ≡ planFilled r (a .figures .now) (fromSheet (readSheet (a .text .now)) figuresFor))
+    × (l .1 .0 ≡ planFilled r (a .table .now) (fromSheet (readSheet (a .text .now)) cellsFor)))
+packed c =
+    let k = c .before .before .before .before .before .before in
+    let a = k .before .before .before .before .before .before .before .before .before .before .before .before .before .args in
+    let text = a .text .now in
+    let p = c .pack .result in (
+      plan-made text (kept k) p (length (a .figures .now)) (length (a .table .now)) (c .pack .ensures .0),
+      (
+        plan-buffer text (kept k) p figuresFor _ (a .figures .now) _ (held-figures text (kept k)) (c .pack .ensures .1 .0),
+        plan-buffer text (kept k) p cellsFor _ (a .table .now) _ (held-cells text (kept k)) (c .pack .ensures .1 .1 .0),
+      ),
+    )
+
+returns-2 : tie.Need-returns-2
+returns-2 c = rw (c .before .packed .given .1) at (packed (c .before .before .before .before .before .before .before))
+
+same-length-3 : tie.Need-same-length-3
+same-length-3 c = search needs
+
+same-length-4 : tie.Need-same-length-4
+same-length-4 c = search needs
+
+returns-3 : tie.Need-returns-3
+returns-3 c = rw (c .before .packed2 .given .1) at (packed (c .before .before .before .before .before .before .before))
+
+same-length-5 : tie.Need-same-length-5
+same-length-5 c = search needs
+
+same-length-6 : tie.Need-same-length-6
+same-length-6 c = search needs
+
+returns-4 : tie.Need-returns-4
+returns-4 c = rw (c .enum-told .given .1) at (packed (c .before .before .before .before .before .before))
+
+same-length-7 : tie.Need-same-length-7
+same-length-7 c = search needs
+
+same-length-8 : tie.Need-same-length-8
+same-length-8 c = search needs
+
+returns-5 : tie.Need-returns-5
+returns-5 c = rw (c .enum-told2 .given .1) at (packed (c .before .before .before .before .before .before))
+
+pub plan-spec : {M : Type 1} → statement M
+plan-spec =
+    tie.close
+    (tie.spec
+    slice-aggregate-read-sheet
+    slice-aggregate-read-sheet-2
+    slice-aggregate-read-sheet-3
+    read-sheet-requires
+    enum-known-read
+    enum-known-read-2
+    array-share-prefix-volumes
+    slice-aggregate-pack
+    array-share-prefix-sizes
+    slice-aggregate-pack-2
+    array-share-prefix-weights
+    slice-aggregate-pack-3
+    pack-requires
+    enum-known-packed
+    enum-known-packed-2
+    enum-told
+    enum-told-2
+    returns
+    same-length
+    same-length-2
+    returns-2
+    same-length-3
+    same-length-4
+    returns-3
+    same-length-5
+    same-length-6
+    returns-4
+    same-length-7
+    same-length-8
+    returns-5)

@@ -1,0 +1,135 @@
+-- What the reader of the percentage sheet answers and leaves in memory, by cases of its answers: line 1, the weights of a line, a line of a service, the whole sheet.
+use Prim.Native.Nat.{ℕ, _+_, _*_, _≤_, _<_}
+use mathlib.Core.Path.{_≡_}
+use mathlib.Core.List.{List, [], _∷_, _++_}
+use lib.Dec.{leb, ltb, eqb}
+use lib.ListN.{length, take, drop}
+use lib.Seq.{slice}
+use Rattle.numerals.specs.Pick.{pick}
+use Rattle.numerals.specs.Text.{split}
+use Rattle.expansion.specs.Answer.{unit}
+use Rattle.expansion.specs.declared.refusal.Refusal.the-variants.{Unbalanced, NoService, TableShort}
+use Rattle.sheets.specs.Reading.{Reading, got, turned, then, unless}
+use Rattle.sheets.specs.PercentageSheet.{Sheet, Service, headFields, weightFields, serviceFields, serviceLines, sum}
+use Rattle.sheets.specs.PercentageSheet as sheet
+use Rattle.sheets.specs.Calls.{refusedAt}
+use Rattle.sheets.specs.declared.percentage_sheet.Head.{Head}
+use Rattle.sheets.specs.declared.percentage_sheet.HeadRead as head-read
+use Rattle.sheets.specs.declared.percentage_sheet.HeadRead.the-variants as head-variants
+use Rattle.sheets.specs.declared.percentage_sheet.WeightsRead as weights-read
+use Rattle.sheets.specs.declared.percentage_sheet.WeightsRead.the-variants as weights-variants
+use Rattle.sheets.specs.declared.percentage_sheet.VolumeRead as volume-read
+use Rattle.sheets.specs.declared.percentage_sheet.VolumeRead.the-variants as volume-variants
+use Rattle.sheets.specs.declared.percentage_sheet.ServiceRead as service-read
+use Rattle.sheets.specs.declared.percentage_sheet.ServiceRead.the-variants as service-variants
+use Rattle.sheets.specs.declared.percentage_sheet.LineRead as line-read
+use Rattle.sheets.specs.declared.percentage_sheet.LineRead.the-variants as line-variants
+use Rattle.sheets.specs.declared.percentage_sheet.SheetRead as sheet-read
+use Rattle.sheets.specs.declared.percentage_sheet.SheetRead.the-variants as sheet-variants
+
+-- line 1, as it was answered
+abbrev pub headOf : Head → sheet.Head
+headOf h = record { k = h .k; tolerance = h .tolerance; capacity = h .capacity }
+
+abbrev pub HeadOf : head-read.HeadRead → List (List ℕ) → Type 0
+HeadOf (head-variants.Head h) fs = headFields fs ≡ got (headOf h)
+HeadOf (head-variants.Refused why) fs = headFields fs ≡ turned why 1
+
+-- the weights of a line, read behind the first `at` places of the row
+pub record Weighed (before after : List ℕ) (at : ℕ) (fs : List (List ℕ)) (count amount : ℕ) : Type 0 where
+  pub weights : List ℕ
+  pub read : (line : ℕ) → weightFields line fs ≡ got weights
+  pub size : length weights ≡ count
+  pub few : count ≤ 32
+  pub total : sum weights ≡ amount
+  pub row : take (at + count) after ≡ take at before ++ weights
+
+abbrev pub WeightsOf : weights-read.WeightsRead → List ℕ → List ℕ → ℕ → List (List ℕ) → Type 0
+WeightsOf (weights-variants.Weights count amount) before after at fs = Weighed before after at fs count amount
+WeightsOf (weights-variants.Refused why) before after at fs = (line : ℕ) → weightFields line fs ≡ turned why line
+
+-- the line of service i up to its weights: its word, the number of its fields and its volume were found right
+pub record Opened (i : ℕ) (fs : List (List ℕ)) (v : ℕ) : Type 0 where
+  pub place : i < 64
+  pub some : 3 ≤ length fs
+  pub few : length fs ≤ 34
+  pub rest :
+      serviceFields i fs
+      ≡ then (weightFields (i + 2) (drop 2 fs)) (λ ws.
+      unless (eqb (sum ws) unit) Unbalanced (i + 2) (got (record { volume = v; weights = ws })))
+
+abbrev pub VolumeOf : volume-read.VolumeRead → ℕ → List (List ℕ) → Type 0
+VolumeOf (volume-variants.Volume v) i fs = Opened i fs v
+VolumeOf (volume-variants.Refused why) i fs = serviceFields i fs ≡ turned why (i + 2)
+
+-- service i, with n weights, stands behind the first i volumes and the first `at` places of the row
+pub record Stored (service : Service) (vs vs′ ws ws′ : List ℕ) (at i n : ℕ) : Type 0 where
+  pub place : i < 64
+  pub size : length (service .weights) ≡ n
+  pub few : n ≤ 32
+  pub volumes : take (i + 1) vs′ ≡ take i vs ++ service .volume ∷ []
+  pub row : take (at + n) ws′ ≡ take at ws ++ service .weights
+
+-- the line of service i was read and stored
+pub record Served (vs vs′ ws ws′ : List ℕ) (at i : ℕ) (fs : List (List ℕ)) (n : ℕ) : Type 0 where
+  pub service : Service
+  pub read : serviceFields i fs ≡ got service
+  pub stored : Stored service vs vs′ ws ws′ at i n
+
+abbrev pub ServiceOf : service-read.ServiceRead → List ℕ → List ℕ → List ℕ → List ℕ → ℕ → ℕ → List (List ℕ) → Type 0
+ServiceOf (service-variants.Weights n) vs vs′ ws ws′ at i fs =
+    Served vs vs′ ws ws′ at i fs n
+ServiceOf (service-variants.Refused why) vs vs′ ws ws′ at i fs = serviceFields i fs ≡ turned why (i + 2)
+
+-- the line of service i, the one at position `start`, was read and stored; the next one begins at `next`
+pub record Followed (text vs vs′ ws ws′ : List ℕ) (at i start count next : ℕ) : Type 0 where
+  pub service : Service
+  pub read :
+      serviceLines i (split 10 (slice start (length text) text))
+      ≡ then (serviceLines (i + 1) (split 10 (slice next (length text) text))) (λ ss. got (service ∷ ss))
+  pub after : start < next
+  pub within : next ≤ length text
+  pub stored : Stored service vs vs′ ws ws′ at i count
+
+abbrev pub LineOf : line-read.LineRead → List ℕ → List ℕ → List ℕ → List ℕ → List ℕ → ℕ → ℕ → ℕ → Type 0
+LineOf (line-variants.Service count next) text vs vs′ ws ws′ at i start = Followed text vs vs′ ws ws′ at i start count next
+LineOf (line-variants.Refused why) text vs vs′ ws ws′ at i start =
+    serviceLines i (split 10 (slice start (length text) text)) ≡ turned why (i + 2)
+
+-- how many weights each service has, and all weights in one row
+unfoldable pub sizesOf : List (List ℕ) → List ℕ
+sizesOf [] = []
+sizesOf (ws ∷ wss) = length ws ∷ sizesOf wss
+
+unfoldable pub rowOf : List (List ℕ) → List ℕ
+rowOf [] = []
+rowOf (ws ∷ wss) = ws ++ rowOf wss
+
+-- the memory holds the volumes and the weights of n services: n volumes, n sizes, and the weights in one row
+pub record Holds (volumes : List ℕ) (weights : List (List ℕ)) (vs zs ws : List ℕ) (n row : ℕ) : Type 0 where
+  pub services : length volumes ≡ n
+  pub few : n ≤ 64
+  pub short : row ≤ 32 * n
+  pub held-volumes : take n vs ≡ volumes
+  pub held-sizes : take n zs ≡ sizesOf weights
+  pub held-weights : take row ws ≡ rowOf weights
+
+-- a sheet was read, its numbers are the answer's, and the memory holds it
+pub record SheetKept (reading : Reading Sheet) (vs zs ws : List ℕ) (head : Head) (n row : ℕ) : Type 0 where
+  pub sheet : Sheet
+  pub read : reading ≡ got sheet
+  pub k : sheet .k ≡ head .k
+  pub tolerance : sheet .tolerance ≡ head .tolerance
+  pub capacity : sheet .capacity ≡ head .capacity
+  pub holds : Holds (sheet .volumes) (sheet .weights) vs zs ws n row
+
+abbrev pub SheetOf : sheet-read.SheetRead → Reading Sheet → List ℕ → List ℕ → List ℕ → Type 0
+SheetOf (sheet-variants.Sheet head n row) reading vs zs ws = SheetKept reading vs zs ws head n row
+SheetOf (sheet-variants.Refused r) reading vs zs ws = reading ≡ turned (r .why) (r .line)
+
+-- what is answered after the lines: no service, then a capacity below their number
+unfoldable pub finished : Head → ℕ → ℕ → sheet-read.SheetRead
+finished head n row =
+    pick (ltb 0 n)
+    (pick (leb n (head .capacity)) (sheet-variants.Sheet head n row) (sheet-variants.Refused (refusedAt TableShort 1)))
+    (sheet-variants.Refused (refusedAt NoService 1))

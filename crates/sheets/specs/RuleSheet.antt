@@ -1,0 +1,141 @@
+-- The rule sheet (document 01, "Rule sheet and program"): its text, and its reading with every refusal in its order.
+use Prim.Native.Nat.{ℕ, zero, suc, _+_, _-_, _^_}
+use mathlib.Core.Bool.{Bool, true, false}
+use mathlib.Core.List.{List, [], _∷_, _++_, reverse}
+use lib.Dec.{leb, ltb, eqb}
+use lib.ListN.{length}
+use Rattle.numerals.specs.Pick.{pick, both}
+use Rattle.numerals.specs.Decimal.{number, decimal}
+use Rattle.numerals.specs.Suffix.{suffix, suffixText}
+use Rattle.numerals.specs.Text.{split}
+use Rattle.numerals.specs.declared.suffixes.SuffixRead.{SuffixRead}
+use Rattle.numerals.specs.declared.suffixes.SuffixRead.the-variants.{Suffix, Bad}
+use Rattle.expansion.specs.declared.rule.Rule.{Rule}
+use Rattle.expansion.specs.declared.refusal.Refusal.the-variants.{Malformed, BadField, TooMany, NoService, Order, Miscount, TooLong}
+use Rattle.packing.specs.Count.{Line}
+use Rattle.sheets.specs.Reading.{Reading, got, turned, then, unless, onField, same, field}
+use Rattle.sheets.specs.PercentageSheet.{textLimit}
+
+-- what a rule sheet says; services and backends by their place from 0
+pub record Table : Type 0 where
+  pub k : ℕ
+  pub total : ℕ
+  pub lines : List Line
+
+-- the largest total
+unfoldable pub totalLimit : ℕ
+totalLimit = 2621440000000000
+
+-- TABLE
+abbrev pub tableWord : List ℕ
+tableWord = 84 ∷ 65 ∷ 66 ∷ 76 ∷ 69 ∷ []
+
+-- the text of a line: service suffix backend, numbered from 1
+unfoldable pub lineText : Line → List ℕ
+lineText l =
+    decimal (l .service + 1) ++ 32 ∷ suffixText (l .rule .len) (l .rule .value) ++ 32 ∷ decimal (l .rule .backend + 1) ++ 10 ∷ []
+
+unfoldable pub linesText : List Line → List ℕ
+linesText [] = []
+linesText (l ∷ ls) = lineText l ++ linesText ls
+
+-- the text of a rule sheet
+unfoldable pub tableText : Table → List ℕ
+tableText t =
+    tableWord
+    ++ 32 ∷ decimal (t .k)
+    ++ 32 ∷ decimal (length (t .lines))
+    ++ 32 ∷ decimal (t .total)
+    ++ 10 ∷ linesText (t .lines)
+
+-- what line 1 says: TABLE k n total
+pub record TableHead : Type 0 where
+  pub k : ℕ
+  pub n : ℕ
+  pub total : ℕ
+
+unfoldable pub tableFields : List (List ℕ) → Reading TableHead
+tableFields fs =
+    unless (same (field fs 0) tableWord) Malformed 1
+    (unless (eqb (length fs) 4) Malformed 1
+    (onField (number 1 12 (field fs 1)) 1 (λ k.
+    onField (number 1 2048 (field fs 2)) 1 (λ n.
+    onField (number 0 totalLimit (field fs 3)) 1 (λ t.
+    got (record { k = k; n = n; total = t }))))))
+
+unfoldable pub onSuffix : {A : Type 0} → SuffixRead → ℕ → (ℕ → ℕ → Reading A) → Reading A
+onSuffix (Suffix l v) line f = f l v
+onSuffix Bad line f = turned BadField line
+
+-- how many of the lines are of a service
+unfoldable pub countOf : ℕ → List Line → ℕ
+countOf s [] = 0
+countOf s (l ∷ ls) = pick (eqb (l .service) s) (suc (countOf s ls)) (countOf s ls)
+
+-- a line behind these, the last of them first, keeps the order: services ascending, each ending in its only `*`, and the suffix doesn't lengthen within a service
+unfoldable pub inOrder : List Line → Line → Bool
+inOrder [] l = true
+inOrder (p ∷ ps) l =
+    pick (eqb (p .service) (l .service)) (both (ltb 0 (p .rule .len)) (leb (l .rule .len) (p .rule .len)))
+    (both (ltb (p .service) (l .service)) (eqb (p .rule .len) 0))
+
+-- a line behind these: the 33rd rule of a service, then the order
+unfoldable pub placed : {A : Type 0} → List Line → Line → ℕ → Reading A → Reading A
+placed before l at next = unless (ltb (countOf (l .service) before) 32) TooMany at (unless (inOrder before l) Order at next)
+
+-- a rule line by its fields, behind these lines
+unfoldable pub ruleFields : ℕ → List Line → ℕ → List (List ℕ) → Reading Line
+ruleFields k before at fs =
+    unless (eqb (length fs) 3) Malformed at
+    (onField (number 1 64 (field fs 0)) at (λ s.
+    onSuffix (suffix k (field fs 1)) at (λ l v.
+    onField (number 1 32 (field fs 2)) at (λ b.
+    let line : Line = record { service = s - 1; rule = record { len = l; value = v; backend = b - 1 } } in
+    placed before line at (got line)))))
+
+-- the rule lines behind these, the last of them first: all lines, the last first
+unfoldable pub ruleLines : ℕ → List Line → List (List ℕ) → Reading (List Line)
+ruleLines k before [] = got before
+ruleLines k before (l ∷ []) = unless (eqb (length l) 0) Malformed (length before + 2) (got before)
+ruleLines k before (l ∷ m ∷ ls) =
+    then (ruleFields k before (length before + 2) (split 32 l)) (λ line. ruleLines k (line ∷ before) (m ∷ ls))
+
+-- the last line is a `*`
+unfoldable pub closed : List Line → Bool
+closed [] = true
+closed (l ∷ ls) = eqb (l .rule .len) 0
+
+-- after the lines, the last first: no service, then another number of lines than n, then a last line without `*`
+unfoldable pub wholeTable : TableHead → List Line → Reading Table
+wholeTable h ls =
+    unless (ltb 0 (length ls)) NoService 1
+    (unless (eqb (length ls) (h .n)) Miscount 1
+    (unless (closed ls) Order (length ls + 1)
+    (got (record { k = h .k; total = h .total; lines = reverse ls }))))
+
+unfoldable pub tableLines : List (List ℕ) → Reading Table
+tableLines [] = turned Malformed 1
+tableLines (l ∷ []) = turned Malformed 1
+tableLines (l ∷ m ∷ ls) = then (tableFields (split 32 l)) (λ h. then (ruleLines (h .k) [] (m ∷ ls)) (wholeTable h))
+
+unfoldable pub readTable : List ℕ → Reading Table
+readTable text = unless (leb (length text) textLimit) TooLong 0 (tableLines (split 10 text))
+
+-- a table that is no text, checked as its sheet would be: the numbers of line 1, then line by line, then the end
+unfoldable pub isLine : ℕ → Line → Bool
+isLine k l =
+    both (ltb (l .service) 64)
+    (both (both (leb (l .rule .len) k) (ltb (l .rule .value) (2 ^ (l .rule .len))))
+    (ltb (l .rule .backend) 32))
+
+unfoldable pub checkLines : ℕ → List Line → List Line → Reading (List Line)
+checkLines k before [] = got before
+checkLines k before (l ∷ ls) = unless (isLine k l) BadField 0 (placed before l 0 (checkLines k (l ∷ before) ls))
+
+unfoldable pub checkTable : Table → Reading Table
+checkTable t =
+    unless (both (leb 1 (t .k)) (leb (t .k) 12)) BadField 0
+    (unless (both (leb 1 (length (t .lines))) (leb (length (t .lines)) 2048)) BadField 0
+    (unless (leb (t .total) totalLimit) BadField 0
+    (then (checkLines (t .k) [] (t .lines)) (λ ls.
+    unless (closed ls) Order 0 (got t)))))

@@ -1,0 +1,62 @@
+-- The writer of the rule sheet in its parts: what each writes, how many bytes that has, and what the check of a table in numbers answers.
+use Prim.Native.Nat.{ℕ, _+_, _*_, _<_}
+use mathlib.Core.Path.{_≡_}
+use mathlib.Core.List.{List, [], _∷_, _++_}
+use lib.ListN.{length}
+use lib.Seq.{sets, slice}
+use Rattle.numerals.specs.Decimal.{width, decimal}
+use Rattle.numerals.specs.declared.digits.Written.{Written}
+use Rattle.numerals.specs.declared.digits.Written.the-variants.{End, Short}
+use Rattle.expansion.specs.declared.refusal.Refusal.the-variants.{Order}
+use Rattle.expansion.specs.declared.call.Checked.{Checked}
+use Rattle.expansion.specs.declared.call.Checked.the-variants.{Sound, Refused}
+use Rattle.packing.specs.Count.{Line}
+use Rattle.sheets.specs.Reading.{Reading, got, turned, then, unless}
+use Rattle.sheets.specs.RuleSheet.{Table, tableWord, closed, checkLines}
+use Rattle.sheets.specs.Behind.{Behind}
+use Rattle.sheets.specs.Calls.{linesFrom}
+use Rattle.sheets.specs.declared.order.Placed.{Placed}
+use Rattle.sheets.specs.declared.order.Placed.the-variants.{Next, Refused as NotNext}
+
+-- bytes were written from a position on, and nothing else; then comes the position behind them
+pub record Wrote (before after : List ℕ) (at next : ℕ) (bytes : List ℕ) : Type 0 where
+  pub ends : next ≡ at + length bytes
+  pub holds : after ≡ sets before at bytes
+
+-- a text was written, and ends before position n
+abbrev pub Before : Written → ℕ → Type 0
+Before (End e) n = e < n
+Before Short n = ⊥
+
+abbrev pub endAt : Written → ℕ
+endAt (End e) = e
+endAt Short = 0
+
+-- line 1
+unfoldable pub headText : ℕ → ℕ → ℕ → List ℕ
+headText k n total = tableWord ++ 32 ∷ decimal k ++ 32 ∷ decimal n ++ 32 ∷ decimal total ++ 10 ∷ []
+
+-- how many bytes a rule line has
+abbrev pub lineWidth : ℕ → ℕ → ℕ → ℕ
+lineWidth service len backend = width (service + 1) + width (backend + 1) + len + 4
+
+-- the lines that the first numbers are, four of each
+abbrev pub linesIn : List ℕ → ℕ → List Line
+linesIn cs n = linesFrom (slice 0 (4 * n) cs)
+
+abbrev pub tableIn : ℕ → ℕ → List ℕ → ℕ → Table
+tableIn k total cs n = record { k = k; total = total; lines = linesIn cs n }
+
+-- a check passes what is read, and tells why it isn't
+abbrev pub CheckedAs : {A : Type 0} → Checked → Reading A → A → Type 0
+CheckedAs Sound r a = r ≡ got a
+CheckedAs (Refused why) r a = r ≡ turned why 0
+
+-- the lines behind these, the last of them first, each in its limits and in order, and the last a `*`
+unfoldable pub checkedFrom : ℕ → List Line → List Line → Reading (Unit {0})
+checkedFrom k before ls = then (checkLines k before ls) (λ all. unless (closed all) Order 0 (got tt))
+
+-- what the check of one line answers, and leaves
+abbrev pub CheckedLine : ℕ → List Line → Line → Placed → List ℕ → Type 0
+CheckedLine k before l (Next last) tally = ((ls : List Line) → checkedFrom k before (l ∷ ls) ≡ checkedFrom k (l ∷ before) ls) × Behind (l ∷ before) last tally
+CheckedLine k before l (NotNext why) tally = (ls : List Line) → checkedFrom k before (l ∷ ls) ≡ turned why 0

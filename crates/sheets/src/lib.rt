@@ -1,0 +1,24 @@
+// The percentage sheet, the rule sheet, the one call, lookup and churn.
+mod answer;
+mod fields;
+mod order;
+mod percentage_sheet;
+mod planning;
+mod printing;
+mod rule_sheet;
+mod tables;
+
+pub use answer::Churned;
+pub use answer::Looked;
+pub use answer::Plan;
+pub use answer::Planned;
+pub use answer::Printed;
+pub use answer::Refused;
+pub use answer::TableRead;
+pub use answer::TableRecord;
+pub use planning::plan;
+pub use planning::split_sheet;
+pub use printing::write_table;
+pub use tables::churn;
+pub use tables::lookup;
+pub use tables::read_table;

@@ -1,0 +1,246 @@
+// The writer of the rule sheet.
+use crate::answer::Printed;
+use crate::answer::Refused;
+use crate::order::Last;
+use crate::order::Placed;
+use expansion::Checked;
+use expansion::Refusal;
+use numerals::Written;
+ghost use mathlib.Core.Path.{_≡_};
+ghost use mathlib.Core.List.{List, [], _∷_, _++_};
+ghost use Prim.Native.Nat.{_+_, _*_, _≤_, _<_};
+ghost use lib.ListN.{length};
+ghost use Rattle.numerals.specs.Decimal.{decimal};
+ghost use Rattle.numerals.specs.Suffix.{suffixText};
+ghost use Rattle.sheets.specs.RuleSheet.{tableText, lineText, isLine};
+ghost use Rattle.packing.specs.Count.{Line as RuleOf};
+ghost use Rattle.sheets.specs.Behind.{line, Behind};
+ghost use Rattle.sheets.specs.Rows.{lineAt, Limited};
+ghost use Rattle.sheets.specs.Writing.{Wrote, Before, endAt, headText, lineWidth, linesIn, tableIn, CheckedAs, checkedFrom, CheckedLine};
+ghost use Rattle.sheets.specs.Calls as calls;
+
+// How many bytes the text of a line has.
+fn line_width(service: usize, len: usize, backend: usize) -> usize
+    requires { ⌜ (service < 64) × ((len ≤ 12) × (backend < 32)) ⌝ }
+    ensures { λ r. ⌜ r ≡ lineWidth service len backend ⌝ }
+{
+    numerals::decimal_width(service as u64 + 1)
+        + numerals::decimal_width(backend as u64 + 1)
+        + len
+        + 4
+}
+
+// How many bytes the text of a table has.
+pub fn text_width(k: usize, total: u64, table: &[usize], n: usize) -> usize
+    requires { ⌜ (n ≤ 2048) × Limited (now table) n ⌝ }
+    ensures { λ r. ⌜ r ≡ length (tableText (tableIn k total (now (table .entry)) n)) ⌝ }
+{
+    let mut width = 9
+        + numerals::decimal_width(k as u64)
+        + numerals::decimal_width(n as u64)
+        + numerals::decimal_width(total);
+    let mut i = 0;
+    while i < n {
+        let c = 4 * i;
+        width += line_width(table[c], table[c + 1], table[c + 3]);
+        i += 1;
+    }
+    width
+}
+
+// A separator behind a text that was written; the position after it.
+fn separate(out: &mut [u8], written: Written, separator: u8) -> usize
+    requires { ⌜ Before written (length (now out)) ⌝ }
+    ensures { λ r. ⌜ Wrote (now (out .entry)) (now (out .exit)) (endAt written) r (separator ∷ []) ⌝ }
+{
+    match written {
+        Written::End(end) => {
+            out[end] = separator;
+            end + 1
+        }
+        Written::Short => 0,
+    }
+}
+
+// A number, and a separator behind it; the position after them.
+fn put_number(out: &mut [u8], at: usize, n: u64, separator: u8) -> usize
+    requires { ⌜ at + length (decimal n) < length (now out) ⌝ }
+    ensures { λ r. ⌜ Wrote (now (out .entry)) (now (out .exit)) at r (decimal n ++ separator ∷ []) ⌝ }
+{
+    let written = numerals::write_number(out, at, n);
+    separate(out, written, separator)
+}
+
+// A suffix and a space behind it; the position after them.
+fn put_suffix(out: &mut [u8], at: usize, len: usize, value: usize) -> usize
+    requires { ⌜ (len ≤ 12) × (at + (len + 1) < length (now out)) ⌝ }
+    ensures { λ r. ⌜ Wrote (now (out .entry)) (now (out .exit)) at r (suffixText len value ++ 32 ∷ []) ⌝ }
+{
+    let written = numerals::write_suffix(out, at, len, value);
+    separate(out, written, 32)
+}
+
+// Line 1: TABLE k n total.
+fn put_head(out: &mut [u8], k: usize, n: usize, total: u64) -> usize
+    requires { ⌜ length (headText k n total) ≤ length (now out) ⌝ }
+    ensures { λ r. ⌜ Wrote (now (out .entry)) (now (out .exit)) 0 r (headText k n total) ⌝ }
+{
+    out[0] = 84;
+    out[1] = 65;
+    out[2] = 66;
+    out[3] = 76;
+    out[4] = 69;
+    out[5] = 32;
+    let a = put_number(out, 6, k as u64, 32);
+    let b = put_number(out, a, n as u64, 32);
+    put_number(out, b, total, 10)
+}
+
+// A rule line: service suffix backend.
+fn put_line(
+    out: &mut [u8],
+    at: usize,
+    service: usize,
+    len: usize,
+    value: usize,
+    backend: usize,
+) -> usize
+    requires { ⌜ ((service < 64) × ((len ≤ 12) × (backend < 32))) × (at + lineWidth service len backend ≤ length (now out)) ⌝ }
+    ensures { λ r. ⌜ Wrote (now (out .entry)) (now (out .exit)) at r (lineText (line service len value backend)) ⌝ }
+{
+    let a = put_number(out, at, service as u64 + 1, 32);
+    let b = put_suffix(out, a, len, value);
+    put_number(out, b, backend as u64 + 1, 10)
+}
+
+// The text of a table, into a buffer that has room for it; how many bytes it has.
+pub fn put_table(out: &mut [u8], k: usize, total: u64, table: &[usize], n: usize) -> usize
+    requires { ⌜ (n ≤ 2048) × (Limited (now table) n × (length (tableText (tableIn k total (now table) n)) ≤ length (now out))) ⌝ }
+    ensures { λ r. ⌜ Wrote (now (out .entry)) (now (out .exit)) 0 r (tableText (tableIn k total (now (table .entry)) n)) ⌝ }
+{
+    let mut at = put_head(out, k, n, total);
+    let mut left = n;
+    while 0 < left {
+        let c = 4 * (n - left);
+        at = put_line(out, at, table[c], table[c + 1], table[c + 2], table[c + 3]);
+        left -= 1;
+    }
+    at
+}
+
+// The text of a table whose lines are proper, into a lent buffer.
+pub fn print(k: usize, total: u64, table: &[usize], n: usize, out: &mut [u8]) -> Printed
+    requires { ⌜ (n ≤ 2048) × Limited (now table) n ⌝ }
+    ensures answer { λ r. ⌜ r ≡ calls.printText (tableText (tableIn k total (now (table .entry)) n)) (length (now (out .entry))) ⌝ }
+    ensures buffer { λ r. ⌜ now (out .exit) ≡ calls.printFilled r (now (out .entry)) (tableText (tableIn k total (now (table .entry)) n)) ⌝ }
+{
+    if out.len() < text_width(k, total, table, n) {
+        return Printed::Refused(Refused {
+            why: Refusal::ShortLoan,
+            line: 0,
+        });
+    }
+    Printed::End(put_table(out, k, total, table, n))
+}
+
+// A line of numbers has the form and the limits of a rule line.
+fn is_line(k: usize, service: usize, len: usize, value: usize, backend: usize) -> bool
+    requires { ⌜ k ≤ 12 ⌝ }
+    ensures { λ r. ⌜ r ≡ isLine k (line service len value backend) ⌝ }
+{
+    if 64 <= service {
+        return false;
+    }
+    if k < len {
+        return false;
+    }
+    let all: usize = 1 << len;
+    if all <= value {
+        return false;
+    }
+    backend < 32
+}
+
+// Line i of a table that is no text, behind those before it.
+fn check_line(k: usize, table: &[usize], i: usize, last: Last, tally: &mut [usize]) -> Placed
+    requires { ⌜ (k ≤ 12) × ((4 * i + 3 < length (now table)) × ((last .count ≤ 2048) × (length (now tally) ≡ 64))) ⌝ }
+    ensures { λ r. ⌜ ((before : List RuleOf) → Behind before last (now (tally .entry)) → CheckedLine k before (lineAt (now (table .entry)) i) r (now (tally .exit))) ⌝ }
+{
+    let c = 4 * i;
+    let service = table[c];
+    let len = table[c + 1];
+    if !is_line(k, service, len, table[c + 2], table[c + 3]) {
+        return Placed::Refused(Refusal::BadField);
+    }
+    crate::order::place_line(last, tally, service, len)
+}
+
+// The lines of a table that is no text, in their order.
+fn check_lines(k: usize, table: &[usize], n: usize) -> Checked
+    requires { ⌜ (k ≤ 12) × ((n ≤ 2048) × (4 * n ≤ length (now table))) ⌝ }
+    ensures { λ r. ⌜ CheckedAs r (checkedFrom k [] (linesIn (now (table .entry)) n)) (tt {0}) ⌝ }
+{
+    let mut tally = [0usize; 64];
+    let mut last = Last {
+        count: 0,
+        service: 0,
+        len: 0,
+    };
+    let mut i = 0;
+    while i < n {
+        let checked = check_line(k, table, i, last, &mut tally);
+        match checked {
+            Placed::Refused(why) => {
+                return Checked::Refused(why);
+            }
+            Placed::Next(next) => {
+                last = next;
+            }
+        }
+        i += 1;
+    }
+    if last.len == 0 {
+        Checked::Sound
+    } else {
+        Checked::Refused(Refusal::Order)
+    }
+}
+
+// A table that is no text, checked as its sheet would be.
+fn check_table(k: usize, total: u64, table: &[usize]) -> Checked
+    ensures { λ r. ⌜ CheckedAs r (calls.tableHanded k total (now (table .entry))) (record { k = k; total = total; lines = calls.linesFrom (now (table .entry)) }) ⌝ }
+{
+    let n = table.len() / 4;
+    if table.len() % 4 != 0 {
+        return Checked::Refused(Refusal::Malformed);
+    }
+    if k < 1 {
+        return Checked::Refused(Refusal::BadField);
+    }
+    if 12 < k {
+        return Checked::Refused(Refusal::BadField);
+    }
+    if n < 1 {
+        return Checked::Refused(Refusal::BadField);
+    }
+    if 2048 < n {
+        return Checked::Refused(Refusal::BadField);
+    }
+    if 2621440000000000 < total {
+        return Checked::Refused(Refusal::BadField);
+    }
+    check_lines(k, table, n)
+}
+
+// The rule sheet of a table: four numbers for each line, its service, the length and the value of its suffix, and its
+// backend, services and backends by their place from 0.
+pub fn write_table(k: usize, total: u64, table: &[usize], out: &mut [u8]) -> Printed
+    ensures answer { λ r. ⌜ r ≡ calls.printRead (calls.tableHanded k total (now (table .entry))) tableText (length (now (out .entry))) ⌝ }
+    ensures buffer { λ r. ⌜ now (out .exit) ≡ calls.printFilled r (now (out .entry)) (calls.textOf (calls.tableHanded k total (now (table .entry))) tableText) ⌝ }
+{
+    let checked = check_table(k, total, table);
+    if let Checked::Refused(why) = checked {
+        return Printed::Refused(Refused { why, line: 0 });
+    }
+    print(k, total, table, table.len() / 4, out)
+}

@@ -1,0 +1,167 @@
+// Calls on rule sheets: their table, lookup and churn.
+use crate::answer::Churned;
+use crate::answer::Looked;
+use crate::answer::Refused;
+use crate::answer::TableRead;
+use crate::answer::TableRecord;
+use crate::rule_sheet::SheetLines;
+use crate::rule_sheet::TableHead;
+use expansion::Refusal;
+ghost use mathlib.Core.Path.{_≡_};
+ghost use Prim.Native.Nat.{_≤_};
+ghost use lib.ListN.{length, take};
+ghost use lib.Seq.{sets};
+ghost use Rattle.packing.specs.Answer.{cells};
+ghost use Rattle.sheets.specs.RuleSheet.{readTable};
+ghost use Rattle.sheets.specs.Calls as calls;
+ghost use Rattle.sheets.specs.Writing.{linesIn};
+ghost use Rattle.sheets.specs.Rows.{Limited, firstOf, movedOf, comparedOf};
+
+// The table of a rule sheet, four numbers for each line, into a lent buffer.
+pub fn read_table(text: &[u8], table: &mut [usize]) -> TableRead
+    ensures answer { λ r. ⌜ r ≡ calls.readAnswer (now (text .entry)) (length (now (table .entry))) ⌝ }
+    ensures buffer { λ r. ⌜ now (table .exit) ≡ calls.readFilled r (now (table .entry)) (calls.textOf (readTable (now (text .entry))) (λ t. cells (t .lines))) ⌝ }
+{
+    let mut lines = [0usize; 8192];
+    let read = crate::rule_sheet::read_sheet_lines(text, &mut lines);
+    match read {
+        SheetLines::Refused(why) => TableRead::Refused(why),
+        SheetLines::Table(head) => {
+            let n = head.n;
+            if table.len() < 4 * n {
+                return TableRead::Refused(Refused {
+                    why: Refusal::ShortLoan,
+                    line: 0,
+                });
+            }
+            copy(&lines, table, 4 * n);
+            TableRead::Made(TableRecord {
+                k: head.k,
+                rules: n,
+                total: head.total,
+            })
+        }
+    }
+}
+
+// The first n numbers of one buffer, into another.
+fn copy(from: &[usize], to: &mut [usize], n: usize)
+    requires { ⌜ (n ≤ length (now from)) × (n ≤ length (now to)) ⌝ }
+    ensures { λ _. ⌜ now (to .exit) ≡ sets (now (to .entry)) 0 (take n (now (from .entry))) ⌝ }
+{
+    let mut i = 0;
+    while i < n {
+        to[i] = from[i];
+        i += 1;
+    }
+}
+
+// The number from 1 of the backend of the first line of a service that matches an address; 0 where there is none.
+fn first_backend(table: &[usize], n: usize, service: usize, address: usize) -> usize
+    requires { ⌜ Limited (now table) n ⌝ }
+    ensures { λ r. ⌜ r ≡ firstOf (linesIn (now (table .entry)) n) service address ⌝ }
+{
+    let mut i = 0;
+    while i < n {
+        if table[4 * i] + 1 == service {
+            let all: usize = 1 << table[4 * i + 1];
+            if address % all == table[4 * i + 2] {
+                return table[4 * i + 3] + 1;
+            }
+        }
+        i += 1;
+    }
+    0
+}
+
+fn unknown() -> Refused
+    ensures { λ r. ⌜ r ≡ calls.refusedAt Refusal.UnknownService 0 ⌝ }
+{
+    Refused {
+        why: Refusal::UnknownService,
+        line: 0,
+    }
+}
+
+// The backend, by its number, that the rule sheet gives a service's address to.
+pub fn lookup(text: &[u8], service: usize, address: u32) -> Looked
+    ensures { λ r. ⌜ r ≡ calls.lookupAnswer (now (text .entry)) service address ⌝ }
+{
+    let mut lines = [0usize; 8192];
+    let read = crate::rule_sheet::read_sheet_lines(text, &mut lines);
+    match read {
+        SheetLines::Refused(why) => Looked::Refused(why),
+        SheetLines::Table(head) => {
+            let b = first_backend(&lines, head.n, service, address as usize);
+            if b == 0 {
+                return Looked::Refused(unknown());
+            }
+            Looked::Backend(b)
+        }
+    }
+}
+
+// How many of the 2^k suffixes the two tables give to unlike backends.
+fn count_moved(old: &[usize], n: usize, new: &[usize], m: usize, service: usize, k: usize) -> usize
+    requires { ⌜ (Limited (now old) n) × ((Limited (now new) m) × (k ≤ 12)) ⌝ }
+    ensures { λ r. ⌜ r ≡ movedOf k (linesIn (now (old .entry)) n) (linesIn (now (new .entry)) m) service ⌝ }
+{
+    let all: usize = 1 << k;
+    let mut moved = 0;
+    let mut s = 0;
+    while s < all {
+        if first_backend(old, n, service, s) != first_backend(new, m, service, s) {
+            moved += 1;
+        }
+        s += 1;
+    }
+    moved
+}
+
+// What churn finds between two tables that were read.
+fn compare(old: &[usize], a: TableHead, new: &[usize], b: TableHead, service: usize) -> Churned
+    requires { ⌜ (Limited (now old) (a .n)) × ((Limited (now new) (b .n)) × (a .k ≤ 12)) ⌝ }
+    ensures { λ r. ⌜ r ≡ comparedOf (a .k) (linesIn (now (old .entry)) (a .n)) (b .k) (linesIn (now (new .entry)) (b .n)) service ⌝ }
+{
+    if first_backend(old, a.n, service, 0) == 0 {
+        return Churned::Refused(unknown(), 1);
+    }
+    if first_backend(new, b.n, service, 0) == 0 {
+        return Churned::Refused(unknown(), 2);
+    }
+    if a.k != b.k {
+        let why = Refused {
+            why: Refusal::Depth,
+            line: 0,
+        };
+        return Churned::Refused(why, 0);
+    }
+    Churned::Moved(count_moved(old, a.n, new, b.n, service, a.k))
+}
+
+// How many suffixes of a service have another backend in the new rule sheet than in the old.
+pub fn churn(old: &[u8], new: &[u8], service: usize) -> Churned
+    ensures { λ r. ⌜ r ≡ calls.churnAnswer (now (old .entry)) (now (new .entry)) service ⌝ }
+{
+    let mut first = [0usize; 8192];
+    let old_read = crate::rule_sheet::read_sheet_lines(old, &mut first);
+    let SheetLines::Table(a) = old_read else {
+        return refused_sheet(old_read, 1);
+    };
+    let mut second = [0usize; 8192];
+    let new_read = crate::rule_sheet::read_sheet_lines(new, &mut second);
+    let SheetLines::Table(b) = new_read else {
+        return refused_sheet(new_read, 2);
+    };
+    compare(&first, a, &second, b, service)
+}
+
+// The refusal of a sheet that was read.
+fn refused_sheet(read: SheetLines, which: usize) -> Churned
+    ensures { λ r. ⌜ ((why : Refused) → read ≡ SheetLines.Refused why → r ≡ Churned.Refused why which) ⌝ }
+{
+    match read {
+        SheetLines::Refused(why) => Churned::Refused(why, which),
+        SheetLines::Table(_) => Churned::Moved(0),
+    }
+}

@@ -1,0 +1,60 @@
+// The program: reads a percentage sheet from standard input and prints its rule sheet, or `REFUSED number line`.
+use expansion::Refusal;
+use libc::STDIN_FILENO;
+use libc::STDOUT_FILENO;
+use sheets::Printed;
+use sheets::Refused;
+ghost use mathlib.Core.Path.{_≡_};
+ghost use Rattle.expansion.specs.Refusals.{numberOf};
+
+// The number of a refusal (document 01, "Turned-back work").
+fn refusal_number(why: Refusal) -> u64
+    ensures { λ r. ⌜ r ≡ numberOf why ⌝ }
+{
+    match why {
+        Refusal::Malformed => 1,
+        Refusal::BadField => 2,
+        Refusal::Unbalanced => 3,
+        Refusal::TooMany => 4,
+        Refusal::NoService => 5,
+        Refusal::TableShort => 6,
+        Refusal::ShortLoan => 7,
+        Refusal::UnknownService => 8,
+        Refusal::Order => 9,
+        Refusal::Miscount => 10,
+        Refusal::TooLong => 11,
+        Refusal::Depth => 12,
+    }
+}
+
+fn print_refused(r: Refused) {
+    let why = r.why;
+    io::write_all(STDOUT_FILENO, b"REFUSED ");
+    io::print_decimal(STDOUT_FILENO, refusal_number(why));
+    io::write_all(STDOUT_FILENO, b" ");
+    io::print_decimal(STDOUT_FILENO, r.line as u64);
+    io::write_all(STDOUT_FILENO, b"\n");
+}
+
+fn print_start(text: &[u8], n: usize) {
+    if n <= text.len() {
+        io::write_all(STDOUT_FILENO, &text[0..n]);
+    }
+}
+
+// No rule sheet is longer than 65,536 bytes: its 2,048 lines have at most 20 bytes each, and line 1 at most 31.
+fn split(text: &[u8]) {
+    let mut space = [0u8; 65536];
+    let out: &mut [u8] = &mut space;
+    match sheets::split_sheet(text, out) {
+        Printed::End(n) => print_start(out, n),
+        Printed::Refused(r) => print_refused(r),
+    }
+}
+
+// A text of more than 65,536 bytes is read one byte past that, and refused as too long.
+fn main() {
+    let mut text = [0u8; 65537];
+    let n = io::read_full(STDIN_FILENO, &mut text);
+    split(&text[..n]);
+}

@@ -1,0 +1,146 @@
+// The answers to vectors of the packing.
+use packing::Packed;
+use packing::Packing;
+use vectors::header;
+use vectors::header::Header;
+use vectors::print;
+use vectors::walk;
+
+// The weights in a line `volume w1 w2 ..`, stored from a place on; the place behind them.
+fn read_weights(line: &[u8], weights: &mut [u64], at: usize) -> usize {
+    if weights.len() < at {
+        return at;
+    }
+    let text = walk::rest(line, walk::after(line, 0, line.len(), 32));
+    at + walk::numbers(text, &mut weights[at..])
+}
+
+// Service i, whose weights are stored from a place on; the place behind them.
+fn read_service(
+    line: &[u8],
+    i: usize,
+    at: usize,
+    volumes: &mut [u64; 80],
+    sizes: &mut [usize; 80],
+    weights: &mut [u64; 4096],
+) -> usize {
+    let next = read_weights(line, weights, at);
+    if next < at {
+        return at;
+    }
+    if i < 80 {
+        volumes[i] = walk::number(line, 0, line.len());
+        sizes[i] = next - at;
+    }
+    next
+}
+
+// The lines of n services, each ended by LF: their volumes, the number of their weights, and the weights in one row,
+// whose length it says.
+fn read_services(
+    text: &[u8],
+    n: usize,
+    volumes: &mut [u64; 80],
+    sizes: &mut [usize; 80],
+    weights: &mut [u64; 4096],
+) -> usize {
+    let mut from = 0;
+    let mut at = 0;
+    for i in 0..n {
+        at = read_service(walk::part(text, from, 10), i, at, volumes, sizes, weights);
+        from = walk::after(text, from, text.len(), 10);
+    }
+    at
+}
+
+fn show_grant(i: usize, figures: &[usize; 240]) {
+    if i < 80 {
+        print::field(figures[3 * i] as u64);
+    }
+}
+
+fn show_grants(n: usize, figures: &[usize; 240]) {
+    for i in 0..n {
+        show_grant(i, figures);
+    }
+}
+
+// Line i of the table, `service suffix backend`, behind a comma but the first.
+fn show_line(i: usize, table: &[usize; 8192]) {
+    if 0 < i {
+        print::bytes(b",");
+    }
+    if i < 2048 {
+        print::place(table[4 * i]);
+        print::bytes(b" ");
+        print::suffix(table[4 * i + 1], table[4 * i + 2]);
+        print::bytes(b" ");
+        print::place(table[4 * i + 3]);
+    }
+}
+
+fn show_lines(n: usize, table: &[usize; 8192]) {
+    for i in 0..n {
+        show_line(i, table);
+    }
+}
+
+fn show(packed: Packed, n: usize, figures: &[usize; 240], table: &[usize; 8192]) {
+    print::bytes(b"total");
+    print::field(packed.total);
+    print::bytes(b" grants");
+    show_grants(n, figures);
+    print::bytes(b" lines ");
+    show_lines(packed.rules, table);
+}
+
+// Packs n services, whose weights stand in a row of this length.
+fn pack_services(
+    h: Header,
+    n: usize,
+    row: usize,
+    volumes: &[u64; 80],
+    sizes: &[usize; 80],
+    weights: &[u64; 4096],
+) {
+    let mut figures = [0usize; 240];
+    let mut table = [0usize; 8192];
+    let packed = packing::pack(
+        h.first as usize,
+        h.second,
+        h.third as usize,
+        walk::first_numbers(volumes, n),
+        walk::first_places(sizes, n),
+        walk::first_numbers(weights, row),
+        &mut figures,
+        &mut table,
+    );
+    match packed {
+        Packing::Made(made) => show(made, n, &figures, &table),
+        Packing::Refused(why) => print::refused(why),
+        Packing::ShortFigures => print::bytes(b"short figures"),
+        Packing::ShortTable => print::bytes(b"short table"),
+    }
+}
+
+fn pack(h: Header, text: &[u8]) {
+    let n = walk::lines(text);
+    let mut volumes = [0u64; 80];
+    let mut sizes = [0usize; 80];
+    let mut weights = [0u64; 4096];
+    let row = read_services(text, n, &mut volumes, &mut sizes, &mut weights);
+    pack_services(h, n, row, &volumes, &sizes, &weights);
+}
+
+// The answer to one vector, as a line.
+pub fn answer(s: &[u8]) {
+    if s.len() == 0 {
+        return;
+    }
+    let op = s[0];
+    match op {
+        b'K' => pack(header::read(s), header::payload(s)),
+        _ => print::bytes(b"unknown vector"),
+    }
+    print::bytes(b"\n");
+}

@@ -1,0 +1,150 @@
+// The answers to vectors of the sheets: the call that prints, the table of a rule sheet, lookup and churn.
+use sheets::Churned;
+use sheets::Looked;
+use sheets::Printed;
+use sheets::Refused;
+use sheets::TableRead;
+use sheets::TableRecord;
+use vectors::header;
+use vectors::header::Header;
+use vectors::print;
+use vectors::walk;
+
+// The refusal of a sheet: its number and its line.
+fn refused(r: Refused) {
+    let why = r.why;
+    print::bytes(b"REFUSED");
+    print::field(print::refusal_number(why));
+    print::field(r.line as u64);
+}
+
+// Prints the line that starts at a position, its LF as a `/`, and says where the next one starts.
+fn show_line(text: &[u8], from: usize) -> usize {
+    print::bytes(walk::part(text, from, 10));
+    print::bytes(b"/");
+    walk::after(text, from, text.len(), 10)
+}
+
+fn show_sheet(text: &[u8]) {
+    let n = walk::lines(text);
+    let mut from = 0;
+    for _ in 0..n {
+        from = show_line(text, from);
+    }
+    print::bytes(walk::rest(text, from));
+}
+
+fn split(text: &[u8]) {
+    let mut array = [0u8; 65536];
+    let space: &mut [u8] = &mut array;
+    match sheets::split_sheet(text, space) {
+        Printed::End(n) => show_sheet(walk::start(space, n)),
+        Printed::Refused(r) => refused(r),
+    }
+}
+
+fn same_at(a: &[u8], b: &[u8], i: usize) -> bool {
+    if a.len() <= i {
+        return false;
+    }
+    if b.len() <= i {
+        return false;
+    }
+    a[i] == b[i]
+}
+
+// Whether two texts are the same.
+fn same(a: &[u8], b: &[u8]) -> bool {
+    let n = a.len();
+    if n != b.len() {
+        return false;
+    }
+    for i in 0..n {
+        if !same_at(a, b, i) {
+            return false;
+        }
+    }
+    true
+}
+
+fn written(back: bool) {
+    if back {
+        print::bytes(b"ok");
+    } else {
+        print::bytes(b"not written back");
+    }
+}
+
+// Whether the table that was read from a text is written to the same bytes again.
+fn write_back(text: &[u8], read: TableRecord, table: &[usize; 8192]) {
+    let mut array = [0u8; 65536];
+    let space: &mut [u8] = &mut array;
+    let n = read.rules;
+    if 2048 < n {
+        written(false);
+        return;
+    }
+    let cells = walk::first_places(table, 4 * n);
+    match sheets::write_table(read.k, read.total, cells, space) {
+        Printed::End(end) => written(same(walk::start(space, end), text)),
+        Printed::Refused(_) => written(false),
+    }
+}
+
+fn read(text: &[u8]) {
+    let mut table = [0usize; 8192];
+    match sheets::read_table(text, &mut table) {
+        TableRead::Made(made) => write_back(text, made, &table),
+        TableRead::Refused(r) => refused(r),
+    }
+}
+
+fn lookup(h: Header, text: &[u8]) {
+    let address = h.second;
+    if 4294967295 < address {
+        return;
+    }
+    match sheets::lookup(text, h.first as usize, address as u32) {
+        Looked::Backend(b) => {
+            print::bytes(b"backend");
+            print::field(b as u64);
+        }
+        Looked::Refused(r) => refused(r),
+    }
+}
+
+fn churn(h: Header, text: &[u8]) {
+    let cut = h.second as usize;
+    match sheets::churn(
+        walk::start(text, cut),
+        walk::rest(text, cut),
+        h.first as usize,
+    ) {
+        Churned::Moved(n) => {
+            print::bytes(b"churn");
+            print::field(n as u64);
+        }
+        Churned::Refused(r, which) => {
+            refused(r);
+            print::field(which as u64);
+        }
+    }
+}
+
+// The answer to one vector, as a line.
+pub fn answer(s: &[u8]) {
+    if s.len() == 0 {
+        return;
+    }
+    let op = s[0];
+    let h = header::read(s);
+    let text = header::payload(s);
+    match op {
+        b'R' => split(text),
+        b'U' => read(text),
+        b'L' => lookup(h, text),
+        b'H' => churn(h, text),
+        _ => print::bytes(b"unknown vector"),
+    }
+    print::bytes(b"\n");
+}

@@ -1,0 +1,74 @@
+// Parts of an answer, on standard output.
+use crate::walk;
+use expansion::Refusal;
+use libc::STDOUT_FILENO;
+use numerals::Written;
+
+pub fn bytes(s: &[u8]) {
+    io::write_all(STDOUT_FILENO, s);
+}
+
+pub fn number(n: u64) {
+    io::print_decimal(STDOUT_FILENO, n);
+}
+
+// A number behind a space.
+pub fn field(n: u64) {
+    bytes(b" ");
+    number(n);
+}
+
+fn element(row: &[u64], i: usize) {
+    if i < row.len() {
+        field(row[i]);
+    }
+}
+
+// Each number of a row, behind a space.
+pub fn fields(row: &[u64]) {
+    let n = row.len();
+    for i in 0..n {
+        element(row, i);
+    }
+}
+
+// The text of a suffix.
+pub fn suffix(len: usize, value: usize) {
+    let mut array = [0u8; 13];
+    let text: &mut [u8] = &mut array;
+    match numerals::write_suffix(text, 0, len, value) {
+        Written::End(end) => bytes(walk::start(text, end)),
+        Written::Short => bytes(b"short"),
+    }
+}
+
+// The number of a refusal (document 01, "Turned-back work").
+pub fn refusal_number(why: Refusal) -> u64 {
+    match why {
+        Refusal::Malformed => 1,
+        Refusal::BadField => 2,
+        Refusal::Unbalanced => 3,
+        Refusal::TooMany => 4,
+        Refusal::NoService => 5,
+        Refusal::TableShort => 6,
+        Refusal::ShortLoan => 7,
+        Refusal::UnknownService => 8,
+        Refusal::Order => 9,
+        Refusal::Miscount => 10,
+        Refusal::TooLong => 11,
+        Refusal::Depth => 12,
+    }
+}
+
+// The answer to numbers that are turned back.
+pub fn refused(why: Refusal) {
+    bytes(b"refused");
+    field(refusal_number(why));
+}
+
+// A number that counts from 1, by its place from 0.
+pub fn place(i: usize) {
+    if i < 4096 {
+        number(i as u64 + 1);
+    }
+}
