@@ -34,12 +34,18 @@ fn show_sheet(text: &[u8]) {
     print::bytes(walk::rest(text, from));
 }
 
-fn split(text: &[u8]) {
-    let mut array = [0u8; 65536];
-    let space: &mut [u8] = &mut array;
-    match sheets::split_sheet(text, space) {
-        Printed::End(n) => show_sheet(walk::start(space, n)),
+fn split_into(text: &[u8], out: &mut [u8]) {
+    match sheets::split_sheet(text, out) {
+        Printed::End(n) => show_sheet(walk::start(out, n)),
         Printed::Refused(r) => refused(r),
+    }
+}
+
+// The rule sheet of a percentage sheet, into a buffer of so many bytes.
+fn split(text: &[u8], room: usize) {
+    let mut array = [0u8; 65536];
+    if room <= 65536 {
+        split_into(text, &mut array[0..room]);
     }
 }
 
@@ -140,7 +146,8 @@ pub fn answer(s: &[u8]) {
     let h = header::read(s);
     let text = header::payload(s);
     match op {
-        b'R' => split(text),
+        b'R' => split(text, 65536),
+        b'B' => split(text, h.first as usize),
         b'U' => read(text),
         b'L' => lookup(h, text),
         b'H' => churn(h, text),

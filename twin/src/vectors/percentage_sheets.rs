@@ -15,6 +15,25 @@ pub fn add_all(records: &mut Records) {
     good(records, &mut random);
     spoilt(records, &mut random);
     unbalanced(records, &mut random);
+    buffers(records, &mut random);
+}
+
+/// Vectors `B`: sheets for a buffer of so many bytes, around what they need.
+fn buffers(records: &mut Records, random: &mut Random) {
+    for room in 0..=SAMPLE.len() {
+        records.add(&format!("B {room}"), SAMPLE.as_bytes());
+    }
+    for _ in 0..200 {
+        let order = small(random);
+        let text = sheet_text(random, &order);
+        let text = if random.once_in(4) {
+            spoil(random, &text)
+        } else {
+            text
+        };
+        let room = random.below(200);
+        records.add(&format!("B {room}"), &text);
+    }
 }
 
 fn add(records: &mut Records, text: &str) {

@@ -2,7 +2,7 @@
 
 use super::records::{Record, Records};
 use super::{percentage_sheets, rule_sheets};
-use crate::calls::{churn, lookup, split};
+use crate::calls::{churn, lookup, split, split_into};
 use crate::rule_sheet::{read, text_of};
 
 /// What the twin says to one record; nothing if the record is not of a kind.
@@ -12,6 +12,11 @@ pub fn answer(record: &Record) -> Option<String> {
         ("R", &[]) => Some(shown(
             split(text).map(|packing| slashed(&text_of(&packing.table))),
         )),
+        ("B", &[room]) => {
+            let mut buffer = vec![0; usize::try_from(room).ok()?];
+            let end = split_into(text, &mut buffer).map(|(_, end)| end);
+            Some(shown(end.map(|end| slashed(&buffer[..end]))))
+        }
         ("U", &[]) => Some(shown(read(text).map(|_| "ok"))),
         ("L", &[service, address]) => {
             let backend = lookup(text, service, u32::try_from(address).ok()?);
