@@ -14,6 +14,7 @@ pub use call::Expanded;
 pub use call::check_weights;
 pub use call::expand;
 pub use refusal::Refusal;
+pub use refusal::refusal_number;
 pub use rule::Ended;
 pub use rule::Record;
 pub use rule::Rule;

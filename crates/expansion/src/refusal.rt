@@ -1,4 +1,7 @@
 // Why a sheet, a call or a buffer is turned back (document 01, "Turned-back work").
+ghost use mathlib.Core.Path.{_≡_};
+ghost use Rattle.expansion.specs.Refusals.{numberOf};
+
 pub enum Refusal {
     Malformed,
     BadField,
@@ -12,4 +15,24 @@ pub enum Refusal {
     Miscount,
     TooLong,
     Depth,
+}
+
+// Its number there.
+pub fn refusal_number(why: Refusal) -> u64
+    ensures { λ r. ⌜ r ≡ numberOf why ⌝ }
+{
+    match why {
+        Refusal::Malformed => 1,
+        Refusal::BadField => 2,
+        Refusal::Unbalanced => 3,
+        Refusal::TooMany => 4,
+        Refusal::NoService => 5,
+        Refusal::TableShort => 6,
+        Refusal::ShortLoan => 7,
+        Refusal::UnknownService => 8,
+        Refusal::Order => 9,
+        Refusal::Miscount => 10,
+        Refusal::TooLong => 11,
+        Refusal::Depth => 12,
+    }
 }

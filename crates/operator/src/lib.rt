@@ -1,5 +1,4 @@
 // What the operators' programs share: a file read whole, numbers and addresses of the command line, and refusals printed.
-use expansion::Refusal;
 use libc::STDERR_FILENO;
 use libc::STDOUT_FILENO;
 use numerals::Number;
@@ -98,29 +97,11 @@ pub fn print_number(n: usize) {
     io::print_decimal(STDOUT_FILENO, n as u64);
 }
 
-// The number of a refusal (document 01, "Turned-back work").
-fn refusal_number(why: Refusal) -> usize {
-    match why {
-        Refusal::Malformed => 1,
-        Refusal::BadField => 2,
-        Refusal::Unbalanced => 3,
-        Refusal::TooMany => 4,
-        Refusal::NoService => 5,
-        Refusal::TableShort => 6,
-        Refusal::ShortLoan => 7,
-        Refusal::UnknownService => 8,
-        Refusal::Order => 9,
-        Refusal::Miscount => 10,
-        Refusal::TooLong => 11,
-        Refusal::Depth => 12,
-    }
-}
-
 // `REFUSED number line`, without the end of the line.
 pub fn print_refused(r: Refused) {
     let why = r.why;
     say(b"REFUSED ");
-    print_number(refusal_number(why));
+    print_number(expansion::refusal_number(why) as usize);
     say(b" ");
     print_number(r.line);
 }

@@ -1,36 +1,13 @@
 // The program: reads a percentage sheet from standard input and prints its rule sheet, or `REFUSED number line`.
-use expansion::Refusal;
 use libc::STDIN_FILENO;
 use libc::STDOUT_FILENO;
 use sheets::Printed;
 use sheets::Refused;
-ghost use mathlib.Core.Path.{_≡_};
-ghost use Rattle.expansion.specs.Refusals.{numberOf};
-
-// The number of a refusal (document 01, "Turned-back work").
-fn refusal_number(why: Refusal) -> u64
-    ensures { λ r. ⌜ r ≡ numberOf why ⌝ }
-{
-    match why {
-        Refusal::Malformed => 1,
-        Refusal::BadField => 2,
-        Refusal::Unbalanced => 3,
-        Refusal::TooMany => 4,
-        Refusal::NoService => 5,
-        Refusal::TableShort => 6,
-        Refusal::ShortLoan => 7,
-        Refusal::UnknownService => 8,
-        Refusal::Order => 9,
-        Refusal::Miscount => 10,
-        Refusal::TooLong => 11,
-        Refusal::Depth => 12,
-    }
-}
 
 fn print_refused(r: Refused) {
     let why = r.why;
     io::write_all(STDOUT_FILENO, b"REFUSED ");
-    io::print_decimal(STDOUT_FILENO, refusal_number(why));
+    io::print_decimal(STDOUT_FILENO, expansion::refusal_number(why));
     io::write_all(STDOUT_FILENO, b" ");
     io::print_decimal(STDOUT_FILENO, r.line as u64);
     io::write_all(STDOUT_FILENO, b"\n");

@@ -14,7 +14,7 @@ use vectors::walk;
 fn refused(r: Refused) {
     let why = r.why;
     print::bytes(b"REFUSED");
-    print::field(print::refusal_number(why));
+    print::field(expansion::refusal_number(why));
     print::field(r.line as u64);
 }
 

@@ -42,28 +42,10 @@ pub fn suffix(len: usize, value: usize) {
     }
 }
 
-// The number of a refusal (document 01, "Turned-back work").
-pub fn refusal_number(why: Refusal) -> u64 {
-    match why {
-        Refusal::Malformed => 1,
-        Refusal::BadField => 2,
-        Refusal::Unbalanced => 3,
-        Refusal::TooMany => 4,
-        Refusal::NoService => 5,
-        Refusal::TableShort => 6,
-        Refusal::ShortLoan => 7,
-        Refusal::UnknownService => 8,
-        Refusal::Order => 9,
-        Refusal::Miscount => 10,
-        Refusal::TooLong => 11,
-        Refusal::Depth => 12,
-    }
-}
-
 // The answer to numbers that are turned back.
 pub fn refused(why: Refusal) {
     bytes(b"refused");
-    field(refusal_number(why));
+    field(expansion::refusal_number(why));
 }
 
 // A number that counts from 1, by its place from 0.
