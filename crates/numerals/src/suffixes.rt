@@ -44,10 +44,11 @@ pub fn write_suffix(out: &mut [u8], at: usize, len: usize, value: usize) -> Writ
     ensures buffer { λ _. ⌜ now (out .exit) ≡ put (now (out .entry)) at (suffixText (min len 12) value) ⌝ }
 {
     let l = crate::digits::least(len, 12);
-    if out.len() <= at {
+    let room = out.len();
+    if room <= at {
         return Written::Short;
     }
-    if out.len() - at - 1 < l {
+    if room - at - 1 < l {
         return Written::Short;
     }
     out[at] = 42;

@@ -1,13 +1,14 @@
 -- `suffixes::write_suffix` meets its contract: '*' and the digits that `write_digits` writes are the text, one after the other.
 use mathlib.Core.Path.{_≡_, ap, ap₂, _∙_}
-use Prim.Native.Nat.{ℕ, _+_, min}
+use mathlib.Core.List.{List}
+use Prim.Native.Nat.{ℕ, _+_, _≤_, min}
 use native.Mathlib.Numerals.{add-one}
 use native.Mathlib.Omega.{arith}
 use lib.ListN.{length, set, length-set}
 use lib.Seq.{sets}
-use Rattle.numerals.specs.Digits.{lowest}
+use Rattle.numerals.specs.Digits.{lowest, put, putEnd}
 use Rattle.numerals.specs.Suffix.{suffixText}
-use Rattle.numerals.specs.declared.digits.Written.the-variants.{End}
+use Rattle.numerals.specs.declared.digits.Written.the-variants.{End, Short}
 use Rattle.numerals.proofs.Suffix.{length-suffix}
 use Rattle.numerals.proofs.Writing.{written, short}
 use Rattle.numerals.proofs.suffixes.write_suffix.Statement.{statement}
@@ -16,10 +17,14 @@ use Rattle.numerals.proofs.suffixes.write_suffix.Tie as tie
 least-requires : tie.Need-least-requires
 least-requires c κs = tt
 
+-- no room: nothing is written
+too-long :
+    (out : List ℕ) (at l v : ℕ) → length out ≤ at + l
+    → (Short ≡ putEnd out at (suffixText l v)) × (out ≡ put out at (suffixText l v))
+too-long out at l v h = short out at (suffixText l v) (omega (arith, length-suffix l v))
+
 returns : tie.Need-returns
-returns c =
-    let a = c .before .before .before .args in
-    short _ _ _ (omega (arith, length-suffix (min (a .len) 12) (a .value)))
+returns c = too-long _ _ _ _ (omega arith)
 
 sub-if2 : tie.Need-sub-if2
 sub-if2 c = omega arith
@@ -28,9 +33,7 @@ sub-if2-2 : tie.Need-sub-if2-2
 sub-if2-2 c = omega arith
 
 returns-2 : tie.Need-returns-2
-returns-2 c =
-    let a = c .before .before .before .before .args in
-    short _ _ _ (omega (arith, length-suffix (min (a .len) 12) (a .value)))
+returns-2 c = too-long _ _ _ _ (omega arith)
 
 slice-write-out : tie.Need-slice-write-out
 slice-write-out c = omega arith
@@ -41,11 +44,11 @@ add-write-digits c = omega arith
 write-digits-requires : tie.Need-write-digits-requires
 write-digits-requires c κs = simp length-set (omega arith)
 
-add-t8 : tie.Need-add-t8
-add-t8 c = omega arith
-
 add-t9 : tie.Need-add-t9
 add-t9 c = omega arith
+
+add-t8 : tie.Need-add-t8
+add-t8 c = omega arith
 
 same-length : tie.Need-same-length
 same-length c = c .before .before .write-digits .kept .0 ∙ simp length-set
@@ -77,7 +80,7 @@ write-suffix-spec =
     slice-write-out
     add-write-digits
     write-digits-requires
-    add-t8
     add-t9
+    add-t8
     same-length
     returns-3)
