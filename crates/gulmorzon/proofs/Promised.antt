@@ -1,0 +1,35 @@
+-- No refusal has number 0, so an answer with number 0 is one that was printed: demand 3 holds of it.
+use Prim.Native.Nat.{ℕ, zero, suc}
+use mathlib.Core.Path.{_≡_, sym, ap, _∙_, subst⁻¹}
+use mathlib.Core.List.{List}
+use native.Mathlib.Omega.{arith}
+use lib.ListN.{take}
+use Rattle.expansion.specs.Refusals.{numberOf}
+use Rattle.expansion.specs.declared.refusal.Refusal.{Refusal}
+use Rattle.expansion.specs.declared.refusal.Refusal.the-variants.{Malformed, BadField, Unbalanced, TooMany, NoService, TableShort, ShortLoan, UnknownService, Order, Miscount, TooLong, Depth}
+use Rattle.sheets.specs.Demand.{Demand3, owed}
+use Rattle.sheets.specs.declared.answer.Printed.{Printed}
+use Rattle.sheets.specs.declared.answer.Printed.the-variants.{End, Refused}
+use Rattle.gulmorzon.specs.Answers.{ofPrinted}
+use Rattle.gulmorzon.specs.declared.answer.Answer.{Answer}
+
+pub not-zero : (why : Refusal) → numberOf why ≡ 0 → ⊥
+unfolding numberOf
+not-zero Malformed e = omega arith
+not-zero BadField e = omega arith
+not-zero Unbalanced e = omega arith
+not-zero TooMany e = omega arith
+not-zero NoService e = omega arith
+not-zero TableShort e = omega arith
+not-zero ShortLoan e = omega arith
+not-zero UnknownService e = omega arith
+not-zero Order e = omega arith
+not-zero Miscount e = omega arith
+not-zero TooLong e = omega arith
+not-zero Depth e = omega arith
+
+pub promised :
+    (p : Printed) (a : Answer) (text out : List ℕ) → a ≡ ofPrinted p → owed p text out → a .number ≡ 0
+    → Demand3 text (take (a .value) out)
+promised (End n) a text out e d z = subst⁻¹ (λ (x : Answer). Demand3 text (take (x .value) out)) e d
+promised (Refused r) a text out e d z = absurd (not-zero (r .why) (sym (ap (λ (x : Answer). x .number) e) ∙ z))

@@ -1,0 +1,116 @@
+// The answers of the exported calls, in plain numbers and laid out as C lays them out.
+use expansion::refusal_number;
+use sheets::Churned;
+use sheets::Looked;
+use sheets::Planned;
+use sheets::Printed;
+use sheets::Refused;
+ghost use mathlib.Core.Path.{_≡_};
+ghost use Rattle.gulmorzon.specs.Answers as answers;
+
+// Number 0 and a value; or the number of a refusal, its line, and which of two sheets it is about.
+#[repr(C)]
+pub struct Answer {
+    pub number: usize,
+    pub line: usize,
+    pub sheet: usize,
+    pub value: usize,
+}
+
+// Number 0 and the measures of a table; or the number of a refusal, its line, and which lent buffer is too short.
+#[repr(C)]
+pub struct PlanAnswer {
+    pub number: usize,
+    pub line: usize,
+    pub buffer: usize,
+    pub k: usize,
+    pub services: usize,
+    pub rules: usize,
+    pub total: u64,
+}
+
+fn answered(value: usize) -> Answer
+    ensures { λ r. ⌜ r ≡ answers.answered value ⌝ }
+{
+    Answer {
+        number: 0,
+        line: 0,
+        sheet: 0,
+        value,
+    }
+}
+
+fn refused(r: Refused, sheet: usize) -> Answer
+    ensures { λ a. ⌜ a ≡ answers.refused r sheet ⌝ }
+{
+    let why = r.why;
+    Answer {
+        number: refusal_number(why) as usize,
+        line: r.line,
+        sheet,
+        value: 0,
+    }
+}
+
+pub fn of_printed(x: Printed) -> Answer
+    ensures { λ r. ⌜ r ≡ answers.ofPrinted x ⌝ }
+{
+    match x {
+        Printed::End(n) => answered(n),
+        Printed::Refused(r) => refused(r, 0),
+    }
+}
+
+pub fn of_looked(x: Looked) -> Answer
+    ensures { λ r. ⌜ r ≡ answers.ofLooked x ⌝ }
+{
+    match x {
+        Looked::Backend(b) => answered(b),
+        Looked::Refused(r) => refused(r, 0),
+    }
+}
+
+pub fn of_churned(x: Churned) -> Answer
+    ensures { λ r. ⌜ r ≡ answers.ofChurned x ⌝ }
+{
+    match x {
+        Churned::Moved(n) => answered(n),
+        Churned::Refused(r, sheet) => refused(r, sheet),
+    }
+}
+
+fn plan_refused(number: usize, line: usize, buffer: usize) -> PlanAnswer
+    ensures { λ r. ⌜ r ≡ answers.planRefused number line buffer ⌝ }
+{
+    PlanAnswer {
+        number,
+        line,
+        buffer,
+        k: 0,
+        services: 0,
+        rules: 0,
+        total: 0,
+    }
+}
+
+pub fn of_planned(x: Planned) -> PlanAnswer
+    ensures { λ r. ⌜ r ≡ answers.ofPlanned x ⌝ }
+{
+    match x {
+        Planned::Made(p) => PlanAnswer {
+            number: 0,
+            line: 0,
+            buffer: 0,
+            k: p.k,
+            services: p.services,
+            rules: p.rules,
+            total: p.total,
+        },
+        Planned::Refused(r) => {
+            let why = r.why;
+            plan_refused(refusal_number(why) as usize, r.line, 0)
+        }
+        Planned::ShortFigures => plan_refused(7, 0, 1),
+        Planned::ShortTable => plan_refused(7, 0, 2),
+    }
+}

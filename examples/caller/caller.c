@@ -1,0 +1,127 @@
+/* A tool of an operator's own that calls Gulmorzon. It splits two sheets, looks addresses up, counts the churn between the
+ * two tables and shows refusals and short buffers. Each answer is printed and checked: the exit status is 1 if one is wrong. */
+#include "gulmorzon.h"
+
+#include <stdio.h>
+#include <string.h>
+
+#define SHEET "SHEET 5 2 5\nSERVICE 55 16.6667 33.3333 50\nSERVICE 45 25 25 50\n"
+#define OTHER "SHEET 5 2 5\nSERVICE 55 50 33.3333 16.6667\nSERVICE 45 25 25 50\n"
+#define BAD "SHEET 5 2 5\nSERVICE 55 50 50\nSERVICE 45 18.4.2 81.6\n"
+#define TABLE "TABLE 5 5 293333920\n1 *0 2\n1 * 3\n2 *00 2\n2 *0 1\n2 * 3\n"
+#define NEWER "TABLE 5 5 293333920\n1 *0 2\n1 * 1\n2 *00 2\n2 *0 1\n2 * 3\n"
+#define SHALLOW "TABLE 1 1 0\n1 * 1\n"
+
+#define LEN(text) (sizeof(text) - 1)
+
+static int wrong = 0;
+
+static void check(const char *what, int right)
+{
+    if (!right) {
+        printf("WRONG: %s\n", what);
+        wrong = 1;
+    }
+}
+
+static void expect(const char *what, struct gulmorzon_answer a, size_t number, size_t line, size_t sheet, size_t value)
+{
+    printf("%s: number %zu, line %zu, sheet %zu, value %zu\n", what, a.number, a.line, a.sheet, a.value);
+    check(what, a.number == number && a.line == line && a.sheet == sheet && a.value == value);
+}
+
+/* Whether every byte from one on is as fresh() left it. */
+static int untouched(const void *buffer, size_t from, size_t to)
+{
+    const unsigned char *bytes = buffer;
+    while (from < to)
+        if (bytes[from++] != 0xEE)
+            return 0;
+    return 1;
+}
+
+static void fresh(void *buffer, size_t size)
+{
+    memset(buffer, 0xEE, size);
+}
+
+static void split(const char *what, const char *sheet, size_t len, const char *table, size_t table_len)
+{
+    static char out[GULMORZON_TEXT];
+    fresh(out, sizeof out);
+    struct gulmorzon_answer a = gulmorzon_split(sheet, len, out, sizeof out);
+    expect(what, a, GULMORZON_ANSWERED, 0, 0, table_len);
+    fwrite(out, 1, table_len, stdout);
+    check("the rule sheet", memcmp(out, table, table_len) == 0 && untouched(out, table_len, sizeof out));
+}
+
+static void refused(const char *what, const char *sheet, size_t len, size_t room, size_t number, size_t line)
+{
+    static char out[GULMORZON_TEXT];
+    fresh(out, sizeof out);
+    expect(what, gulmorzon_split(sheet, len, out, room), number, line, 0, 0);
+    check("nothing is written", untouched(out, 0, sizeof out));
+}
+
+static void splits(void)
+{
+    static char long_text[GULMORZON_TEXT + 1];
+    memset(long_text, ' ', sizeof long_text);
+    split("split", SHEET, LEN(SHEET), TABLE, LEN(TABLE));
+    split("split the other", OTHER, LEN(OTHER), NEWER, LEN(NEWER));
+    refused("split, a bad percentage", BAD, LEN(BAD), GULMORZON_TEXT, GULMORZON_BAD_FIELD, 3);
+    refused("split, no text", SHEET, 0, GULMORZON_TEXT, GULMORZON_MALFORMED, 1);
+    refused("split, a long text", long_text, sizeof long_text, GULMORZON_TEXT, GULMORZON_TOO_LONG, 0);
+    refused("split, a byte too few", SHEET, LEN(SHEET), LEN(TABLE) - 1, GULMORZON_SHORT_LOAN, 0);
+}
+
+static void lookups(void)
+{
+    expect("lookup of 0", gulmorzon_lookup(TABLE, LEN(TABLE), 1, 0), 0, 0, 0, 2);
+    expect("lookup of 10.0.0.1", gulmorzon_lookup(TABLE, LEN(TABLE), 1, 0x0A000001), 0, 0, 0, 3);
+    expect("lookup of 255.255.255.254", gulmorzon_lookup(TABLE, LEN(TABLE), 2, 0xFFFFFFFE), 0, 0, 0, 1);
+    expect("lookup, no such service", gulmorzon_lookup(TABLE, LEN(TABLE), 3, 0), GULMORZON_UNKNOWN_SERVICE, 0, 0, 0);
+    expect("lookup in a percentage sheet", gulmorzon_lookup(SHEET, LEN(SHEET), 1, 0), GULMORZON_MALFORMED, 1, 0, 0);
+}
+
+static void churns(void)
+{
+    expect("churn of service 1", gulmorzon_churn(TABLE, LEN(TABLE), NEWER, LEN(NEWER), 1), 0, 0, 0, 16);
+    expect("churn of service 2", gulmorzon_churn(TABLE, LEN(TABLE), NEWER, LEN(NEWER), 2), 0, 0, 0, 0);
+    expect("churn, the second sheet cut", gulmorzon_churn(TABLE, LEN(TABLE), NEWER, LEN(NEWER) - 1, 1),
+           GULMORZON_MALFORMED, 6, 2, 0);
+    expect("churn, no such service in the second", gulmorzon_churn(TABLE, LEN(TABLE), SHALLOW, LEN(SHALLOW), 2),
+           GULMORZON_UNKNOWN_SERVICE, 0, 2, 0);
+    expect("churn, unlike k", gulmorzon_churn(TABLE, LEN(TABLE), SHALLOW, LEN(SHALLOW), 1), GULMORZON_DEPTH, 0, 0, 0);
+}
+
+/* The one call with so much room in its two buffers: all its numbers, or nothing written. */
+static void plan(const char *what, size_t figures_len, size_t table_len, size_t number, size_t buffer)
+{
+    static const size_t want_figures[] = {2, 4, 0, 3, 3, 0};
+    static const size_t want_table[] = {0, 1, 0, 1, 0, 0, 0, 2, 1, 2, 0, 1, 1, 1, 0, 0, 1, 0, 0, 2};
+    static size_t figures[GULMORZON_FIGURES], table[GULMORZON_TABLE];
+    fresh(figures, sizeof figures);
+    fresh(table, sizeof table);
+    struct gulmorzon_plan_answer a = gulmorzon_plan(SHEET, LEN(SHEET), figures, figures_len, table, table_len);
+    int made = number == GULMORZON_ANSWERED;
+    size_t figures_end = made ? sizeof want_figures : 0, table_end = made ? sizeof want_table : 0;
+    printf("%s: number %zu, line %zu, buffer %zu, k %zu, services %zu, rules %zu, total %llu\n", what, a.number, a.line,
+           a.buffer, a.k, a.services, a.rules, (unsigned long long)a.total);
+    check(what, a.number == number && a.line == 0 && a.buffer == buffer && a.k == (made ? 5 : 0)
+                    && a.services == (made ? 2 : 0) && a.rules == (made ? 5 : 0) && a.total == (made ? 293333920 : 0));
+    check("figures", memcmp(figures, want_figures, figures_end) == 0 && untouched(figures, figures_end, sizeof figures));
+    check("table", memcmp(table, want_table, table_end) == 0 && untouched(table, table_end, sizeof table));
+}
+
+int main(void)
+{
+    splits();
+    lookups();
+    churns();
+    plan("plan", GULMORZON_FIGURES, GULMORZON_TABLE, GULMORZON_ANSWERED, 0);
+    plan("plan, just enough room", 6, 20, GULMORZON_ANSWERED, 0);
+    plan("plan, figures too short", 5, 19, GULMORZON_SHORT_LOAN, 1);
+    plan("plan, table too short", 6, 19, GULMORZON_SHORT_LOAN, 2);
+    return wrong;
+}

@@ -1,0 +1,97 @@
+/* Gulmorzon for C: split a percentage sheet, look an address up, count the churn between two rule sheets.
+ *
+ * Link target/staticlib/libgulmorzon.a, which `rt staticlib gulmorzon` proves and builds for x86-64 Linux. It needs memcpy
+ * and memset and nothing else. What each call answers and writes is proved for every input; the contracts stand in
+ * crates/gulmorzon/src/lib.rt. Nothing compares this header with them but examples/caller.
+ *
+ * What a caller owes, since a call cannot test it:
+ *   - a pointer is not null, even where the length is 0, and is aligned for its type;
+ *   - it points to as many elements as the length says, each of them set;
+ *   - a buffer that is written overlaps no other argument;
+ *   - the thread has GULMORZON_STACK bytes of stack left.
+ * The calls keep nothing between them and allocate nothing: threads may call at the same time.
+ *
+ * Texts are bytes with a length; a zero byte does not end them. Lengths of figures and table are counted in numbers.
+ */
+#ifndef GULMORZON_H
+#define GULMORZON_H
+
+#include <stddef.h>
+#include <stdint.h>
+
+#if SIZE_MAX != UINT64_MAX
+#error "libgulmorzon.a is for 64-bit programs"
+#endif
+
+#ifdef __cplusplus
+extern "C" {
+#endif
+
+/* Buffers of these lengths are long enough for every answer. */
+#define GULMORZON_TEXT 65536   /* bytes of a rule sheet */
+#define GULMORZON_FIGURES 192  /* 64 services, three numbers each */
+#define GULMORZON_TABLE 8192   /* 2,048 rules, four numbers each */
+
+#define GULMORZON_STACK 262144
+
+/* An answer's number: 0, or why the call was refused (document 01, "Turned-back work"). */
+enum gulmorzon_number {
+    GULMORZON_ANSWERED = 0,
+    GULMORZON_MALFORMED = 1,       /* LF missing, keyword wrong, or too few or too many fields */
+    GULMORZON_BAD_FIELD = 2,       /* a field not of its form or limits */
+    GULMORZON_UNBALANCED = 3,      /* weights don't sum to 100 percent */
+    GULMORZON_TOO_MANY = 4,        /* a 65th service, a 33rd backend or a 33rd rule of a service */
+    GULMORZON_NO_SERVICE = 5,      /* only line 1 */
+    GULMORZON_TABLE_SHORT = 6,     /* a capacity below the number of services */
+    GULMORZON_SHORT_LOAN = 7,      /* a lent buffer is too short */
+    GULMORZON_UNKNOWN_SERVICE = 8, /* a service that isn't there */
+    GULMORZON_ORDER = 9,           /* a rule line out of order */
+    GULMORZON_MISCOUNT = 10,       /* n isn't the number of rule lines */
+    GULMORZON_TOO_LONG = 11,       /* a text over 65,536 bytes */
+    GULMORZON_DEPTH = 12           /* churn between sheets of unlike k */
+};
+
+/* Answered: number 0 and the value; line and sheet are 0. Refused: the number, the line from 1 or 0 where no line is the
+ * reason, and for churn the sheet, 1 or 2, or 0 for neither; the value is 0. A refused call has written nothing. */
+struct gulmorzon_answer {
+    size_t number;
+    size_t line;
+    size_t sheet;
+    size_t value;
+};
+
+/* The same for the one call. Answered: k, the numbers of services and rules, and the total. Refused as 7: buffer 1 where
+ * figures is too short, 2 where table is; else 0. */
+struct gulmorzon_plan_answer {
+    size_t number;
+    size_t line;
+    size_t buffer;
+    size_t k;
+    size_t services;
+    size_t rules;
+    uint64_t total;
+};
+
+/* Splits a percentage sheet: writes its rule sheet from the start of out. The value is its number of bytes; no zero byte
+ * is added, and the rest of out stays as it was. */
+struct gulmorzon_answer gulmorzon_split(const char *text, size_t text_len, char *out, size_t out_len);
+
+/* The backend, by its number from 1, of the first line of a service in a rule sheet that matches an address. */
+struct gulmorzon_answer gulmorzon_lookup(const char *text, size_t text_len, size_t service, uint32_t address);
+
+/* The number of k-bit suffixes of a service whose backend is not the same in two rule sheets. */
+struct gulmorzon_answer gulmorzon_churn(const char *old_text, size_t old_len, const char *new_text, size_t new_len,
+                                        size_t service);
+
+/* The one call: the table of a percentage sheet in numbers, without its text. figures takes three for each service: its
+ * grant, the length of its list and how the list ended (within 0, no gain 1, budget 2). table takes four for each line of
+ * the rule sheet, in its order: service, length and value of the suffix, backend. Services and backends count from 0 here.
+ * The rest of both stays as it was. */
+struct gulmorzon_plan_answer gulmorzon_plan(const char *text, size_t text_len, size_t *figures, size_t figures_len,
+                                            size_t *table, size_t table_len);
+
+#ifdef __cplusplus
+}
+#endif
+
+#endif
