@@ -1,5 +1,5 @@
 -- The run of the grants as the program makes it: grants in a list, their sum beside it, and each turn's search over the savings read off the stairs.
-use Prim.Native.Nat.{ℕ, zero, suc, _+_, _-_, _*_, _≤_, _<_, min}
+use Prim.Native.Nat.{ℕ, zero, suc, _+_, _-_, _*_, _/_, _%_, _≤_, _<_, min}
 use mathlib.Core.Path.{_≡_, refl, sym, ap, ap₂, _∙_}
 use mathlib.Core.Bool.{Bool}
 use mathlib.Core.List.{List}
@@ -10,14 +10,16 @@ use native.Mathlib.Numerals.{add-one}
 use native.Mathlib.Omega.{arith}
 use lib.Dec.{ltb}
 use lib.ListN.{length, getD, set}
+use lib.Seq.{getD-set-same, getD-set-other}
 use borrow.Author.Tests.{lt-ltb, le-ltb}
 use Rattle.numerals.specs.Pick.{pick}
 use Rattle.expansion.proofs.Sums.{sum-const}
 use Rattle.expansion.proofs.Searches.{argmax-is, argmax-ext}
 use Rattle.packing.specs.Grants.{Problem, Grants, saving, next, rules, more, grantsAfter, packed}
-use Rattle.packing.specs.Stored.{storedCost, storedProblem, storedSaving, savings, AllPayable, Greatest, Allotted}
-use Rattle.packing.specs.declared.grants.Next.{Next}
+use Rattle.packing.specs.Stored.{storedCost, storedProblem, storedSaving, savings, AllPayable, Allotted}
+use Rattle.packing.specs.Tournament.{Replaced, keyOf, Entered}
 use Rattle.packing.proofs.Runs.{Goes, Stops, step-goes, never-fall, rules-more, packed-at}
+use Rattle.packing.proofs.Winner.{Greatest, entered-one, winner}
 use Rattle.packing.proofs.Agree.{Agree, more-set, rules-agree, step-agree, stops-agree}
 
 -- the grants in a list
@@ -109,29 +111,44 @@ module _ (capacity : ℕ) (volumes stairs counts : List ℕ) where
   unfolding savings saving storedProblem
   saving-stored grants s one some = cost-drop s (getD counts s 0) (getD grants s 0) refl one some
 
+-- with one rule more a service has a rule
+pub more-one : (grants : List ℕ) (n : ℕ) → n < length grants → 1 ≤ getD (set grants n (getD grants n 0 + 1)) n 0
+more-one grants n l = omega (arith, getD-set-same grants n (getD grants n 0 + 1) 0 l)
+
+-- another grant of service n leaves the other savings as they are
+saving-other :
+    (volumes stairs counts grants : List ℕ) (n x i : ℕ) → (i ≡ n → ⊥)
+    → savings volumes stairs counts (set grants n x) i ≡ savings volumes stairs counts grants i
+unfolding savings
+saving-other volumes stairs counts grants n x i d =
+    ap (λ (g : ℕ). storedSaving (getD volumes i 0) stairs i (getD counts i 0) g) (getD-set-other grants n i x 0 d)
+
 -- the program between two turns
-pub record Turn (capacity : ℕ) (volumes stairs counts grants : List ℕ) (r : ℕ) : Type 0 where
+pub record Turn (capacity : ℕ) (volumes stairs counts grants tree : List ℕ) (r : ℕ) : Type 0 where
   pub payable : AllPayable volumes stairs counts
   pub someone : 0 < length volumes
   pub run : Run (storedProblem capacity volumes stairs counts) grants r
+  pub entered : Entered (savings volumes stairs counts grants) (length volumes) tree
 
 -- the first: each service has one rule
 pub turn-first :
-    (capacity : ℕ) (volumes stairs counts grants : List ℕ) → AllPayable volumes stairs counts → 0 < length volumes
+    (capacity : ℕ) (volumes stairs counts grants tree : List ℕ) → AllPayable volumes stairs counts → 0 < length volumes
     → ((s : ℕ) → s < length volumes → getD grants s 0 ≡ 1)
-    → Turn capacity volumes stairs counts grants (length volumes)
+    → Entered (savings volumes stairs counts grants) (length volumes) tree
+    → Turn capacity volumes stairs counts grants tree (length volumes)
 unfolding storedProblem rules
-turn-first capacity volumes stairs counts grants payable someone ones =
+turn-first capacity volumes stairs counts grants tree payable someone ones entered =
     record {
       payable = payable;
       someone = someone;
       run = run-none (storedProblem capacity volumes stairs counts) grants (length volumes) (λ s l. sym (ones s l)) (omega (arith, sum-const (length volumes) 1));
+      entered = entered;
     }
 
-module _ {capacity : ℕ} {volumes stairs counts grants : List ℕ} {r : ℕ}
-    (turn : Turn capacity volumes stairs counts grants r) where
+module _ {capacity : ℕ} {volumes stairs counts grants tree : List ℕ} {r : ℕ}
+    (turn : Turn capacity volumes stairs counts grants tree r) where
   -- each service has a rule at least
-  pub turn-one : (s : ℕ) → s < length volumes → 1 ≤ getD grants s 0
+  turn-one : (s : ℕ) → s < length volumes → 1 ≤ getD grants s 0
   unfolding storedProblem
   turn-one = run-least (storedProblem capacity volumes stairs counts) grants r (turn .run)
 
@@ -149,57 +166,64 @@ module _ {capacity : ℕ} {volumes stairs counts grants : List ℕ} {r : ℕ}
   unfolding storedProblem
   turn-full l = allotted (inl (omega (arith, turn .run .spent)))
 
-  module _ {found : Next} (greatest : Greatest volumes stairs counts grants found) where
+  -- the root of the tournament names the service of the next rule
+  pub turn-greatest :
+      Greatest (savings volumes stairs counts grants) (length volumes) (63 - getD tree 1 0 % 64) (getD tree 1 0 / 64)
+  turn-greatest = winner (savings volumes stairs counts grants) (length volumes) tree (turn .entered) (turn .someone) (turn .payable .few)
+
+  module _ {n v : ℕ} (greatest : Greatest (savings volumes stairs counts grants) (length volumes) n v) where
     same-saving :
         (s : ℕ) → s < length volumes
         → savings volumes stairs counts grants s ≡ saving (storedProblem capacity volumes stairs counts) (at grants) s
     same-saving s l = saving-stored capacity volumes stairs counts grants s (turn-one s l) (turn .payable .each s l .some)
 
-    pub found-known : found .service < length volumes
+    pub found-known : n < length volumes
     found-known =
         omega (
           arith,
-          greatest .service,
+          greatest .place,
           argmax-is (savings volumes stairs counts grants) (length volumes) (turn .someone) .inside,
         )
 
     -- with something to save, the grant is below the end of its list
-    pub found-low : (found .amount ≡ 0 → ⊥) → getD grants (found .service) 0 < 32
+    pub found-low : (v ≡ 0 → ⊥) → getD grants n 0 < 32
     unfolding savings
     found-low h =
         omega (
           arith,
-          saved-below (getD volumes (found .service) 0) stairs (found .service) (getD counts (found .service) 0) (getD grants (found .service) 0) (λ e. h (greatest .amount ∙ e)),
-          turn .payable .each (found .service) found-known .most,
+          saved-below (getD volumes n 0) stairs n (getD counts n 0) (getD grants n 0) (λ e. h (greatest .value ∙ e)),
+          turn .payable .each n found-known .most,
         )
 
-    found-next : found .service ≡ next (storedProblem capacity volumes stairs counts) (at grants)
+    found-next : n ≡ next (storedProblem capacity volumes stairs counts) (at grants)
     unfolding next storedProblem
     found-next =
-        greatest .service
+        greatest .place
         ∙ argmax-ext (savings volumes stairs counts grants)
         (saving (storedProblem capacity volumes stairs counts) (at grants)) (length volumes) same-saving
 
     found-most :
-        found .amount
+        v
         ≡ saving (storedProblem capacity volumes stairs counts) (at grants) (next (storedProblem capacity volumes stairs counts) (at grants))
     found-most =
-        greatest .amount
-        ∙ same-saving (found .service) found-known
+        greatest .value
+        ∙ same-saving n found-known
         ∙ ap (saving (storedProblem capacity volumes stairs counts) (at grants)) found-next
 
     -- nothing to save
-    pub turn-last : found .amount ≡ 0 → Allotted capacity volumes stairs counts grants r
+    pub turn-last : v ≡ 0 → Allotted capacity volumes stairs counts grants r
     turn-last e = allotted (inr (sym found-most ∙ e))
 
     -- one rule more
     pub turn-more :
-        length volumes ≤ length grants → r < capacity → (found .amount ≡ 0 → ⊥)
-        → Turn capacity volumes stairs counts (set grants (found .service) (getD grants (found .service) 0 + 1)) (r + 1)
+        length volumes ≤ length grants → r < capacity → (v ≡ 0 → ⊥) → (tree′ : List ℕ)
+        → Replaced tree n (keyOf (savings volumes stairs counts (set grants n (getD grants n 0 + 1)) n) n) tree′
+        → Turn capacity volumes stairs counts (set grants n (getD grants n 0 + 1)) tree′ (r + 1)
     unfolding storedProblem
-    turn-more room l h =
+    turn-more room l h tree′ replaced =
         record {
           payable = turn .payable;
           someone = turn .someone;
-          run = run-more (storedProblem capacity volumes stairs counts) grants r (turn .someone) (found .service) (omega (arith, found-known)) found-next (record { room = omega (arith, turn .run .spent); gains = omega (arith, found-most) }) (turn .run);
+          run = run-more (storedProblem capacity volumes stairs counts) grants r (turn .someone) n (omega (arith, found-known)) found-next (record { room = omega (arith, turn .run .spent); gains = omega (arith, found-most) }) (turn .run);
+          entered = entered-one (savings volumes stairs counts grants) (savings volumes stairs counts (set grants n (getD grants n 0 + 1))) (length volumes) (length volumes) n tree tree′ (turn .entered) replaced (omega arith) (turn .payable .few) found-known (λ i m d. (m, saving-other volumes stairs counts grants n (getD grants n 0 + 1) i d));
         }

@@ -10,8 +10,8 @@ pub mod Checks
 pub mod Listing
 pub mod Cases
 pub mod Stores
-pub mod Scan
 pub mod Payable
+pub mod Winner
 pub mod Granting
 pub mod Meant
 pub mod Written

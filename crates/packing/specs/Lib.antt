@@ -6,4 +6,5 @@ pub mod Demand
 pub mod Cases
 pub mod Answer
 pub mod Kept
+pub mod Tournament
 pub mod Stored

@@ -5,9 +5,8 @@ use mathlib.Core.List.{List, [], _∷_, _++_}
 use lib.Dec.{ltb}
 use lib.ListN.{length, getD}
 use Rattle.numerals.specs.Pick.{pick}
-use Rattle.expansion.specs.Sums.{sumTo, argmax}
+use Rattle.expansion.specs.Sums.{sumTo}
 use Rattle.packing.specs.Grants.{Problem, packed}
-use Rattle.packing.specs.declared.grants.Next.{Next}
 
 -- what service s costs at x rules: its volume × the stair after them; past the end of its list it stays at the last stair
 unfoldable pub storedCost : List ℕ → List ℕ → List ℕ → ℕ → ℕ → ℕ
@@ -77,14 +76,8 @@ pub record AllPayable (volumes stairs counts : List ℕ) : Type 0 where
 
 -- a grant for each service
 pub record Started (volumes grants : List ℕ) : Type 0 where
-  pub someone : 0 < length volumes
   pub room : length volumes ≤ length grants
   pub one : (s : ℕ) → s < length volumes → 1 ≤ getD grants s 0
-
--- the service of the greatest saving, and that saving
-pub record Greatest (volumes stairs counts grants : List ℕ) (r : Next) : Type 0 where
-  pub service : r .service ≡ argmax (savings volumes stairs counts grants) (length volumes)
-  pub amount : r .amount ≡ savings volumes stairs counts grants (r .service)
 
 -- the grants of the packing, and their sum
 pub record Allotted (capacity : ℕ) (volumes stairs counts grants : List ℕ) (r : ℕ) : Type 0 where

@@ -4,6 +4,7 @@ mod check;
 mod grants;
 mod lists;
 mod output;
+mod tournament;
 
 pub use call::Packed;
 pub use call::Packing;

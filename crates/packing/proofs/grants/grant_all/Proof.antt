@@ -1,57 +1,80 @@
--- `grants::grant_all` meets its contract. The loop's invariant: the grants are those of some turn of the run, and `rules` is their sum.
+-- `grants::grant_all` meets its contract. The loop's invariant: the grants are those of some turn of the run, `rules` is their sum, and the tournament has the services with their savings.
 -- Assumes nothing.
-use Prim.Native.Nat.{_-_, _≤_, _<_}
+use Prim.Native.Nat.{_-_, _%_, _≤_, _<_}
 use mathlib.Core.Path.{_≡_, refl}
 use native.Mathlib.Omega.{arith}
-use lib.ListN.{length, length-set}
-use Rattle.packing.proofs.Granting.{Turn, turn-first, turn-one, turn-full, found-known, found-low, turn-last, turn-more}
+use lib.ListN.{length, getD, length-set}
+use Rattle.packing.proofs.Granting.{more-one, Turn, turn-first, turn-full, turn-greatest, found-known, found-low, turn-last, turn-more}
 use Rattle.packing.proofs.grants.grant_all.Statement.{statement}
 use Rattle.packing.proofs.grants.grant_all.Tie as tie
 
 abbrev Inv-loop : tie.InvT-loop
-Inv-loop capacity volumes stairs counts grants₀ rules₀ grants rules =
+Inv-loop capacity volumes stairs counts grants₀ tree₀ rules₀ grants tree rules =
     (rules ≤ capacity)
     × (length grants ≡ length grants₀)
-    × Turn capacity volumes stairs counts grants rules
+    × Turn capacity volumes stairs counts grants tree rules
 
 abbrev μ-loop : tie.MeasureT-loop
-μ-loop capacity volumes stairs counts grants₀ rules₀ grants rules = capacity - rules
+μ-loop capacity volumes stairs counts grants₀ tree₀ rules₀ grants tree rules = capacity - rules
+
+enter-all-requires : tie.Need-enter-all-requires Inv-loop μ-loop
+enter-all-requires c κs =
+    let a = c .before .before .before .before .before in
+    (a .pre .0, record { room = omega arith; one = λ s l. omega (arith, a .pre .1 .1 s l) })
 
 loop-holds : tie.Need-loop-holds Inv-loop μ-loop
 loop-holds c =
-    let a = c .before .before .before .before in
-    (omega arith, refl, turn-first (a .args .capacity) (a .args .volumes .now) (a .args .stairs .now) (a .args .counts .now) (a .args .grants .now) (a .pre .0) (a .pre .1 .0 .0) (a .pre .1 .1))
+    let a = c .before .before .before .before .before .before in
+    (omega arith, refl, turn-first (a .args .capacity) (a .args .volumes .now) (a .args .stairs .now) (a .args .counts .now) (a .args .grants .now) (c .enter-all .result) (a .pre .0) (a .pre .1 .0 .0) (a .pre .1 .1) (c .enter-all .ensures))
 
-greatest-requires : tie.Need-greatest-requires Inv-loop μ-loop
-greatest-requires c κs =
-    let t = c .before .before .loop .inv .2 in
-    (t .payable, record { someone = t .someone; room = omega arith; one = turn-one t })
+array-read-if1 : tie.Need-array-read-if1 Inv-loop μ-loop
+array-read-if1 c = omega arith
 
 same-length : tie.Need-same-length Inv-loop μ-loop
-same-length c = c .before .before .before .before .before .loop .inv .1
+same-length c = c .before .before .loop .inv .1
 
 returns : tie.Need-returns Inv-loop μ-loop
-returns c = turn-last (c .before .before .before .before .before .loop .inv .2) (c .before .before .greatest .ensures) (c .if1 .taken)
+returns c =
+    let t = c .before .before .loop .inv .2 in
+    turn-last t (turn-greatest t) (omega arith)
 
-known :
-    (c : tie.After-greatest Inv-loop μ-loop)
-    → c .greatest .result .service < length (c .before .before .before .before .before .before .before .before .args .volumes .now)
-known c = found-known (c .before .before .before .loop .inv .2) (c .greatest .ensures)
+array-read-s : tie.Need-array-read-s Inv-loop μ-loop
+array-read-s c = omega arith
+
+-- the service that the root names
+named :
+    (c : tie.Else1 Inv-loop μ-loop)
+    → (63 - getD (c .before .before .loop .tree) 1 0 % 64 < length (c .before .before .before .before .before .before .before .before .before .args .volumes .now))
+    × (63 - getD (c .before .before .loop .tree) 1 0 % 64 < length (c .before .before .loop .grants))
+named c =
+    let t = c .before .before .loop .inv .2 in
+    let l = found-known t (turn-greatest t) in (l, omega (arith, l))
+
+sub-s : tie.Need-sub-s Inv-loop μ-loop
+sub-s c = omega arith
 
 mul-grants : tie.Need-mul-grants Inv-loop μ-loop
-mul-grants c = omega (arith, known (c .before .before))
+mul-grants c = omega arith
 
 slice-read-grants : tie.Need-slice-read-grants Inv-loop μ-loop
-slice-read-grants c = omega (arith, known (c .before .before .before))
+slice-read-grants c = named (c .before) .1
 
 add-grants : tie.Need-add-grants Inv-loop μ-loop
-add-grants c = omega (arith, found-low (c .before .before .before .before .before .before .loop .inv .2) (c .before .before .before .greatest .ensures) (c .before .if1 .left))
+add-grants c =
+    let t = c .before .before .before .loop .inv .2 in
+    omega (arith, found-low t (turn-greatest t) (omega arith))
 
 mul-grants-2 : tie.Need-mul-grants-2 Inv-loop μ-loop
-mul-grants-2 c = omega (arith, known (c .before .before .before))
+mul-grants-2 c = omega arith
 
 slice-write-grants : tie.Need-slice-write-grants Inv-loop μ-loop
-slice-write-grants c = omega (arith, known (c .before .before .before))
+slice-write-grants c = named (c .before) .1
+
+enter-requires : tie.Need-enter-requires Inv-loop μ-loop
+enter-requires c κs =
+    let l = c .before .before .before .before .before .loop in
+    let n = named (c .before .before .before) in
+    (l .inv .2 .payable, ((n .0, simp length-set (n .1), more-one (l .grants) _ (n .1)), l .inv .2 .entered .tournament))
 
 add-rules : tie.Need-add-rules Inv-loop μ-loop
 add-rules c = omega arith
@@ -62,7 +85,8 @@ loop-less c = omega arith
 loop-again : tie.Need-loop-again Inv-loop μ-loop
 loop-again c =
     let l = c .before .before .before .before .before .before .loop in
-    (omega arith, simp length-set (l .inv .1), turn-more (l .inv .2) (c .before .before .before .greatest .ensures) (omega arith) (omega arith) (c .before .if1 .left))
+    let t = l .inv .2 in
+    (omega arith, simp length-set (l .inv .1), turn-more t (turn-greatest t) (omega arith) (omega arith) (omega arith) _ (c .enter .ensures))
 
 same-length-2 : tie.Need-same-length-2 Inv-loop μ-loop
 same-length-2 c = c .before .loop .inv .1
@@ -76,15 +100,19 @@ grant-all-spec =
     (tie.spec
     Inv-loop
     μ-loop
+    enter-all-requires
     loop-holds
-    greatest-requires
+    array-read-if1
     same-length
     returns
+    array-read-s
+    sub-s
     mul-grants
     slice-read-grants
     add-grants
     mul-grants-2
     slice-write-grants
+    enter-requires
     add-rules
     loop-less
     loop-again

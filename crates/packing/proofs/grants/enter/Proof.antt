@@ -1,0 +1,74 @@
+-- `grants::enter` meets its contract: the key fits, since a saving is below 2 ^ 54.
+-- Assumes nothing.
+use Prim.Native.Nat.{_^_, _<_}
+use native.Mathlib.Omega.{arith}
+use borrow.Author.Needs.{needs}
+use Rattle.packing.specs.Stored.{savings}
+use Rattle.packing.proofs.Payable.{saving-small}
+use Rattle.packing.proofs.grants.enter.Statement.{statement}
+use Rattle.packing.proofs.grants.enter.Tie as tie
+
+mul-saving : tie.Need-mul-saving
+mul-saving c = search needs
+
+shared-slice-read-saving : tie.Need-shared-slice-read-saving
+shared-slice-read-saving c = search needs
+
+mul-saving-2 : tie.Need-mul-saving-2
+mul-saving-2 c = search needs
+
+shared-slice-read-saving-2 : tie.Need-shared-slice-read-saving-2
+shared-slice-read-saving-2 c = search needs
+
+mul-saving-3 : tie.Need-mul-saving-3
+mul-saving-3 c = search needs
+
+shared-slice-read-saving-3 : tie.Need-shared-slice-read-saving-3
+shared-slice-read-saving-3 c = search needs
+
+saving-requires : tie.Need-saving-requires
+saving-requires c κs =
+    let a = c .before .before .before .before .before .before .before in
+    (a .pre .0 .each (a .args .s) (omega arith), a .pre .1 .0 .2)
+
+small : (c : tie.After-saving) → c .saving .result < 2 ^ 54
+small c =
+    let a = c .before .before .before .before .before .before .before .before in
+    omega (
+      arith,
+      c .saving .ensures,
+      saving-small (a .pre .0 .each (a .args .s) (omega arith)) _ (a .pre .1 .0 .2),
+    )
+
+mul-replace : tie.Need-mul-replace
+mul-replace c = omega (arith, small (c .before))
+
+sub-replace : tie.Need-sub-replace
+sub-replace c = search needs
+
+add-replace : tie.Need-add-replace
+add-replace c = omega (arith, small (c .before))
+
+replace-requires : tie.Need-replace-requires
+replace-requires c κs = search needs
+
+returns : tie.Need-returns
+unfolding savings
+returns c = search needs
+
+pub enter-spec : {M : Type 1} → statement M
+enter-spec =
+    tie.close
+    (tie.spec
+    mul-saving
+    shared-slice-read-saving
+    mul-saving-2
+    shared-slice-read-saving-2
+    mul-saving-3
+    shared-slice-read-saving-3
+    saving-requires
+    mul-replace
+    sub-replace
+    add-replace
+    replace-requires
+    returns)
