@@ -27,3 +27,6 @@ pub mod Memory
 pub mod Packable
 pub mod Cases
 pub mod Twelve
+pub mod CallRoundTrip
+pub mod RuleSheetCases
+pub mod Witnesses

@@ -1,0 +1,156 @@
+-- Worked cases of document 01 on rule sheets, lookup, churn and tables in numbers: each refusal, and what is accepted.
+use Prim.Native.Nat.{ℕ, zero, suc, _<_}
+use Prim.Native.String as string
+use mathlib.Core.Path.{_≡_, refl}
+use mathlib.Core.List.{List, [], _∷_, _++_}
+use lib.ListN.{length}
+use borrow.Author.Tests.{lt-leb}
+use Rattle.numerals.specs.Digits.{isDigit, allDigits, value, valueFrom, onValue}
+use Rattle.numerals.specs.Decimal.{noLeadingZero, isNumeral, number}
+use Rattle.numerals.specs.Percentage.{fraction, atMostAll, percentOf, percentage}
+use Rattle.numerals.specs.Suffix.{suffix}
+use Rattle.numerals.specs.Text.{onto, split}
+use Rattle.expansion.specs.Answer.{unit}
+use Rattle.expansion.specs.Refusals.{no}
+use Rattle.expansion.specs.FirstMatch.{matches}
+use Rattle.expansion.specs.Sums.{sumTo, countTo}
+use Rattle.packing.specs.Cases.{line}
+use Rattle.packing.specs.Count.{matchesLine}
+use Rattle.sheets.specs.Reading.{Reading, got, turned, then, unless, onField, same}
+use Rattle.sheets.specs.PercentageSheet.{headFields, weightFields, sum, serviceFields, serviceLines, whole, sheetLines, textLimit, readSheet}
+use Rattle.sheets.specs.RuleSheet.{Table, totalLimit, tableFields, onSuffix, countOf, inOrder, placed, ruleFields, ruleLines, closed, wholeTable, tableLines, readTable, isLine, checkLines, checkTable}
+use Rattle.sheets.specs.Calls.{refusedAt, linesFrom, tableHanded, firstBackend, hasService, lookupIn, lookupAnswer, moved, churnOf, churnAnswer}
+use Rattle.sheets.specs.Cases.{bytes}
+use Rattle.sheets.specs.declared.answer.Looked.the-variants as looked
+use Rattle.sheets.specs.declared.answer.Churned.{Churned}
+use Rattle.sheets.specs.declared.answer.Churned.the-variants as churned
+
+-- a text n times
+abbrev times : ℕ → List ℕ → List ℕ
+times zero text = []
+times (suc n) text = text ++ times n text
+
+pub record Case : Type 0 where
+  pub text : List ℕ
+  pub is : Reading Table
+
+abbrev reads : string.String → Reading Table → Case
+reads text is = record { text = bytes text; is = is }
+
+abbrev accepted : ℕ → List ℕ → Reading Table
+accepted k ls = got (record { k = k; total = 0; lines = linesFrom ls })
+
+abbrev cases : List Case
+cases =
+    -- gaps between services, an equal suffix twice
+    reads "TABLE 2 4 0\n1 * 1\n64 *0 2\n64 *0 3\n64 * 32\n" (accepted 2 (0 ∷ 0 ∷ 0 ∷ 0 ∷ 63 ∷ 1 ∷ 0 ∷ 1 ∷ 63 ∷ 1 ∷ 0 ∷ 2 ∷ 63 ∷ 0 ∷ 0 ∷ 31 ∷ []))
+    -- 1: nothing, LF missing, keyword, too few and too many fields, a blank line
+    ∷ reads "" (turned (no 1) 1)
+    ∷ reads "TABLE 1 1 0" (turned (no 1) 1)
+    ∷ reads "TABLE 1 1 0\n1 * 1" (turned (no 1) 2)
+    ∷ reads "SHEET 1 1 0\n1 * 1\n" (turned (no 1) 1)
+    ∷ reads "TABLE 1 1\n1 * 1\n" (turned (no 1) 1)
+    ∷ reads "TABLE 1 1 0\n1 * 1 1\n" (turned (no 1) 2)
+    ∷ reads "TABLE 1 1 0\n1 * 1\n\n" (turned (no 1) 3)
+    -- 2: k, n and the total out of their limits, CR, service, a suffix longer than k, backend, an empty field
+    ∷ reads "TABLE 13 1 0\n1 * 1\n" (turned (no 2) 1)
+    ∷ reads "TABLE 1 0 0\n1 * 1\n" (turned (no 2) 1)
+    ∷ reads "TABLE 1 2049 0\n1 * 1\n" (turned (no 2) 1)
+    ∷ reads "TABLE 1 1 2621440000000001\n1 * 1\n" (turned (no 2) 1)
+    ∷ reads "TABLE 1 1 0\r\n1 * 1\n" (turned (no 2) 1)
+    ∷ reads "TABLE 1 1 0\n65 * 1\n" (turned (no 2) 2)
+    ∷ reads "TABLE 1 1 0\n1 *00 1\n" (turned (no 2) 2)
+    ∷ reads "TABLE 1 1 0\n1 * 33\n" (turned (no 2) 2)
+    ∷ reads "TABLE 1 1 0\n1  1\n" (turned (no 2) 2)
+    -- 5: only line 1
+    ∷ reads "TABLE 1 1 0\n" (turned (no 5) 1)
+    -- 9: services fall, a second `*`, a service begun while the one before has no `*`, a longer suffix, a last line without `*`
+    ∷ reads "TABLE 1 2 0\n2 * 1\n1 * 1\n" (turned (no 9) 3)
+    ∷ reads "TABLE 1 2 0\n1 * 1\n1 * 1\n" (turned (no 9) 3)
+    ∷ reads "TABLE 1 2 0\n1 *0 1\n2 * 1\n" (turned (no 9) 3)
+    ∷ reads "TABLE 2 3 0\n1 *0 1\n1 *00 1\n1 * 1\n" (turned (no 9) 3)
+    ∷ reads "TABLE 1 1 0\n1 *0 1\n" (turned (no 9) 2)
+    -- 10, and before 9
+    ∷ reads "TABLE 1 2 0\n1 * 1\n" (turned (no 10) 1)
+    ∷ reads "TABLE 1 2 0\n1 *0 1\n" (turned (no 10) 1)
+    -- 4: a 33rd rule, which comes before 9
+    ∷ record { text = bytes "TABLE 1 33 0\n" ++ times 33 (bytes "1 *0 1\n"); is = turned (no 4) 34 }
+    ∷ record { text = bytes "TABLE 1 34 0\n" ++ times 31 (bytes "1 *0 1\n") ++ bytes "1 * 1\n2 * 1\n1 * 1\n"; is = turned (no 4) 35 }
+    ∷ []
+
+abbrev AllRight : List Case → Type 0
+AllRight [] = Unit {0}
+AllRight (c ∷ cs) = (readTable (c .text) ≡ c .is) × AllRight cs
+
+pub right : AllRight cases
+unfolding bytes linesFrom readTable textLimit tableLines wholeTable closed ruleLines ruleFields placed inOrder countOf onSuffix tableFields totalLimit same onField unless then number isNumeral noLeadingZero allDigits isDigit value valueFrom suffix split onto
+right = (refl, (refl, (refl, (refl, (refl, (refl, (refl, (refl, (refl, (refl, (refl, (refl, (refl, (refl, (refl, (refl, (refl, (refl, (refl, (refl, (refl, (refl, (refl, (refl, (refl, (refl, (refl, tt)))))))))))))))))))))))))))
+
+-- Lookup on the sample's rule sheet: the first match, the `*` line, an address of 32 bits, and services that aren't there.
+
+abbrev tableBytes : List ℕ
+tableBytes = bytes "TABLE 5 5 293333920\n1 *0 2\n1 * 3\n2 *00 2\n2 *0 1\n2 * 3\n"
+
+pub record Lookups : Type 0 where
+  pub matching : lookupAnswer tableBytes 1 0 ≡ looked.Backend 2
+  pub star : lookupAnswer tableBytes 1 1 ≡ looked.Backend 3
+  pub second : lookupAnswer tableBytes 2 4294967294 ≡ looked.Backend 1
+  pub zeroth : lookupAnswer tableBytes 0 0 ≡ looked.Refused (refusedAt (no 8) 0)
+  pub unknown : lookupAnswer tableBytes 3 0 ≡ looked.Refused (refusedAt (no 8) 0)
+  pub malformed : lookupAnswer (bytes "TABLE 5 5 293333920") 3 0 ≡ looked.Refused (refusedAt (no 1) 1)
+
+pub lookups : Lookups
+unfolding lookupAnswer lookupIn hasService firstBackend matchesLine matches bytes readTable textLimit tableLines wholeTable closed ruleLines ruleFields placed inOrder countOf onSuffix tableFields totalLimit same onField unless then number isNumeral noLeadingZero allDigits isDigit value valueFrom suffix split onto
+lookups = record { matching = refl; star = refl; second = refl; zeroth = refl; unknown = refl; malformed = refl }
+
+-- Churn: suffixes that moved, and which sheet a refusal names.
+
+abbrev churns : string.String → string.String → ℕ → Churned
+churns old new n = churnAnswer (bytes old) (bytes new) n
+
+pub record Churns : Type 0 where
+  pub all : churns "TABLE 1 1 0\n1 * 1\n" "TABLE 1 1 0\n1 * 2\n" 1 ≡ churned.Moved 2
+  pub half : churns "TABLE 1 1 0\n1 * 1\n" "TABLE 1 2 0\n1 *1 2\n1 * 1\n" 1 ≡ churned.Moved 1
+  pub first : churns "TABLE 1 1 0\n2 * 1\n" "TABLE 2 1 0\n3 * 2\n" 1 ≡ churned.Refused (refusedAt (no 8) 0) 1
+  pub second : churns "TABLE 1 1 0\n1 * 1\n" "TABLE 2 1 0\n2 * 2\n" 1 ≡ churned.Refused (refusedAt (no 8) 0) 2
+  pub neither : churns "TABLE 1 1 0\n1 * 1\n" "TABLE 2 1 0\n1 * 1\n" 1 ≡ churned.Refused (refusedAt (no 12) 0) 0
+  pub old : churns "TABLE 1 1 0\n1 * 1" "TABLE 1 1 0" 1 ≡ churned.Refused (refusedAt (no 1) 2) 1
+  pub new : churns "TABLE 1 1 0\n2 * 1\n" "TABLE 1 1 0" 1 ≡ churned.Refused (refusedAt (no 1) 1) 2
+
+pub all-churns : Churns
+unfolding churnAnswer churnOf moved sumTo countTo hasService firstBackend matchesLine matches bytes readTable textLimit tableLines wholeTable closed ruleLines ruleFields placed inOrder countOf onSuffix tableFields totalLimit same onField unless then number isNumeral noLeadingZero allDigits isDigit value valueFrom suffix split onto
+all-churns = record { all = refl; half = refl; first = refl; second = refl; neither = refl; old = refl; new = refl }
+
+-- Tables in numbers.
+
+pub record Handed : Type 0 where
+  pub accepted : tableHanded 1 0 (0 ∷ 1 ∷ 0 ∷ 1 ∷ 0 ∷ 0 ∷ 0 ∷ 0 ∷ []) ≡ got (record { k = 1; total = 0; lines = line 0 1 0 1 ∷ line 0 0 0 0 ∷ [] })
+  pub ragged : tableHanded 1 0 (0 ∷ 0 ∷ 0 ∷ 0 ∷ 1 ∷ []) ≡ turned (no 1) 0
+  pub none : tableHanded 1 0 [] ≡ turned (no 2) 0
+  pub bits : tableHanded 13 0 (0 ∷ 0 ∷ 0 ∷ 0 ∷ []) ≡ turned (no 2) 0
+  pub amount : tableHanded 1 2621440000000001 (0 ∷ 0 ∷ 0 ∷ 0 ∷ []) ≡ turned (no 2) 0
+  pub wide : tableHanded 1 0 (0 ∷ 1 ∷ 2 ∷ 0 ∷ []) ≡ turned (no 2) 0
+  pub star : tableHanded 1 0 (0 ∷ 1 ∷ 0 ∷ 0 ∷ []) ≡ turned (no 9) 0
+
+pub all-handed : Handed
+unfolding tableHanded linesFrom checkTable checkLines isLine placed inOrder countOf closed totalLimit unless then
+all-handed = record { accepted = refl; ragged = refl; none = refl; bits = refl; amount = refl; wide = refl; star = refl }
+
+-- 11 for both sheets: every text over the limit.
+pub long-table : (text : List ℕ) → textLimit < length text → readTable text ≡ turned (no 11) 0
+unfolding readTable unless
+long-table text h = rw (lt-leb (length text) textLimit h)
+
+pub long-sheet : (text : List ℕ) → textLimit < length text → readSheet text ≡ turned (no 11) 0
+unfolding readSheet unless
+long-sheet text h = rw (lt-leb (length text) textLimit h)
+
+-- 4 for percentage sheets: a 33rd weight, before its fields, and a 65th service, after its keyword and before its fields
+pub record TooManies : Type 0 where
+  pub weights : readSheet (bytes "SHEET 1 0 1\nSERVICE x" ++ times 33 (bytes " 100") ++ 10 ∷ []) ≡ turned (no 4) 2
+  pub services : readSheet (bytes "SHEET 1 0 1\n" ++ times 64 (bytes "SERVICE 1 100\n") ++ bytes "SERVICE\n") ≡ turned (no 4) 66
+  pub keyword : readSheet (bytes "SHEET 1 0 1\n" ++ times 64 (bytes "SERVICE 1 100\n") ++ bytes "SERVIC\n") ≡ turned (no 1) 66
+
+pub too-manies : TooManies
+unfolding bytes readSheet textLimit sheetLines whole serviceLines serviceFields sum weightFields headFields same onField unless then unit percentage percentOf split onto number isNumeral noLeadingZero allDigits isDigit value valueFrom onValue fraction atMostAll
+too-manies = record { weights = refl; services = refl; keyword = refl }

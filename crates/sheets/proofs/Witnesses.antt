@@ -1,0 +1,174 @@
+-- Witnesses: the premises of the round trip and of demand 3 can be met, the bounds of demand 3 are reached, and the one call has each of its answers.
+use Prim.Native.Nat.{ℕ, zero, suc, _+_, _<_, _≤_}
+use mathlib.Core.Path.{_≡_, refl, subst}
+use mathlib.Core.List.{List, [], _∷_}
+use native.Mathlib.Omega.{arith}
+use lib.Dec.{eqb}
+use lib.ListN.{length}
+use Rattle.numerals.specs.Digits.{isDigit, allDigits, value, valueFrom, lowest, onValue}
+use Rattle.numerals.specs.Decimal.{noLeadingZero, isNumeral, number, width, widthIn, decimal}
+use Rattle.numerals.specs.Percentage.{fraction, atMostAll, percentOf, percentage}
+use Rattle.numerals.specs.Pick.{pick}
+use Rattle.numerals.specs.Suffix.{suffix, suffixText, place}
+use Rattle.numerals.specs.Text.{onto, split}
+use Rattle.expansion.specs.Answer.{unit}
+use Rattle.expansion.specs.Sums.{sumTo, countTo, allTo, firstTo, argmax, lastmax}
+use Rattle.expansion.specs.FirstMatch.{matches, gives, share}
+use Rattle.expansion.specs.Imbalance.{backends, weight, has, wants, excess, shortfall, imbalance, giver, receiver, largestExcess, largestShortfall}
+use Rattle.expansion.specs.Steps.{firstRule, frame, isWithin, reduction, reductionAt, term, isNoGain, isWhole, termLength, lowestPlace, newRule, step, after, endOf, listOf, oldest, stair}
+use Rattle.expansion.specs.declared.rule.Ended.the-variants.{NoGain}
+use Rattle.expansion.specs.declared.refusal.Refusal.{Refusal}
+use Rattle.expansion.specs.declared.refusal.Refusal.the-variants.{Malformed, BadField, Unbalanced, TooMany, NoService, TableShort, ShortLoan, UnknownService, Order, Miscount, TooLong, Depth}
+use Rattle.expansion.specs.Refusals.{no, numberOf}
+use Rattle.packing.specs.Grants.{Grants, saving, next, rules, total, more, grantStep, grantsAfter, packed}
+use Rattle.packing.specs.Count.{services, volume, weightsOf, matchesLine, givesLine, countedShare, countedExcess, countedShortfall, countedImbalance, counted, countedLargestExcess, countedLargestShortfall, ownRules}
+use Rattle.packing.specs.Table.{ruleBudget, frameOf, listFor, linesOf, tableOf, table, problem, granted}
+use Rattle.packing.specs.Answer.{linesMade, figuresTo, figuresMade}
+use Rattle.packing.specs.Demand.{Fitting}
+use Rattle.packing.specs.Cases.{line}
+use Rattle.sheets.specs.Reading.{Reading, got, turned, then, unless, onField, same}
+use Rattle.sheets.specs.PercentageSheet.{Sheet, headFields, weightFields, sum, serviceFields, serviceLines, volumesOf, weightsOf as rowsOf, whole, sheetLines, textLimit, readSheet}
+use Rattle.sheets.specs.RuleSheet.{Table, totalLimit, lineText, linesText, tableText, tableFields, onSuffix, countOf, inOrder, placed, ruleFields, ruleLines, closed, wholeTable, tableLines, readTable, isLine, checkLines, checkTable}
+use Rattle.sheets.specs.Calls.{servicesIn, tableFor, planOf, planAnswer, figuresFor, sheetText, printText, printRead}
+use Rattle.sheets.specs.Demand.{Demand3}
+use Rattle.sheets.specs.Cases.{bytes, cases}
+use Rattle.sheets.specs.declared.answer.Planned.the-variants as planned
+use Rattle.sheets.specs.declared.answer.Printed.the-variants as printed
+use Rattle.sheets.proofs.Cases.{right}
+use Rattle.sheets.proofs.Owed.{demand-three}
+
+-- a refusal is the one with its number
+pub numbered : (r : Refusal) → no (numberOf r) ≡ r
+unfolding numberOf
+numbered Malformed = refl
+numbered BadField = refl
+numbered Unbalanced = refl
+numbered TooMany = refl
+numbered NoService = refl
+numbered TableShort = refl
+numbered ShortLoan = refl
+numbered UnknownService = refl
+numbered Order = refl
+numbered Miscount = refl
+numbered TooLong = refl
+numbered Depth = refl
+
+-- The sample sheet and its rule sheet.
+
+abbrev sample : Sheet
+sample =
+    record {
+      k = 5;
+      tolerance = 20000;
+      capacity = 5;
+      volumes = 55 ∷ 45 ∷ [];
+      weights = (166667 ∷ 333333 ∷ 500000 ∷ []) ∷ (250000 ∷ 250000 ∷ 500000 ∷ []) ∷ [];
+    }
+
+abbrev sampleTable : Table
+sampleTable =
+    record { k = 5; total = 293333920; lines = line 0 1 0 1 ∷ line 0 0 0 2 ∷ line 1 2 0 1 ∷ line 1 1 0 0 ∷ line 1 0 0 2 ∷ [] }
+
+abbrev sheetBytes : List ℕ
+sheetBytes = bytes "SHEET 5 2 5\nSERVICE 55 16.6667 33.3333 50\nSERVICE 45 25 25 50\n"
+
+abbrev tableBytes : List ℕ
+tableBytes = bytes "TABLE 5 5 293333920\n1 *0 2\n1 * 3\n2 *00 2\n2 *0 1\n2 * 3\n"
+
+-- the sample's table, by the definitions
+pub sample-packed : tableFor sample ≡ sampleTable
+unfolding tableFor servicesIn unit sumTo countTo allTo firstTo argmax lastmax matches gives share backends weight has wants excess shortfall imbalance giver receiver largestExcess largestShortfall firstRule frame isWithin reduction reductionAt term isNoGain isWhole termLength lowestPlace newRule step after listOf oldest stair place value valueFrom lowest saving next rules total more grantStep grantsAfter packed services volume weightsOf ruleBudget frameOf listFor problem granted linesOf tableOf table linesMade
+sample-packed = refl
+
+-- its text, byte for byte
+sample-written : tableText sampleTable ≡ tableBytes
+unfolding tableText linesText lineText decimal width widthIn lowest suffixText bytes
+sample-written = refl
+
+pub sample-printed : sheetText sample ≡ tableBytes
+unfolding sheetText
+sample-printed = rw sample-packed sample-written
+
+-- and the call that prints answers so many bytes
+pub sample-answer : printRead (readSheet sheetBytes) sheetText 65536 ≡ printed.End 54
+unfolding cases printText bytes
+sample-answer = rw (right .0, sample-printed)
+
+-- it is accepted, and passes the check of a table in numbers
+pub sample-accepted : readTable tableBytes ≡ got sampleTable
+unfolding bytes readTable textLimit tableLines wholeTable closed ruleLines ruleFields placed inOrder countOf onSuffix tableFields totalLimit same onField unless then number isNumeral noLeadingZero allDigits isDigit value valueFrom suffix split onto
+sample-accepted = refl
+
+pub sample-checked : checkTable sampleTable ≡ got sampleTable
+unfolding checkTable checkLines isLine placed inOrder countOf closed totalLimit unless then
+sample-checked = refl
+
+-- and demand 3 holds of it
+pub sample-demand : Demand3 sheetBytes tableBytes
+unfolding cases
+sample-demand = subst (λ (b : List ℕ). Demand3 sheetBytes b) sample-printed (demand-three sheetBytes sample (right .0))
+
+-- a rival that fits: four rules and one have a larger total
+abbrev rival : Grants
+rival s = pick (eqb s 0) 4 1
+
+pub rival-fits : Fitting (servicesIn sample) 5 rival
+unfolding servicesIn services sumTo
+rival-fits = record { one = one; room = omega arith }
+  where
+    one : (s : ℕ) → s < 2 → 1 ≤ rival s
+    one zero h = omega arith
+    one (suc zero) h = omega arith
+    one (suc (suc s)) h = absurd (omega arith)
+
+pub rival-loses : counted (servicesIn sample) (table (servicesIn sample) 20000 rival) ≡ 738333920
+unfolding servicesIn unit sumTo countTo allTo firstTo argmax lastmax matches gives share backends weight has wants excess shortfall imbalance giver receiver largestExcess largestShortfall firstRule frame isWithin reduction reductionAt term isNoGain isWhole termLength lowestPlace newRule step after listOf oldest place value valueFrom lowest services volume weightsOf ruleBudget frameOf listFor linesOf tableOf table matchesLine givesLine countedShare countedExcess countedImbalance counted
+rival-loses = refl
+
+-- P6 as a sheet: its whole list is in the table and ended as no gain, and excess and shortfall make just one suffix, as much as demand 3 allows
+
+abbrev thirds : Sheet
+thirds = record { k = 1; tolerance = 0; capacity = 2; volumes = 1 ∷ []; weights = (333334 ∷ 333333 ∷ 333333 ∷ []) ∷ [] }
+
+abbrev thirdsTable : Table
+thirdsTable = record { k = 1; total = 666666; lines = line 0 1 0 1 ∷ line 0 0 0 0 ∷ [] }
+
+pub thirds-read : readSheet (bytes "SHEET 1 0 2\nSERVICE 1 33.3334 33.3333 33.3333\n") ≡ got thirds
+unfolding bytes readSheet textLimit sheetLines whole volumesOf rowsOf serviceLines serviceFields sum weightFields headFields same onField unless then unit percentage percentOf split onto number isNumeral noLeadingZero allDigits isDigit value valueFrom onValue fraction atMostAll
+thirds-read = refl
+
+pub record Tight : Type 0 where
+  pub made : tableFor thirds ≡ thirdsTable
+  pub entire : length (ownRules 0 (thirdsTable .lines)) ≡ length (listFor (servicesIn thirds) 0 0)
+  pub ended : endOf (frameOf (servicesIn thirds) 0 0) (listFor (servicesIn thirds) 0 0) ≡ NoGain
+  pub above : countedLargestExcess (servicesIn thirds) (thirdsTable .lines) 0 ≡ 333334
+  pub below : countedLargestShortfall (servicesIn thirds) (thirdsTable .lines) 0 ≡ 666666
+
+pub thirds-tight : Tight
+unfolding tableFor servicesIn unit sumTo countTo allTo firstTo argmax lastmax matches gives share backends weight has wants excess shortfall imbalance giver receiver largestExcess largestShortfall firstRule frame isWithin reduction reductionAt term isNoGain isWhole termLength lowestPlace newRule step after endOf listOf oldest stair place value valueFrom lowest saving next rules total more grantStep grantsAfter packed services volume weightsOf ruleBudget frameOf listFor problem granted linesOf tableOf table linesMade matchesLine givesLine countedShare countedExcess countedShortfall countedLargestExcess countedLargestShortfall ownRules
+thirds-tight = record { made = refl; entire = refl; ended = refl; above = refl; below = refl }
+
+-- The one call on the sample: made, and each buffer too short by one place.
+
+abbrev sampleFigures : List ℕ
+sampleFigures = 2 ∷ 4 ∷ 0 ∷ 3 ∷ 3 ∷ 0 ∷ []
+
+pub sample-figures : figuresFor sample ≡ sampleFigures
+unfolding figuresFor figuresMade figuresTo servicesIn unit sumTo countTo allTo firstTo argmax lastmax matches gives share backends weight has wants excess shortfall imbalance giver receiver largestExcess largestShortfall firstRule frame isWithin reduction reductionAt term isNoGain isWhole termLength lowestPlace newRule step after endOf listOf oldest stair place value valueFrom lowest saving next rules total more grantStep grantsAfter packed services volume weightsOf ruleBudget frameOf listFor problem granted
+sample-figures = refl
+
+pub record OneCall : Type 0 where
+  pub made : planAnswer sheetBytes 6 20 ≡ planned.Made (record { k = 5; services = 2; rules = 5; total = 293333920 })
+  pub table-short : planAnswer sheetBytes 6 19 ≡ planned.ShortTable
+  pub figures-short : planAnswer sheetBytes 5 20 ≡ planned.ShortFigures
+  pub both-short : planAnswer sheetBytes 5 19 ≡ planned.ShortFigures
+
+pub one-call : OneCall
+unfolding cases planAnswer planOf
+one-call =
+    record {
+      made = rw (right .0, sample-packed);
+      table-short = rw (right .0, sample-packed);
+      figures-short = rw (right .0);
+      both-short = rw (right .0);
+    }
