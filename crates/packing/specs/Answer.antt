@@ -104,14 +104,20 @@ abbrev pub onPassed : Checked → Packing → Packing
 onPassed Passed made = made
 onPassed (Turned why) made = Refused why
 
+-- refusal 7, by the lent buffer that it names: figures 1, table 2
+abbrev pub shortBuffer : ℕ → Packing
+shortBuffer zero = ShortFigures
+shortBuffer (suc zero) = ShortFigures
+shortBuffer (suc (suc b)) = ShortTable
+
 -- the answer, with room for so many figures and cells
 unfoldable pub answer : ℕ → ℕ → ℕ → List ℕ → List ℕ → List ℕ → ℕ → ℕ → Packing
 answer k tolerance capacity volumes sizes ws figuresRoom tableRoom =
     let S = servicesOf k volumes sizes ws in
     onPassed (checkAll k tolerance capacity volumes sizes ws)
     (pick (leb (3 * services S) figuresRoom)
-    (pick (leb (4 * length (linesMade S tolerance capacity)) tableRoom) (Made (packedOf S tolerance capacity)) ShortTable)
-    ShortFigures)
+    (pick (leb (4 * length (linesMade S tolerance capacity)) tableRoom) (Made (packedOf S tolerance capacity)) (shortBuffer 2))
+    (shortBuffer 1))
 
 -- a lent buffer afterwards: the values from its start on, where the table was made; else as it was
 abbrev pub filled : Packing → List ℕ → List ℕ → List ℕ

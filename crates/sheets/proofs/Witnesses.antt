@@ -17,9 +17,6 @@ use Rattle.expansion.specs.FirstMatch.{matches, gives, share}
 use Rattle.expansion.specs.Imbalance.{backends, weight, has, wants, excess, shortfall, imbalance, giver, receiver, largestExcess, largestShortfall}
 use Rattle.expansion.specs.Steps.{firstRule, frame, isWithin, reduction, reductionAt, term, isNoGain, isWhole, termLength, lowestPlace, newRule, step, after, endOf, listOf, oldest, stair}
 use Rattle.expansion.specs.declared.rule.Ended.the-variants.{NoGain}
-use Rattle.expansion.specs.declared.refusal.Refusal.{Refusal}
-use Rattle.expansion.specs.declared.refusal.Refusal.the-variants.{Malformed, BadField, Unbalanced, TooMany, NoService, TableShort, ShortLoan, UnknownService, Order, Miscount, TooLong, Depth}
-use Rattle.expansion.specs.Refusals.{no, numberOf}
 use Rattle.packing.specs.Grants.{Grants, saving, next, rules, total, more, grantStep, grantsAfter, packed}
 use Rattle.packing.specs.Count.{services, volume, weightsOf, matchesLine, givesLine, countedShare, countedExcess, countedShortfall, countedImbalance, counted, countedLargestExcess, countedLargestShortfall, ownRules}
 use Rattle.packing.specs.Table.{ruleBudget, frameOf, listFor, linesOf, tableOf, table, problem, granted}
@@ -36,22 +33,6 @@ use Rattle.sheets.specs.declared.answer.Planned.the-variants as planned
 use Rattle.sheets.specs.declared.answer.Printed.the-variants as printed
 use Rattle.sheets.proofs.Cases.{right}
 use Rattle.sheets.proofs.Owed.{demand-three}
-
--- a refusal is the one with its number
-pub numbered : (r : Refusal) → no (numberOf r) ≡ r
-unfolding numberOf
-numbered Malformed = refl
-numbered BadField = refl
-numbered Unbalanced = refl
-numbered TooMany = refl
-numbered NoService = refl
-numbered TableShort = refl
-numbered ShortLoan = refl
-numbered UnknownService = refl
-numbered Order = refl
-numbered Miscount = refl
-numbered TooLong = refl
-numbered Depth = refl
 
 -- The sample sheet and its rule sheet.
 

@@ -47,14 +47,20 @@ tableFor S =
       lines = linesMade (servicesIn S) (S .tolerance) (S .capacity);
     }
 
+-- refusal 7 of the one call, by the lent buffer that it names: figures 1, table 2
+abbrev pub shortBuffer : ℕ → planned.Planned
+shortBuffer zero = planned-variants.ShortFigures
+shortBuffer (suc zero) = planned-variants.ShortFigures
+shortBuffer (suc (suc b)) = planned-variants.ShortTable
+
 -- the one call: the table and the figures of a percentage sheet's text
 unfoldable pub planOf : Sheet → ℕ → ℕ → planned.Planned
 planOf S figuresRoom tableRoom =
     pick (leb (3 * length (S .volumes)) figuresRoom)
     (pick (leb (4 * length (tableFor S .lines)) tableRoom)
     (planned-variants.Made (record { k = S .k; services = length (S .volumes); rules = length (tableFor S .lines); total = tableFor S .total }))
-    planned-variants.ShortTable)
-    planned-variants.ShortFigures
+    (shortBuffer 2))
+    (shortBuffer 1)
 
 abbrev pub onSheet : Reading Sheet → (Sheet → planned.Planned) → planned.Planned
 onSheet (got S) f = f S
@@ -101,7 +107,7 @@ printFilled (printed-variants.Refused r) out bytes = out
 unfoldable pub sheetText : Sheet → List ℕ
 sheetText S = tableText (tableFor S)
 
--- the lines that four numbers each are, and what is left over
+-- the lines that four numbers each are; what is left over is no line
 unfoldable pub linesFrom : List ℕ → List Line
 linesFrom [] = []
 linesFrom (s ∷ []) = []
