@@ -15,7 +15,7 @@ use Rattle.expansion.specs.Imbalance.{Frame, backends, weight, has, want
 use Rattle.expansion.specs.Steps.{frame, isWithin, reduction, reductionAt, term, isNoGain}
 use Rattle.expansion.specs.Sound.{Sound}
 use Rattle.expansion.specs.Answer.{unit}
-use Rattle.expansion.specs.Kept.{over, under, Small, noBackend, entryAt, errorAt, entryOf, lessOf, moreOf, nextOf, Keeps}
+use Rattle.expansion.specs.Kept.{over, under, Small, noBackend, entryAt, errorAt, entryOf, lessOf, moreOf, largestOf, nextFor, nextOf, Keeps}
 use Rattle.expansion.specs.declared.rule.Rule.{Rule}
 use Rattle.expansion.specs.declared.rule.Ended.the-variants.{Within, NoGain}
 use Rattle.expansion.specs.declared.ledger.Backend.{Backend}
@@ -113,7 +113,7 @@ module _ (F : Frame) (rs : List Rule) (L : Ledger) (K : Keeps F rs L) where
     next-kept : nextOf L (backends F) (F .k) (F .tolerance) (F .cap)
         ≡ next unit slack (F .cap) (argmax (λ b. over (errorAt L b)) (backends F)) (argmax (λ b. under (errorAt L b)) (backends F))
         (over (errorAt L (argmax (λ b. over (errorAt L b)) (backends F)))) (under (errorAt L (argmax (λ b. under (errorAt L b)) (backends F))))
-    unfolding nextOf next
+    unfolding nextOf nextFor largestOf next
     next-kept = refl
 
     next-defined : next (F .unit) slack (F .cap) (giver F rs) (receiver F rs) (largestExcess F rs) (largestShortfall F rs)

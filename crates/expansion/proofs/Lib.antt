@@ -17,6 +17,7 @@ pub mod Shape
 pub mod Base
 pub mod Signed
 pub mod Kept
+pub mod Surveys
 pub mod Nodes
 pub mod Runs
 pub mod Cuts

@@ -213,11 +213,6 @@ unfolding peak
 peak-is f zero h = absurd (omega arith)
 peak-is f (suc n) h = refl
 
-pub peak-most : (f : ℕ → ℕ) (n c : ℕ) → ((i : ℕ) → i < n → f i ≤ c) → peak f n ≤ c
-unfolding peak
-peak-most f zero c h = omega arith
-peak-most f (suc n) c h = h (argmax f (suc n)) (argmax-is f (suc n) (omega arith) .inside)
-
 pub peak-higher : (f : ℕ → ℕ) (n : ℕ) → peak f n < f n → (argmax f (suc n) ≡ n) × (peak f (suc n) ≡ f n)
 unfolding peak
 peak-higher f zero l = (argmax-one f, ap f (argmax-one f))

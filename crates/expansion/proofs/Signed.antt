@@ -143,6 +143,12 @@ pub above : (m : ℕ) (z : ℤ) → ltZ (pos m) z ≡ true → z ≡ pos (over z
 above m (pos n) e = refl
 above m (negsuc n) e = cc
 
+-- not above zero there is no excess, and the negative is the shortfall
+pub below-zero : (z : ℤ) → ltZ (pos 0) z ≡ false → (over z ≡ 0) × (negℤ z ≡ pos (under z))
+below-zero (pos zero) e = (refl, refl)
+below-zero (pos (suc n)) e = absurd (omega (arith, ltb-false 0 (suc n) e))
+below-zero (negsuc n) e = (refl, refl)
+
 -- below zero there is no excess; not below it there is nothing else
 pub negative : (z : ℤ) → ltZ z (pos 0) ≡ true → over z ≡ 0
 negative (pos n) e = omega (arith, ltb-true n 0 e)

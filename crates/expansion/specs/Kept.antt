@@ -21,6 +21,7 @@ use Rattle.expansion.specs.declared.rule.Ended.the-variants.{Within, NoG
 use Rattle.expansion.specs.declared.ledger.Backend.{Backend}
 use Rattle.expansion.specs.declared.ledger.Ledger.{Ledger}
 use Rattle.expansion.specs.declared.ledger.Extreme.{Extreme}
+use Rattle.expansion.specs.declared.ledger.Survey.{Survey}
 use Rattle.expansion.specs.declared.list.RuleList.{RuleList}
 use Rattle.expansion.specs.declared.run.State.{State}
 use Rattle.expansion.specs.declared.run.Run.{Run}
@@ -83,26 +84,45 @@ pub record Movable (es : List Backend) (giver receiver c : ℕ) : Type 0 where
   pub receiver-small : Small (getD es receiver noBackend .error)
 
 -- the backend of the largest excess or shortfall of the first n, and its size
-pub record Largest (L : Ledger) (n : ℕ) (below : Bool) (r : Extreme) : Type 0 where
-  pub backend : r .backend ≡ argmax (λ b. side below (errorAt L b)) n
-  pub size : r .size ≡ pos (side below (errorAt L (r .backend)))
+unfoldable pub largestOf : Ledger → ℕ → Bool → Extreme
+largestOf L n below =
+    let b = argmax (λ i. side below (errorAt L i)) n in
+    record { backend = b; size = pos (side below (errorAt L b)) }
+
+-- an extreme and one more backend: it takes over where its size is greater
+pub record Raised (best : Extreme) (b : ℕ) (size : ℤ) (r : Extreme) : Type 0 where
+  pub higher : over (best .size) < over size → r ≡ record { backend = b; size = size }
+  pub stays : over size ≤ over (best .size) → r ≡ best
+
+-- giver, receiver and imbalance of the first n
+pub record Surveyed (L : Ledger) (n : ℕ) (r : Survey) : Type 0 where
+  pub give : r .give ≡ largestOf L n false
+  pub take : r .take ≡ largestOf L n true
+  pub imbalance : r .imbalance ≡ sumTo n (λ b. over (errorAt L b))
+
+-- a size is no negative number, and no sum of a few of them goes wrong
+pub record Sized (e : Extreme) : Type 0 where
+  pub natural : e .size ≡ pos (over (e .size))
+  pub few : over (e .size) ≤ 2 ^ 50
 
 -- the term of the greatest reduction for the largest shortfall u and the largest excess o
 pub record Best (u o cap : ℕ) (r : Term) : Type 0 where
   pub index : r .index ≡ lastmax (λ i. reduction u o (2 ^ i * unit)) cap
   pub gain : r .reduction ≡ pos (reduction u o (2 ^ (r .index) * unit))
 
--- steps 2 to 4 on the errors kept
-unfoldable pub nextOf : Ledger → ℕ → ℕ → ℕ → ℕ → Next
-nextOf L n k tolerance cap =
-    let giver = argmax (λ b. over (errorAt L b)) n in
-    let receiver = argmax (λ b. under (errorAt L b)) n in
-    let o = over (errorAt L giver) in
-    let u = under (errorAt L receiver) in
+-- steps 2 to 4 for the largest excess and the largest shortfall
+unfoldable pub nextFor : Extreme → Extreme → ℕ → ℕ → ℕ → Next
+nextFor give take k tolerance cap =
+    let o = over (give .size) in
+    let u = over (take .size) in
     let i = lastmax (λ j. reduction u o (2 ^ j * unit)) cap in
     pick (both (leb o (tolerance * 2 ^ k)) (leb u (tolerance * 2 ^ k))) (Stop Within)
     (pick (eqb (reduction u o (2 ^ i * unit)) 0) (Stop NoGain)
-    (Go (record { giver = giver; receiver = receiver; index = i })))
+    (Go (record { giver = give .backend; receiver = take .backend; index = i })))
+
+-- steps 2 to 4 on the errors kept
+unfoldable pub nextOf : Ledger → ℕ → ℕ → ℕ → ℕ → Next
+nextOf L n k tolerance cap = nextFor (largestOf L n false) (largestOf L n true) k tolerance cap
 
 -- the ledger after the rules rs: at each backend its weight, its share by first match and its error
 pub record Keeps (F : Frame) (rs : List Rule) (L : Ledger) : Type 0 where

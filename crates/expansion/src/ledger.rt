@@ -5,7 +5,6 @@ ghost use lib.Dec.{eqb};
 ghost use lib.IntN.{pos};
 ghost use lib.ListN.{length, getD};
 ghost use Rattle.numerals.specs.Pick.{pick};
-ghost use Rattle.expansion.specs.Sums.{sumTo};
 ghost use Rattle.expansion.specs.Answer.{unit};
 ghost use Rattle.expansion.specs.Kept as kept;
 
@@ -26,6 +25,13 @@ pub struct Ledger {
 pub struct Extreme {
     pub backend: usize,
     pub size: i64,
+}
+
+// The largest excess, the largest shortfall, each with the lowest number if equal, and the sum of the excesses.
+pub struct Survey {
+    pub give: Extreme,
+    pub take: Extreme,
+    pub imbalance: u64,
 }
 
 // A backend that holds `share` of the 2^k suffixes.
@@ -58,55 +64,47 @@ pub fn opened(weights: &[u64], k: usize, first: usize) -> Ledger
     ledger
 }
 
-// The excess of an error, or its shortfall, where there is one; else not above zero.
-fn side(error: i64, below: bool) -> i64
-    requires { ⌜ kept.Small error ⌝ }
-    ensures { λ r. ⌜ kept.over r ≡ kept.side below error ⌝ }
+// The extreme of the first b backends, made that of one more, whose size is given. The earlier one stays if equal.
+fn raised(best: Extreme, b: usize, size: i64) -> Extreme
+    requires { ⌜ best .size ≡ pos (kept.over (best .size)) ⌝ }
+    ensures { λ r. ⌜ kept.Raised best b size r ⌝ }
 {
-    if below { -error } else { error }
+    if best.size < size {
+        Extreme { backend: b, size }
+    } else {
+        best
+    }
 }
 
-// The largest excess of the first n backends, or with `below` the largest shortfall; the lowest number if equal.
-pub fn largest(ledger: Ledger, n: usize, below: bool) -> Extreme
+// One walk over the first n backends. An error that is above zero is an excess, and otherwise a shortfall.
+pub fn survey_of(ledger: Ledger, n: usize) -> Survey
     requires { ⌜ (0 < n) × (n ≤ 32) ⌝ }
     requires { ⌜ ((b : ℕ) → b < n → kept.Small (kept.errorAt ledger b)) ⌝ }
-    ensures { λ r. ⌜ kept.Largest ledger n below r ⌝ }
+    ensures { λ r. ⌜ kept.Surveyed ledger n r ⌝ }
 {
-    let mut best = 0;
-    let mut size: i64 = 0;
-    let mut b = 0;
-    while b < n {
-        let backend = ledger.at[b];
-        let e = side(backend.error, below);
-        if size < e {
-            size = e;
-            best = b;
-        }
-        b += 1;
-    }
-    Extreme {
-        backend: best,
-        size,
-    }
-}
-
-// The sum of the excesses of the first n backends.
-pub fn imbalance(ledger: Ledger, n: usize) -> u64
-    requires { ⌜ n ≤ 32 ⌝ }
-    requires { ⌜ ((b : ℕ) → b < n → kept.Small (kept.errorAt ledger b)) ⌝ }
-    ensures { λ r. ⌜ r ≡ sumTo n (λ b. kept.over (kept.errorAt ledger b)) ⌝ }
-{
-    let mut sum: u64 = 0;
+    let mut give = Extreme {
+        backend: 0,
+        size: 0,
+    };
+    let mut take = give;
+    let mut imbalance: u64 = 0;
     let mut b = 0;
     while b < n {
         let backend = ledger.at[b];
         let e = backend.error;
         if 0 < e {
-            sum += e as u64;
+            imbalance += e as u64;
+            give = raised(give, b, e);
+        } else {
+            take = raised(take, b, -e);
         }
         b += 1;
     }
-    sum
+    Survey {
+        give,
+        take,
+        imbalance,
+    }
 }
 
 // A backend that gave `count` suffixes away.

@@ -1,4 +1,5 @@
 // The run of the expansion: rule after rule, until the list is within tolerance, gains nothing or has used its budget.
+use crate::ledger::Extreme;
 use crate::ledger::Ledger;
 use crate::list::RuleList;
 use crate::rule::Ended;
@@ -54,14 +55,12 @@ fn heaviest(weights: &[u64]) -> usize
     best
 }
 
-// Steps 2 to 4: whether the list stops here, or the move that comes next.
-fn decide(ledger: Ledger, n: usize, k: usize, tolerance: u64, cap: usize) -> Next
-    requires { ⌜ (0 < n) × ((n ≤ 32) × ((k ≤ 12) × ((tolerance ≤ unit) × (cap ≤ 12)))) ⌝ }
-    requires { ⌜ ((b : ℕ) → b < n → kept.Small (kept.errorAt ledger b)) ⌝ }
-    ensures { λ r. ⌜ r ≡ kept.nextOf ledger n k tolerance cap ⌝ }
+// Steps 2 to 4, for the largest excess and the largest shortfall: whether the list stops here, or the move that comes next.
+fn decide(give: Extreme, take: Extreme, k: usize, tolerance: u64, cap: usize) -> Next
+    requires { ⌜ (k ≤ 12) × ((tolerance ≤ unit) × (cap ≤ 12)) ⌝ }
+    requires { ⌜ kept.Sized give × kept.Sized take ⌝ }
+    ensures { λ r. ⌜ r ≡ kept.nextFor give take k tolerance cap ⌝ }
 {
-    let give = crate::ledger::largest(ledger, n, false);
-    let take = crate::ledger::largest(ledger, n, true);
     let slack = (tolerance * (1 << k)) as i64;
     let o = give.size;
     let u = take.size;
@@ -101,6 +100,7 @@ fn advance(
     let value = crate::holders::hand_over(holder, run, places, k, m);
     let before = state.ledger;
     let ledger = crate::ledger::moved(before, m.giver, m.receiver, 1 << m.index);
+    let seen = crate::ledger::survey_of(ledger, n);
     State {
         ledger,
         rule: Rule {
@@ -109,8 +109,8 @@ fn advance(
             backend: m.receiver,
         },
         count: state.count + 1,
-        imbalance: crate::ledger::imbalance(ledger, n),
-        next: decide(ledger, n, k, tolerance, k - 1),
+        imbalance: seen.imbalance,
+        next: decide(seen.give, seen.take, k, tolerance, k - 1),
     }
 }
 
@@ -123,6 +123,7 @@ fn begin(weights: &[u64], k: usize, tolerance: u64, first: usize) -> State
 {
     let n = weights.len();
     let ledger = crate::ledger::opened(weights, k, first);
+    let seen = crate::ledger::survey_of(ledger, n);
     State {
         ledger,
         rule: Rule {
@@ -131,8 +132,8 @@ fn begin(weights: &[u64], k: usize, tolerance: u64, first: usize) -> State
             backend: first,
         },
         count: 1,
-        imbalance: crate::ledger::imbalance(ledger, n),
-        next: decide(ledger, n, k, tolerance, k - 1),
+        imbalance: seen.imbalance,
+        next: decide(seen.give, seen.take, k, tolerance, k - 1),
     }
 }
 

@@ -1,7 +1,7 @@
 -- `run::advance` meets its contract: the move that comes next can be made, and after it the state stands with its rule.
 use Prim.Native.Nat.{ℕ, _-_, _≤_, _<_}
 use mathlib.Core.List.{_∷_}
-use mathlib.Core.Path.{_≡_, refl}
+use mathlib.Core.Path.{_≡_, refl, _∙_}
 use native.Mathlib.Omega.{arith}
 use lib.ListN.{length}
 use borrow.Author.Needs.{needs}
@@ -10,6 +10,7 @@ use Rattle.expansion.specs.Steps.{frame, newRule, after}
 use Rattle.expansion.specs.Kept.{Small, errorAt}
 use Rattle.expansion.proofs.Powers.{pow-few, shifted}
 use Rattle.expansion.proofs.Ready.{Ready, movedBy}
+use Rattle.expansion.proofs.Surveys.{surveyed-sized, surveyed-next}
 use Rattle.expansion.proofs.Standing.{small, ready-go, adds-rule, stands-moved}
 use Rattle.expansion.proofs.run.advance.Statement.{statement}
 use Rattle.expansion.proofs.run.advance.Tie as tie
@@ -72,25 +73,29 @@ moved-small c =
     let rs = after F (a .state .count - 1) in
     small (a .k) (a .tolerance) (a .weights .now) (s .pre .0 .0) (newRule F rs ∷ rs) (c .moved .result) (ready s .moved (c .moved .result) (moved-at c))
 
-sub-t19 : tie.Need-sub-t19
-sub-t19 c = ready (begun (c .before .before)) .index
+survey-of-requires : tie.Need-survey-of-requires
+survey-of-requires c κs =
+    let v = begun (c .before) .pre .0 .0 in
+    ((v .someone, v .few), moved-small c)
 
-add-t21 : tie.Need-add-t21
-add-t21 c = omega (arith, begun (c .before .before .before) .pre .1 .0)
+sub-t20 : tie.Need-sub-t20
+sub-t20 c = ready (begun (c .before .before .before)) .index
 
-imbalance-requires : tie.Need-imbalance-requires
-imbalance-requires c κs =
-    let M = c .before .before in
-    (begun (M .before) .pre .0 .0 .few, moved-small M)
+add-t22 : tie.Need-add-t22
+add-t22 c = omega (arith, begun (c .before .before .before .before) .pre .1 .0)
 
 sub-decide : tie.Need-sub-decide
 sub-decide c = omega (arith, begun (c .before .before .before .before) .pre .0 .0 .some-bits)
 
 decide-requires : tie.Need-decide-requires
 decide-requires c κs =
-    let M = c .before .before .before in
-    let v = begun (M .before) .pre .0 .0 in
-    ((v .someone, (v .few, (v .few-bits, (v .tolerable, omega (arith, v .few-bits))))), moved-small M)
+    let w = c .before .before in
+    let M = w .before in
+    let s = begun (M .before) in
+    let v = s .pre .0 .0 in (
+      (v .few-bits, (v .tolerable, omega (arith, v .few-bits))),
+      surveyed-sized (M .moved .result) (length (s .args .weights .now)) (w .survey-of .result) (w .survey-of .ensures) (v .someone) (moved-small M),
+    )
 
 same-length : tie.Need-same-length
 same-length c = search needs
@@ -100,16 +105,18 @@ same-length-2 c = search needs
 
 returns : tie.Need-returns
 returns c =
-    let M = c .before .before .before .before in
+    let w = c .before .before .before in
+    let M = w .before in
     let s = begun (M .before) in
     let a = s .args in
+    let S = w .survey-of .ensures in
     let g = M .before .before .before .before .before .before in
     let H = g .hand-over .ensures in (
       stands-moved (a .k) (a .tolerance) (a .weights .now) (s .pre .0 .0) (a .holder .now) (a .run .now) (a .state) (s .pre .0 .1 .0) (a .m) (s .pre .1 .1)
           (H .at) (H .found) (g .hand-over .last .0) (g .hand-over .last .1 .0) (H .given)
           (M .moved .result) (moved-at M)
-          (c .before .imbalance .result) (c .before .imbalance .ensures)
-          (c .decide .result) (c .decide .ensures)
+          (w .survey-of .result .imbalance) (S .imbalance)
+          (c .decide .result) (c .decide .ensures ∙ surveyed-next (M .moved .result) (length (a .weights .now)) (w .survey-of .result) S (a .k) (a .tolerance) (a .k - 1))
           (record { len = a .k - a .m .index; value = g .hand-over .result; backend = a .m .receiver }),
       (
         refl,
@@ -125,9 +132,9 @@ advance-spec =
     hand-over-requires
     shl-moved
     moved-requires
-    sub-t19
-    add-t21
-    imbalance-requires
+    survey-of-requires
+    sub-t20
+    add-t22
     sub-decide
     decide-requires
     same-length
