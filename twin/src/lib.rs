@@ -3,6 +3,7 @@
 pub mod calls;
 pub mod count;
 pub mod expansion;
+pub mod handed;
 pub mod holdings;
 pub mod ledger;
 pub mod limits;
@@ -10,6 +11,7 @@ pub mod lines;
 pub mod numerals;
 pub mod packing;
 pub mod percentage_sheet;
+pub mod plan;
 pub mod random;
 pub mod refusal;
 pub mod rule_sheet;

@@ -71,15 +71,6 @@ pub fn text_of(table: &Table) -> Vec<u8> {
     text
 }
 
-/// Writes a table handed over without a text into a lent buffer: it is checked
-/// as its sheet would be, then the buffer; returns the length of the text.
-pub fn write(table: &Table, buffer: &mut [u8]) -> Result<usize, Refusal> {
-    let text = text_of(table);
-    let same = read(&text).map_err(|refusal| refusal.reason.at(0))?;
-    debug_assert_eq!(&same, table);
-    lend(&text, buffer)
-}
-
 /// Copies a text to the front of a lent buffer, or finds the buffer too short.
 pub fn lend(text: &[u8], buffer: &mut [u8]) -> Result<usize, Refusal> {
     debug_assert!(text.len() <= MOST_BYTES);
@@ -103,29 +94,6 @@ mod tests {
     fn the_sample_reads_back() {
         let table = read(SAMPLE.as_bytes()).unwrap();
         assert_eq!(text_of(&table), SAMPLE.as_bytes());
-        let mut buffer = vec![b'.'; SAMPLE.len() + 1];
-        assert_eq!(write(&table, &mut buffer), Ok(SAMPLE.len()));
-        assert_eq!(&buffer[..SAMPLE.len()], SAMPLE.as_bytes());
-        let mut short = vec![b'.'; SAMPLE.len() - 1];
-        assert_eq!(write(&table, &mut short), Err(Reason::ShortLoan.at(0)));
-        assert!(short.iter().all(|&byte| byte == b'.'));
-    }
-
-    #[test]
-    fn a_table_is_checked_as_its_sheet_would_be() {
-        let good = read(SAMPLE.as_bytes()).unwrap();
-        let number = |table: &Table| write(table, &mut []).unwrap_err();
-        assert_eq!(number(&good), Reason::ShortLoan.at(0));
-        let mut bad = good.clone();
-        bad.k = 1;
-        assert_eq!(number(&bad), Reason::BadField.at(0));
-        bad = good.clone();
-        bad.lines.pop();
-        assert_eq!(number(&bad), Reason::Order.at(0));
-        bad.lines.clear();
-        assert_eq!(number(&bad), Reason::BadField.at(0));
-        bad.lines = vec![good.lines[1]; 20_000];
-        assert_eq!(number(&bad), Reason::TooLong.at(0));
     }
 
     #[test]

@@ -1,8 +1,10 @@
 // The answers to vectors of the sheets: the call that prints, the table of a rule sheet, lookup and churn.
+use crate::plans;
+use crate::shown;
+use crate::writes;
 use sheets::Churned;
 use sheets::Looked;
 use sheets::Printed;
-use sheets::Refused;
 use sheets::TableRead;
 use sheets::TableRecord;
 use vectors::header;
@@ -10,34 +12,10 @@ use vectors::header::Header;
 use vectors::print;
 use vectors::walk;
 
-// The refusal of a sheet: its number and its line.
-fn refused(r: Refused) {
-    let why = r.why;
-    print::bytes(b"REFUSED");
-    print::field(expansion::refusal_number(why));
-    print::field(r.line as u64);
-}
-
-// Prints the line that starts at a position, its LF as a `/`, and says where the next one starts.
-fn show_line(text: &[u8], from: usize) -> usize {
-    print::bytes(walk::part(text, from, 10));
-    print::bytes(b"/");
-    walk::after(text, from, text.len(), 10)
-}
-
-fn show_sheet(text: &[u8]) {
-    let n = walk::lines(text);
-    let mut from = 0;
-    for _ in 0..n {
-        from = show_line(text, from);
-    }
-    print::bytes(walk::rest(text, from));
-}
-
 fn split_into(text: &[u8], out: &mut [u8]) {
     match sheets::split_sheet(text, out) {
-        Printed::End(n) => show_sheet(walk::start(out, n)),
-        Printed::Refused(r) => refused(r),
+        Printed::End(n) => shown::sheet(walk::start(out, n)),
+        Printed::Refused(r) => shown::refused(r),
     }
 }
 
@@ -101,7 +79,7 @@ fn read(text: &[u8]) {
     let mut table = [0usize; 8192];
     match sheets::read_table(text, &mut table) {
         TableRead::Made(made) => write_back(text, made, &table),
-        TableRead::Refused(r) => refused(r),
+        TableRead::Refused(r) => shown::refused(r),
     }
 }
 
@@ -115,7 +93,7 @@ fn lookup(h: Header, text: &[u8]) {
             print::bytes(b"backend");
             print::field(b as u64);
         }
-        Looked::Refused(r) => refused(r),
+        Looked::Refused(r) => shown::refused(r),
     }
 }
 
@@ -131,7 +109,7 @@ fn churn(h: Header, text: &[u8]) {
             print::field(n as u64);
         }
         Churned::Refused(r, which) => {
-            refused(r);
+            shown::refused(r);
             print::field(which as u64);
         }
     }
@@ -151,6 +129,8 @@ pub fn answer(s: &[u8]) {
         b'U' => read(text),
         b'L' => lookup(h, text),
         b'H' => churn(h, text),
+        b'P' => plans::plan(h, text),
+        b'W' => writes::write(h, text),
         _ => print::bytes(b"unknown vector"),
     }
     print::bytes(b"\n");

@@ -1,5 +1,8 @@
 // Answers the vectors of the sheets that the Rust twin wrote, one line for each.
 mod answers;
+mod plans;
+mod shown;
+mod writes;
 
 // Reads a record into a buffer and answers it; false where none is left.
 fn answer_next(space: &mut [u8]) -> bool {

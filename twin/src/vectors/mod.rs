@@ -4,11 +4,13 @@ pub mod expansion;
 pub mod numerals;
 pub mod packing;
 pub mod percentage_sheets;
+mod plans;
 pub mod records;
 mod rule_sheets;
 pub mod shapes;
 pub mod sheets;
-mod spoil;
+pub mod spoil;
+mod writes;
 
 use records::{take_record, Record, Records};
 use std::path::Path;

@@ -40,7 +40,7 @@ fn add(records: &mut Records, text: &str) {
     records.add("R", text.as_bytes());
 }
 
-const SAMPLE: &str = "SHEET 5 2 5\nSERVICE 55 16.6667 33.3333 50\nSERVICE 45 25 25 50\n";
+pub(super) const SAMPLE: &str = "SHEET 5 2 5\nSERVICE 55 16.6667 33.3333 50\nSERVICE 45 25 25 50\n";
 
 /// The sample, cut after every byte and with every capacity; the P cases.
 fn listed(records: &mut Records) {
@@ -53,26 +53,29 @@ fn listed(records: &mut Records) {
             &SAMPLE.replacen("2 5\n", &format!("2 {capacity}\n"), 1),
         );
     }
-    cases(records);
+    for text in cases() {
+        add(records, &text);
+    }
     wrong_forms(records);
 }
 
-/// P1 to P6 and P9 to P12.
-fn cases(records: &mut Records) {
-    for (head, weights) in [
-        ("5 2", "16.6667 33.3333 50"),
-        ("5 0", "16.6667 33.3333 50"),
-        ("5 0", "25 25 50"),
-        ("1 0", "100"),
-        ("1 0", "50 50"),
-        ("1 0", "33.3334 33.3333 33.3333"),
-        ("1 0", "18.4.2"),
-        ("1 0", "100.0000"),
-        ("1 0", "100.0001"),
-        ("1 0", "018.4"),
-    ] {
-        add(records, &format!("SHEET {head} 32\nSERVICE 1 {weights}\n"));
-    }
+/// P1 to P6 and P9 to P12: k and tolerance, and the weights.
+const CASES: [(&str, &str); 10] = [
+    ("5 2", "16.6667 33.3333 50"),
+    ("5 0", "16.6667 33.3333 50"),
+    ("5 0", "25 25 50"),
+    ("1 0", "100"),
+    ("1 0", "50 50"),
+    ("1 0", "33.3334 33.3333 33.3333"),
+    ("1 0", "18.4.2"),
+    ("1 0", "100.0000"),
+    ("1 0", "100.0001"),
+    ("1 0", "018.4"),
+];
+
+/// The sheets of the P cases.
+pub(super) fn cases() -> [String; 10] {
+    CASES.map(|(head, weights)| format!("SHEET {head} 32\nSERVICE 1 {weights}\n"))
 }
 
 /// Lines with a wrong keyword, LF or number of fields.
@@ -210,7 +213,7 @@ fn long(records: &mut Records) {
 }
 
 /// A small order; most have few services and backends.
-fn small(random: &mut Random) -> Order {
+pub(super) fn small(random: &mut Random) -> Order {
     let shape = OrderShape {
         services: *random.pick(&[1, 1, 1, 2, 2, 3, 4, 7]),
         backends: *random.pick(&[1, 2, 3, 4, 6, 12]),

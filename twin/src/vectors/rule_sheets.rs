@@ -25,7 +25,7 @@ fn add(records: &mut Records, text: &str) {
     records.add("U", text.as_bytes());
 }
 
-const SAMPLE: &str = "TABLE 5 5 293333920\n1 *0 2\n1 * 3\n2 *00 2\n2 *0 1\n2 * 3\n";
+pub(super) const SAMPLE: &str = "TABLE 5 5 293333920\n1 *0 2\n1 * 3\n2 *00 2\n2 *0 1\n2 * 3\n";
 
 /// The sample cut after every byte, and each field of a sheet in turn.
 fn listed(records: &mut Records) {
@@ -53,33 +53,36 @@ fn listed(records: &mut Records) {
     }
 }
 
-/// Lines in and out of order, with the right and a wrong number of rules.
+/// Lines in and out of order, between commas.
+pub(super) const LINES: [&str; 23] = [
+    "1 * 1",
+    "2 * 1",
+    "64 * 1",
+    "1 *0 1",
+    "1 *0 1,1 * 1",
+    "1 * 1,1 *0 1",
+    "1 * 1,1 * 2",
+    "1 *0 1,1 *00 1,1 * 1",
+    "1 *00 1,1 *0 1,1 * 1",
+    "1 *00 1,1 *00 1,1 * 1",
+    "1 *00 1,1 *01 1,1 * 1",
+    "1 *0 1,2 * 1",
+    "1 *0 1,2 *0 1,2 * 1",
+    "1 * 1,2 *0 1",
+    "1 * 1,3 * 1",
+    "3 * 1,1 * 1",
+    "1 * 1,2 * 1,1 * 1",
+    "1 * 1,2 * 1,2 * 1",
+    "2 *0 1,1 * 1,2 * 1",
+    "1 *0 1,1 * 1,1 *0 1",
+    "5 *00000 32,5 *1111 1,5 * 7,9 *1 1,9 * 1,64 * 32",
+    "1 *0 1,1 *1 1",
+    "1 *1 1,1 *0 1,1 * 1",
+];
+
+/// Each of these, with the right and a wrong number of rules.
 fn orders_and_counts(records: &mut Records) {
-    for lines in [
-        "1 * 1",
-        "2 * 1",
-        "64 * 1",
-        "1 *0 1",
-        "1 *0 1,1 * 1",
-        "1 * 1,1 *0 1",
-        "1 * 1,1 * 2",
-        "1 *0 1,1 *00 1,1 * 1",
-        "1 *00 1,1 *0 1,1 * 1",
-        "1 *00 1,1 *00 1,1 * 1",
-        "1 *00 1,1 *01 1,1 * 1",
-        "1 *0 1,2 * 1",
-        "1 *0 1,2 *0 1,2 * 1",
-        "1 * 1,2 *0 1",
-        "1 * 1,3 * 1",
-        "3 * 1,1 * 1",
-        "1 * 1,2 * 1,1 * 1",
-        "1 * 1,2 * 1,2 * 1",
-        "2 *0 1,1 * 1,2 * 1",
-        "1 *0 1,1 * 1,1 *0 1",
-        "5 *00000 32,5 *1111 1,5 * 7,9 *1 1,9 * 1,64 * 32",
-        "1 *0 1,1 *1 1",
-        "1 *1 1,1 *0 1,1 * 1",
-    ] {
+    for lines in LINES {
         let count = lines.split(',').count();
         let text = lines.replace(',', "\n");
         for n in [count - 1, count, count + 1, 2_048] {

@@ -1,7 +1,7 @@
-//! Vectors for the sheets: readers, the one call, lookup and churn.
+//! Vectors for the sheets: readers, writers, the one call, lookup and churn.
 
 use super::records::{Record, Records};
-use super::{percentage_sheets, rule_sheets};
+use super::{percentage_sheets, plans, rule_sheets, writes};
 use crate::calls::{churn, lookup, split, split_into};
 use crate::rule_sheet::{read, text_of};
 
@@ -27,6 +27,8 @@ pub fn answer(record: &Record) -> Option<String> {
             let count = churn(first, second, service);
             Some(shown(count.map(|count| format!("churn {count}"))))
         }
+        ("P", &[figures, table]) => plans::answer(text, figures, table),
+        ("W", &[k, total, room]) => writes::answer(k, total, room, text),
         _ => None,
     }
 }
@@ -46,5 +48,7 @@ pub fn records() -> Records {
     let mut records = Records::default();
     percentage_sheets::add_all(&mut records);
     rule_sheets::add_all(&mut records);
+    plans::add_all(&mut records);
+    writes::add_all(&mut records);
     records
 }

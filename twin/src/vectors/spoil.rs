@@ -113,3 +113,57 @@ fn spoil_line(random: &mut Random, text: &[u8]) -> Vec<u8> {
     }
     lines.concat()
 }
+
+/// Numbers at some limit of a table's lines, or far above it.
+const NUMBERS: [u64; 16] = [
+    0,
+    1,
+    2,
+    11,
+    12,
+    13,
+    31,
+    32,
+    63,
+    64,
+    255,
+    256,
+    4_096,
+    1 << 32,
+    1 << 63,
+    u64::MAX,
+];
+
+/// One to three things wrong in a table's numbers, four for each line, or by
+/// chance nothing.
+pub fn spoil_numbers(random: &mut Random, numbers: &mut Vec<u64>) {
+    for _ in 0..*random.pick(&[1, 1, 1, 2, 3]) {
+        if numbers.len() < 4 {
+            return;
+        }
+        let at = random.below(numbers.len() as u64) as usize;
+        match random.below(8) {
+            0..=3 => numbers[at] = *random.pick(&NUMBERS),
+            4 if random.once_in(2) => drop(numbers.remove(at)),
+            4 => numbers.truncate(at),
+            _ => spoil_lines(random, numbers),
+        }
+    }
+}
+
+/// Drops a line, repeats it or exchanges it with another one.
+fn spoil_lines(random: &mut Random, numbers: &mut Vec<u64>) {
+    let mut lines: Vec<&[u64]> = numbers.chunks(4).collect();
+    let at = random.below(lines.len() as u64) as usize;
+    let other = random.below(lines.len() as u64) as usize;
+    match random.below(4) {
+        0 => drop(lines.remove(at)),
+        1 => lines.swap(at, other),
+        2 => lines.insert(at, lines[other]),
+        _ => {
+            let times = *random.pick(&[2, 31, 32]);
+            lines.splice(at..at, vec![lines[at]; times]);
+        }
+    }
+    *numbers = lines.concat();
+}

@@ -1,8 +1,8 @@
--- `answers::show_sheet` is safe and ends. The measure is the number of turns that are left.
+-- `shown::sheet` is safe and ends. The measure is the number of turns that are left.
 use Prim.Native.Nat.{_-_, _≤_}
 use native.Mathlib.Omega.{arith}
-use Rattle.trial_sheets.proofs.answers.show_sheet.Statement.{statement}
-use Rattle.trial_sheets.proofs.answers.show_sheet.Tie as tie
+use Rattle.trial_sheets.proofs.shown.sheet.Statement.{statement}
+use Rattle.trial_sheets.proofs.shown.sheet.Tie as tie
 
 abbrev Inv-loop : tie.InvT-loop
 Inv-loop text n from₀ counter₀ from counter = counter ≤ n
@@ -10,8 +10,8 @@ Inv-loop text n from₀ counter₀ from counter = counter ≤ n
 abbrev μ-loop : tie.MeasureT-loop
 μ-loop text n from₀ counter₀ from counter = n - counter
 
-pub show-sheet-spec : {M : Type 1} → statement M
-show-sheet-spec =
+pub sheet-spec : {M : Type 1} → statement M
+sheet-spec =
     tie.close
     (tie.spec
     Inv-loop
