@@ -20,7 +20,7 @@ fn main() {
         operator::complain(b"usage: churn OLD NEW SERVICE\n");
         return;
     }
-    let Number::Value(service) = operator::number(3) else {
+    let Number::Value(service) = operator::number_argument(3) else {
         operator::complain(b"churn: the service is not a number\n");
         return;
     };

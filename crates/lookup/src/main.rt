@@ -16,11 +16,11 @@ fn main() {
         operator::complain(b"usage: lookup SHEET SERVICE ADDRESS\n");
         return;
     }
-    let Number::Value(service) = operator::number(2) else {
+    let Number::Value(service) = operator::number_argument(2) else {
         operator::complain(b"lookup: the service is not a number\n");
         return;
     };
-    let Number::Value(address) = operator::address(3) else {
+    let Number::Value(address) = operator::address_argument(3) else {
         operator::complain(
             b"lookup: the address is neither a number of 32 bits nor a dotted quad\n",
         );
@@ -31,6 +31,7 @@ fn main() {
     let FileRead::Bytes(n) = operator::read_file(1, space) else {
         return;
     };
+    // An address is below 2^32 (`address-below` of operator), so the remainder is the address itself.
     look(
         operator::start(space, n),
         service as usize,
