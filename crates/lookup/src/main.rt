@@ -3,12 +3,13 @@ use numerals::Number;
 use operator::FileRead;
 use sheets::Looked;
 
-fn look(text: &[u8], service: usize, address: u32) {
-    match sheets::lookup(text, service, address) {
+// Prints the answer, and answers whether it was written.
+fn look(text: &[u8], service: usize, address: u32) -> bool {
+    let written = match sheets::lookup(text, service, address) {
         Looked::Backend(b) => operator::print_number(b),
         Looked::Refused(r) => operator::print_refused(r),
-    }
-    operator::say(b"\n");
+    };
+    written && operator::say(b"\n")
 }
 
 fn main() {
@@ -32,9 +33,11 @@ fn main() {
         return;
     };
     // An address is below 2^32 (`address-below` of operator), so the remainder is the address itself.
-    look(
+    if !look(
         operator::start(space, n),
         service as usize,
         (address % 4294967296) as u32,
-    );
+    ) {
+        operator::complain(b"lookup: the answer can't be written\n");
+    }
 }

@@ -52,23 +52,24 @@ pub fn address_argument(i: usize) -> Number {
     read_address(&text[..n])
 }
 
-pub fn say(text: &[u8]) {
-    io::write_all(STDOUT_FILENO, text);
+// On standard output; answers whether it was written.
+pub fn say(text: &[u8]) -> bool {
+    io::write_all(STDOUT_FILENO, text)
 }
 
 pub fn complain(text: &[u8]) {
     io::write_all(STDERR_FILENO, text);
 }
 
-pub fn print_number(n: usize) {
-    io::print_decimal(STDOUT_FILENO, n as u64);
+pub fn print_number(n: usize) -> bool {
+    io::print_decimal(STDOUT_FILENO, n as u64)
 }
 
 // `REFUSED number line`, without the end of the line.
-pub fn print_refused(r: Refused) {
+pub fn print_refused(r: Refused) -> bool {
     let why = r.why;
-    say(b"REFUSED ");
-    print_number(expansion::refusal_number(why) as usize);
-    say(b" ");
-    print_number(r.line);
+    say(b"REFUSED ")
+        && print_number(expansion::refusal_number(why) as usize)
+        && say(b" ")
+        && print_number(r.line)
 }
