@@ -3,16 +3,15 @@ use numerals::Number;
 use operator::FileRead;
 use sheets::Churned;
 
-fn compare(old: &[u8], new: &[u8], service: usize) {
-    match sheets::churn(old, new, service) {
+// Prints the answer, and answers whether it was written.
+fn compare(old: &[u8], new: &[u8], service: usize) -> bool {
+    let written = match sheets::churn(old, new, service) {
         Churned::Moved(n) => operator::print_number(n),
         Churned::Refused(r, sheet) => {
-            operator::print_refused(r);
-            operator::say(b" ");
-            operator::print_number(sheet);
+            operator::print_refused(r) && operator::say(b" ") && operator::print_number(sheet)
         }
-    }
-    operator::say(b"\n");
+    };
+    written && operator::say(b"\n")
 }
 
 fn main() {
@@ -20,7 +19,7 @@ fn main() {
         operator::complain(b"usage: churn OLD NEW SERVICE\n");
         return;
     }
-    let Number::Value(service) = operator::number(3) else {
+    let Number::Value(service) = operator::number_argument(3) else {
         operator::complain(b"churn: the service is not a number\n");
         return;
     };
@@ -34,9 +33,11 @@ fn main() {
     let FileRead::Bytes(m) = operator::read_file(2, new) else {
         return;
     };
-    compare(
+    if !compare(
         operator::start(old, n),
         operator::start(new, m),
         service as usize,
-    );
+    ) {
+        operator::complain(b"churn: the answer can't be written\n");
+    }
 }

@@ -3,12 +3,13 @@ use numerals::Number;
 use operator::FileRead;
 use sheets::Looked;
 
-fn look(text: &[u8], service: usize, address: u32) {
-    match sheets::lookup(text, service, address) {
+// Prints the answer, and answers whether it was written.
+fn look(text: &[u8], service: usize, address: u32) -> bool {
+    let written = match sheets::lookup(text, service, address) {
         Looked::Backend(b) => operator::print_number(b),
         Looked::Refused(r) => operator::print_refused(r),
-    }
-    operator::say(b"\n");
+    };
+    written && operator::say(b"\n")
 }
 
 fn main() {
@@ -16,11 +17,11 @@ fn main() {
         operator::complain(b"usage: lookup SHEET SERVICE ADDRESS\n");
         return;
     }
-    let Number::Value(service) = operator::number(2) else {
+    let Number::Value(service) = operator::number_argument(2) else {
         operator::complain(b"lookup: the service is not a number\n");
         return;
     };
-    let Number::Value(address) = operator::address(3) else {
+    let Number::Value(address) = operator::address_argument(3) else {
         operator::complain(
             b"lookup: the address is neither a number of 32 bits nor a dotted quad\n",
         );
@@ -31,9 +32,12 @@ fn main() {
     let FileRead::Bytes(n) = operator::read_file(1, space) else {
         return;
     };
-    look(
+    // An address is below 2^32 (`address-below` of operator), so the remainder is the address itself.
+    if !look(
         operator::start(space, n),
         service as usize,
         (address % 4294967296) as u32,
-    );
+    ) {
+        operator::complain(b"lookup: the answer can't be written\n");
+    }
 }

@@ -1,0 +1,2 @@
+-- What the operators' programs read on the command line.
+pub mod Address
