@@ -1,22 +1,22 @@
 -- The run of the program: what it keeps stands as the definitions say after the first rule and after each move, its list has the rules and the stairs, and where it stops that list is the one of document 01.
 use Prim.Native.Nat.{ℕ, suc, _+_, _-_, _^_, _≤_, _<_, min}
-use mathlib.Core.Bool.{Bool}
+use mathlib.Core.Bool.{Bool, true, false}
 use mathlib.Core.List.{List, [], _∷_}
-use mathlib.Core.Path.{_≡_, ap, sym, _∙_, subst}
+use mathlib.Core.Path.{_≡_, refl, ap, sym, _∙_, subst}
 use native.Mathlib.Decide.{ℕ-discrete}
 use native.Mathlib.Numerals.{add-one}
 use native.Mathlib.Omega.{arith}
-use lib.Dec.{eqb, lit<, lit≤}
+use lib.Dec.{ltb, eqb, lit<, lit≤}
 use lib.ListN.{length, getD, set, replicate, length-replicate, getD-replicate}
 use lib.Seq.{getD-set-same, getD-set-other}
-use borrow.Author.Tests.{eqb-true, eq-eqb}
+use borrow.Author.Tests.{ltb-true, ltb-false, eqb-true, eq-eqb}
 use Rattle.numerals.specs.Pick.{pick}
 use Rattle.numerals.specs.Suffix.{place}
 use Rattle.expansion.specs.Sums.{sumTo, argmax}
 use Rattle.expansion.specs.Imbalance.{Frame, backends, weight, imbalance}
 use Rattle.expansion.specs.Steps.{firstRule, frame, newRule, after, endOf, listOf}
 use Rattle.expansion.specs.Answer.{unit, listMade}
-use Rattle.expansion.specs.Kept.{over, Small, entryAt, errorAt, entryOf, nextOf, Keeps, Runs, Leads, Given, noRule, newestFirst, Valid, Stands, Adds, Listed, Made}
+use Rattle.expansion.specs.Kept.{over, Small, entryAt, errorAt, entryOf, nextOf, inBudget, Keeps, Runs, Leads, Given, noRule, newestFirst, Valid, Stands, Adds, Listed, Made}
 use Rattle.expansion.specs.declared.rule.Rule.{Rule}
 use Rattle.expansion.specs.declared.rule.Ended.{Ended}
 use Rattle.expansion.specs.declared.rule.Ended.the-variants.{Budget}
@@ -34,6 +34,15 @@ use Rattle.expansion.proofs.Runs.{runs-first}
 use Rattle.expansion.proofs.Listing.{newest-more}
 use Rattle.expansion.proofs.Checks.{sound}
 use Rattle.expansion.proofs.Ready.{next-stop, next-go, movedBy, Ready, ready}
+
+-- a move in the budget
+pub in-budget : (x : Next) (c budget : ℕ) (m : Move) → inBudget x c budget ≡ Go m → (x ≡ Go m) × (c < budget)
+in-budget (Stop e) c budget m n = absurd (let z : _≡_ {A = ℕ} 0 1 = cc in omega arith)
+in-budget (Go w) c budget m n = go (ltb c budget) refl n
+  where
+    go : (t : Bool) → ltb c budget ≡ t → pick t (Go w) (Stop Budget) ≡ Go m → (Go w ≡ Go m) × (c < budget)
+    go true p q = (q, ltb-true c budget p)
+    go false p q = absurd (let z : _≡_ {A = ℕ} 0 1 = cc in omega arith)
 
 -- the rules of a state, by the definitions
 abbrev rulesOf : ℕ → ℕ → List ℕ → State → List Rule
@@ -157,7 +166,7 @@ module _ (k tolerance : ℕ) (ws : List ℕ) (valid : Valid k tolerance ws) wher
             ended = sym (ap (endOf (frame k unit tolerance ws)) is ∙ end);
           }
 
-      pub made-stopped : (budget : ℕ) → list .count ≤ budget → (e : Ended) → st .next ≡ Stop e
+      made-stopped : (budget : ℕ) → list .count ≤ budget → (e : Ended) → st .next ≡ Stop e
           → Made k tolerance budget ws (record { list = list; ended = e })
       made-stopped budget l e n =
           let F : Frame = frame k unit tolerance ws in
@@ -165,7 +174,7 @@ module _ (k tolerance : ℕ) (ws : List ℕ) (valid : Valid k tolerance ws) wher
           let h = next-stop F rs e (sym stands-next ∙ n) in
           made budget l (listed F (st .count - 1) budget (omega arith) (h .0)) e (h .1)
 
-      pub made-spent : (budget : ℕ) → list .count ≡ budget → (m : Move) → st .next ≡ Go m
+      made-spent : (budget : ℕ) → list .count ≡ budget → (m : Move) → st .next ≡ Go m
           → Made k tolerance budget ws (record { list = list; ended = Budget })
       unfolding listOf
       made-spent budget l m n =
@@ -173,6 +182,24 @@ module _ (k tolerance : ℕ) (ws : List ℕ) (valid : Valid k tolerance ws) wher
           let rs : List Rule = rulesOf k tolerance ws st in
           let h = next-go F rs m (sym stands-next ∙ n) in
           made budget (omega arith) (ap (λ (c : ℕ). after F (c - 1)) (sym (same ∙ l))) Budget (ended-budget F rs (h .0 .outside) (h .0 .gain))
+
+      -- where the run ends, its list is that of the budget
+      pub made-ended : (budget : ℕ) → list .count ≤ budget → (e : Ended) → inBudget (st .next) (list .count) budget ≡ Stop e
+          → Made k tolerance budget ws (record { list = list; ended = e })
+      made-ended budget l e n = go (st .next) refl n
+        where
+          spent : (m : Move) → st .next ≡ Go m → (t : Bool) → ltb (list .count) budget ≡ t → pick t (Go m) (Stop Budget) ≡ Stop e
+              → Made k tolerance budget ws (record { list = list; ended = e })
+          spent m p true r q = absurd (let z : _≡_ {A = ℕ} 0 1 = cc in omega arith)
+          spent m p false r q =
+              let is : Budget ≡ e = cc in
+              subst (λ (x : Ended). Made k tolerance budget ws (record { list = list; ended = x })) is
+              (made-spent budget (omega (arith, ltb-false (list .count) budget r)) m p)
+
+          go : (x : Next) → st .next ≡ x → inBudget x (list .count) budget ≡ Stop e
+              → Made k tolerance budget ws (record { list = list; ended = e })
+          go (Stop f) p q = made-stopped budget l e (p ∙ q)
+          go (Go m) p q = spent m p (ltb (list .count) budget) refl q
 
     -- the move that comes next can be made, and after it the state stands with its rule
     pub ready-go : (m : Move) → st .next ≡ Go m
