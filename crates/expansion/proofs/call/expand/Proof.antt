@@ -9,11 +9,9 @@ use lib.ListN.{length, take, length-map}
 use lib.Seq.{sets}
 use borrow.Author.Needs.{needs}
 use borrow.Author.Tests.{not-true, not-false, leb-true}
-use Rattle.expansion.specs.Answer.{checkCall, listMade, answer, lensMade, valuesMade, backendsMade}
+use Rattle.expansion.specs.Answer.{checkCall, listMade, lensMade, valuesMade, backendsMade}
 use Rattle.expansion.specs.declared.rule.Rule.{Rule}
-use Rattle.expansion.specs.declared.refusal.Refusal.the-variants.{ShortLoan}
 use Rattle.expansion.specs.declared.call.Checked.the-variants.{Sound as Passed}
-use Rattle.expansion.specs.declared.call.Expanded.the-variants.{Refused}
 use Rattle.expansion.proofs.Checks.{call-passed}
 use Rattle.expansion.proofs.Answers.{answer-turned, answer-short, answer-made, made-column, made-stairs}
 use Rattle.expansion.proofs.call.expand.Statement.{statement}
