@@ -288,6 +288,13 @@ lastmax-unique f n i j p q = go (decLt i j) (decLt j i)
     go (no l) (yes m) = absurd (omega (arith, q .last i m (p .inside), p .best j (q .inside)))
     go (no l) (no m) = omega arith
 
+-- the same place among fewer, where it is one of them
+pub lastmax-fewer : (f : ℕ → ℕ) (n c : ℕ) → c ≤ n → lastmax f n ≤ c → lastmax f c ≡ lastmax f n
+lastmax-fewer f n c h l =
+    let p = lastmax-is f n in
+    lastmax-unique f c (lastmax f c) (lastmax f n) (lastmax-is f c)
+    (record { inside = l; best = λ j m. p .best j (omega arith); last = λ j k m. p .last j k (omega arith) })
+
 pub lastmax-ext : (f g : ℕ → ℕ) (n : ℕ) → ((i : ℕ) → i ≤ n → f i ≡ g i) → lastmax f n ≡ lastmax g n
 lastmax-ext f g n h = lastmax-unique g n (lastmax f n) (lastmax g n) (go (lastmax-is f n)) (lastmax-is g n)
   where

@@ -15,6 +15,7 @@ use Rattle.numerals.specs.Suffix.{place}
 use Rattle.expansion.specs.Sums.{sumTo, argmax}
 use Rattle.expansion.specs.Imbalance.{Frame, backends, weight, imbalance}
 use Rattle.expansion.specs.Steps.{firstRule, frame, newRule, after, endOf, listOf}
+use Rattle.expansion.specs.Sound.{Sound}
 use Rattle.expansion.specs.Answer.{unit, listMade}
 use Rattle.expansion.specs.Kept.{over, Small, entryAt, errorAt, entryOf, nextOf, inBudget, Keeps, Runs, Leads, Given, noRule, newestFirst, Valid, Stands, Adds, Listed, Made}
 use Rattle.expansion.specs.declared.rule.Rule.{Rule}
@@ -27,9 +28,10 @@ use Rattle.expansion.specs.declared.run.Move.{Move}
 use Rattle.expansion.specs.declared.run.Next.{Next}
 use Rattle.expansion.specs.declared.run.Next.the-variants.{Stop, Go}
 use Rattle.expansion.proofs.Searches.{same-test}
+use Rattle.expansion.proofs.Moves.{term-falls}
 use Rattle.expansion.proofs.Turns.{after-suc, step-moves, listed, ended-budget, good-after}
 use Rattle.expansion.proofs.Base.{star-share, base-stair}
-use Rattle.expansion.proofs.Kept.{nextBy, frame-small, frame-imbalance, frame-next}
+use Rattle.expansion.proofs.Kept.{moveOf, nextBy, frame-small, frame-imbalance, frame-next}
 use Rattle.expansion.proofs.Runs.{runs-first}
 use Rattle.expansion.proofs.Listing.{newest-more}
 use Rattle.expansion.proofs.Checks.{sound}
@@ -221,6 +223,24 @@ module _ (k tolerance : ℕ) (ws : List ℕ) (valid : Valid k tolerance ws) wher
         let one : st .count ≡ suc (st .count - 1) = omega (arith, S .some-rules) in
         let h = next-go F rs m (sym stands-next ∙ n) in
         ap (after F) one ∙ after-suc F (st .count - 1) ∙ step-moves F rs (h .0 .outside) (h .0 .gain)
+
+    -- terms never grow
+    pub index-falls : (m : Move) → st .next ≡ Go m → (M : Ledger) → M .at ≡ movedBy (st .ledger) m
+        → (w : Move) → nextOf M (length ws) k tolerance (k - 1) ≡ Go w → w .index ≤ m .index
+    unfolding moveOf
+    index-falls m n M e w h =
+        let F : Frame = frame k unit tolerance ws in
+        let S : Sound F = sound k tolerance ws valid in
+        let rs : List Rule = rulesOf k tolerance ws st in
+        let rs′ : List Rule = newRule F rs ∷ rs in
+        let p = next-go F rs m (sym stands-next ∙ n) in
+        let q = next-go F rs′ w (sym (frame-next k tolerance ws rs′ M (ready-go m n .moved M e) S) ∙ h) in
+        omega (
+          arith,
+          ap (λ (x : Move). x .index) (p .1),
+          ap (λ (x : Move). x .index) (q .1),
+          term-falls F S rs (good-after F S (st .count - 1)) (p .0 .gain) (q .0 .gain),
+        )
 
     module _ (m : Move) (n : st .next ≡ Go m) (at : ℕ) (found : Leads holder run (m .giver) (2 ^ m .index) (2 ^ k) 0 at) where
       pub adds-rule : (value : ℕ) → value ≡ place k at

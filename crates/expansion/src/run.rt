@@ -110,7 +110,8 @@ fn advance(
         },
         count: state.count + 1,
         imbalance: seen.imbalance,
-        next: decide(seen.give, seen.take, k, tolerance, k - 1),
+        // terms never grow along a list
+        next: decide(seen.give, seen.take, k, tolerance, m.index),
     }
 }
 
