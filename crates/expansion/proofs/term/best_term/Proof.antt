@@ -11,6 +11,7 @@ use lib.Signed.{ltZ}
 use mir.Facts.{toZ-ofZ}
 use mir.Syntax.{w64}
 use mir.Val.{toZ, ofZ}
+use borrow.Author.Needs.{needs}
 use borrow.Author.Tests.{ltb-true, ltb-false}
 use Rattle.expansion.specs.Answer.{unit}
 use Rattle.expansion.specs.Steps.{reduction}
@@ -37,7 +38,7 @@ add-left c = omega arith
 
 loop-holds : tie.Need-loop-holds Inv-loop μ-loop
 loop-holds c =
-    (omega arith, led-start (gain (ofZ w64 (c .args .u)) (ofZ w64 (c .args .o))) (c .args .cap) (c .args .cap + 1) (omega arith))
+    (omega arith, led-start (gain (ofZ w64 (c .args .u)) (ofZ w64 (c .args .o))) (c .args .cap) _ (omega arith))
 
 sub-left : tie.Need-sub-left Inv-loop μ-loop
 sub-left c = omega arith
@@ -58,19 +59,17 @@ cast-t c =
 reduction-requires : tie.Need-reduction-requires Inv-loop μ-loop
 unfolding unit
 reduction-requires c κs =
-    let s = c .before .before in
     let i = c .before .loop .left - 1 in
     let t = term-read i (omega arith) in (
-      (rw (toZ-ofZ (s .fits .u)) (s .pre .0), (rw (toZ-ofZ (s .fits .o)) (s .pre .1 .0), rw t)),
+      (search needs, (search needs, rw t)),
       rw t (record { small = omega (arith, parts-few (2 ^ i) unit (pow-few i (omega arith)) (omega arith)) }),
     )
 
 is-enough-requires : tie.Need-is-enough-requires Inv-loop μ-loop
 unfolding unit
 is-enough-requires c κs =
-    let s = c .before .before .before .before in
     let i = c .before .before .before .loop .left - 1 in
-    (rw (toZ-ofZ (s .fits .u)) (s .pre .0), (rw (toZ-ofZ (s .fits .o)) (s .pre .1 .0), rw (term-read i (omega arith))))
+    (search needs, (search needs, rw (term-read i (omega arith))))
 
 loop-less : tie.Need-loop-less Inv-loop μ-loop
 loop-less c = omega arith
