@@ -55,14 +55,14 @@ module _ (k tolerance budget : ℕ) (ws : List ℕ) (r : Run) (M : Made k tolera
       stairs-taken (frame k unit tolerance ws) (listMade k tolerance budget ws) (r .list .stairs) (r .list .count) l (M .stairs)
       ∙ ap (stairsTo (frame k unit tolerance ws) (listMade k tolerance budget ws)) made-count
 
-  -- too little room in a buffer of `len` places, or enough in all
-  pub answer-short : (at room len : ℕ) → checkCall k tolerance budget ws ≡ Passed → room ≤ len → leb (at + r .list .count) len ≡ false
+  -- too little room, or enough
+  pub answer-short : (at room : ℕ) → checkCall k tolerance budget ws ≡ Passed → leb (at + r .list .count) room ≡ false
       → answer k tolerance budget ws at room ≡ Refused ShortLoan
   unfolding answer
-  answer-short at room len e l short =
+  answer-short at room e short =
       let none : leb (at + length (listMade k tolerance budget ws)) room ≡ false =
       lt-leb (at + length (listMade k tolerance budget ws)) room
-      (omega (arith, made-count, leb-false (at + r .list .count) len short)) in
+      (omega (arith, made-count, leb-false (at + r .list .count) room short)) in
       rw (e, none)
 
   pub answer-made : (at room : ℕ) → checkCall k tolerance budget ws ≡ Passed → at + r .list .count ≤ room

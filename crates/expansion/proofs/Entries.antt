@@ -2,7 +2,7 @@
 --     val e            the machine value of the entry e.        Fit e        its numbers fit their widths
 --     entries es b o   the entries es in memory, in the block b from o on
 --     entry-fits       the entries of a row fit
---     look-entry       entry i of the row at the head of the context is read, at the place that i * 24 leads to
+--     look-entry       entry i of the row at the head of the context is read, at the place that i * 16 leads to
 --     store-entry      another one is stored there
 --     opens-entries    a lent ledger, a `&mut [Backend]`, is opened, which takes the lifetime's token: the row, and the open borrow
 --     closes-entries   it is closed at as many entries, and the token comes back
@@ -60,7 +60,7 @@ opened κ q b o γ es =
 
 -- entry i by itself, and the row without it
 abbrev cell : ℕ → ℕ → ℕ → Backend → Fml
-cell i b o e = fat fullShare B′.mir b (i * 24 + o) (val e)
+cell i b o e = fat fullShare B′.mir b (i * 16 + o) (val e)
 
 abbrev rest : List Backend → ℕ → ℕ → ℕ → Fml
 rest es i b o = others (shares Entry) fullShare es i b o
@@ -77,15 +77,15 @@ module _ {M : Type 1} {𝓤 : URA M} {H : Heap 𝓤} {A : Atoms 𝓤} {K : Type 
       → Seq K W (‵ (entries es b o) ∷ Γ) G
   entry-out t es i b o l k =
       elem-out t Entry (Is Entry) (shows 𝓤 H A Entry) (λ e. val e ∷ []) (LL.tells B.the-type B′.the-laws) fullShare es i noBackend b o l (λ g.
-      rewrite t 0 (λ (p : ℕ). ‵ (fat fullShare (rawTy B′.mir) b p (val (getD es i noBackend)))) (place-is 24 o i) refl $
-      use1 W (‵ (cell i b o (getD es i noBackend))) (W .laws .raw-at fullShare B′.mir b (i * 24 + o) (val (getD es i noBackend))) $
+      rewrite t 0 (λ (p : ℕ). ‵ (fat fullShare (rawTy B′.mir) b p (val (getD es i noBackend)))) (place-is 16 o i) refl $
+      use1 W (‵ (cell i b o (getD es i noBackend))) (W .laws .raw-at fullShare B′.mir b (i * 16 + o) (val (getD es i noBackend))) $
       move t (1 ∷ []) $ drop t $ k g)
 
   entry-in : K → (es : List Backend) (i : ℕ) (e : Backend) (b o : ℕ) → i < length es → Fit e
       → Step K W (‵ (entries (set es i e) b o) ∷ Γ) G (‵ (cell i b o e) ∷ ‵ (rest es i b o) ∷ Γ) G
   entry-in t es i e b o l g = step (λ s.
-      use1 W (‵ (fat fullShare (rawTy B′.mir) b (i * 24 + o) (val e))) (W .laws .at-raw fullShare B′.mir b (i * 24 + o) (val e)) $
-      rewrite t 0 (λ (p : ℕ). ‵ (fat fullShare (rawTy B′.mir) b p (val e))) (sym (place-is 24 o i)) refl $
+      use1 W (‵ (fat fullShare (rawTy B′.mir) b (i * 16 + o) (val e))) (W .laws .at-raw fullShare B′.mir b (i * 16 + o) (val e)) $
+      rewrite t 0 (λ (p : ℕ). ‵ (fat fullShare (rawTy B′.mir) b p (val e))) (sym (place-is 16 o i)) refl $
       owned t Entry (Is Entry) (LL.makes B.the-type B′.the-plain 𝓤 H A) e (val e ∷ []) g $ move t (1 ∷ 0 ∷ []) $
       elem-put t Entry fullShare es i e (val e ∷ []) b o l $ s)
 
@@ -113,22 +113,22 @@ module _ {M : Type 1} {𝓤 : URA M} {H : Heap 𝓤} {A : Atoms 𝓤} {K : Type 
 
 module _ {M : Type 1} {𝓤 : URA M} {H : Heap 𝓤} {A : Atoms 𝓤} {K : Type 0} {W : Given 𝓤 H A} {Γ : List (Item 𝓤)} where
   pub look-entry : K → (es : List Backend) (i b o : ℕ) → i < length es
-      → Reads K W (‵ (entries es b o) ∷ Γ) B′.mir b (i * 24 + o) (val (getD es i noBackend))
+      → Reads K W (‵ (entries es b o) ∷ Γ) B′.mir b (i * 16 + o) (val (getD es i noBackend))
   look-entry t es i b o l = record {
     go = λ Kt h.
         qed W (‵ (entries es b o) ∷ Γ) ∵ entry-out ! es i b o l (λ g.
-        show ! (λ (q : Share). ex 𝓤 (λ (v : Val). sep 𝓤 (H .at q B′.mir b (i * 24 + o) v) (wand 𝓤 (H .at q B′.mir b (i * 24 + o) v) (Kt v)))) fullShare $
-        show ! (λ (v : Val). sep 𝓤 (H .at fullShare B′.mir b (i * 24 + o) v) (wand 𝓤 (H .at fullShare B′.mir b (i * 24 + o) v) (Kt v))) (val (getD es i noBackend)) $
+        show ! (λ (q : Share). ex 𝓤 (λ (v : Val). sep 𝓤 (H .at q B′.mir b (i * 16 + o) v) (wand 𝓤 (H .at q B′.mir b (i * 16 + o) v) (Kt v)))) fullShare $
+        show ! (λ (v : Val). sep 𝓤 (H .at fullShare B′.mir b (i * 16 + o) v) (wand 𝓤 (H .at fullShare B′.mir b (i * 16 + o) v) (Kt v))) (val (getD es i noBackend)) $
         frame ! $ assume ! (‵ (cell i b o (getD es i noBackend))) $ entry-in ! es i (getD es i noBackend) b o l g $
         rewrite ! 0 (λ (es′ : List Backend). ‵ (entries es′ b o)) (set-same es i) refl $ by ! h);
   }
 
   pub store-entry : K → (es : List Backend) (i : ℕ) (e : Backend) (b o : ℕ) → i < length es → Fit e
-      → Writes K W (‵ (entries es b o) ∷ Γ) B′.mir b (i * 24 + o) (val e) (‵ (entries (set es i e) b o) ∷ Γ)
+      → Writes K W (‵ (entries es b o) ∷ Γ) B′.mir b (i * 16 + o) (val e) (‵ (entries (set es i e) b o) ∷ Γ)
   store-entry t es i e b o l g = record {
     go = λ P h.
         qed W (‵ (entries es b o) ∷ Γ) ∵ entry-out ! es i b o l (λ _.
         check ! (LL.lawful B.the-type B′.the-laws 𝓤 H A W .typed e _ g .0) $
-        use1 W (‵ (froom B′.mir b (i * 24 + o))) (W .laws .at-room B′.mir b (i * 24 + o) (val (getD es i noBackend))) $
+        use1 W (‵ (froom B′.mir b (i * 16 + o))) (W .laws .at-room B′.mir b (i * 16 + o) (val (getD es i noBackend))) $
         frame ! $ assume ! (‵ (cell i b o e)) $ entry-in ! es i e b o l g $ by ! h);
   }

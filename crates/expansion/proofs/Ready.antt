@@ -1,24 +1,30 @@
 -- The move that comes next, as the program makes it: its giver, its receiver and its term are those of the definitions, its search finds a place that gives the new rule, and the ledger keeps the shares after it.
-use Prim.Native.Nat.{ℕ, _-_, _^_, _≤_, _<_}
+use Prim.Native.Nat.{ℕ, _-_, _*_, _^_, _≤_, _<_}
 use mathlib.Core.Bool.{Bool, true, false}
 use mathlib.Core.List.{List, _∷_}
 use mathlib.Core.Path.{_≡_, refl, ap, _∙_}
 use native.Mathlib.Omega.{arith}
+use lib.Dec.{leb, eqb}
 use lib.ListN.{length, set}
-use Rattle.numerals.specs.Pick.{pick}
+use borrow.Author.Tests.{eqb-true, eq-eqb}
+use Rattle.numerals.specs.Pick.{pick, both}
 use Rattle.numerals.specs.Suffix.{place}
+use Rattle.expansion.specs.Sums.{lastmax}
 use Rattle.expansion.specs.Imbalance.{Frame, backends, excess, shortfall, giver, receiver, largestExcess, largestShortfall}
-use Rattle.expansion.specs.Steps.{frame, isWithin, isNoGain, term, termLength, newRule, step, endOf}
+use Rattle.expansion.specs.Steps.{frame, reduction, isWithin, isNoGain, term, termLength, newRule, step, endOf}
 use Rattle.expansion.specs.Sound.{Sound}
 use Rattle.expansion.specs.Answer.{unit}
-use Rattle.expansion.specs.Kept.{entryAt, lessOf, moreOf, Keeps, Runs, Leads, Given, Valid}
+use Rattle.expansion.specs.Kept.{over, entryAt, lessOf, moreOf, nextFor, Keeps, Runs, Leads, Given, Valid}
 use Rattle.expansion.specs.declared.rule.Rule.{Rule}
 use Rattle.expansion.specs.declared.rule.Ended.{Ended}
 use Rattle.expansion.specs.declared.rule.Ended.the-variants.{Within, NoGain}
 use Rattle.expansion.specs.declared.ledger.Backend.{Backend}
 use Rattle.expansion.specs.declared.ledger.Ledger.{Ledger}
+use Rattle.expansion.specs.declared.ledger.Extreme.{Extreme}
 use Rattle.expansion.specs.declared.run.Move.{Move}
+use Rattle.expansion.specs.declared.run.Next.{Next}
 use Rattle.expansion.specs.declared.run.Next.the-variants.{Stop, Go}
+use Rattle.expansion.proofs.Searches.{lastmax-is, lastmax-fewer}
 use Rattle.expansion.proofs.Balance.{giver-lt, receiver-lt}
 use Rattle.expansion.proofs.NoGain.{term-le}
 use Rattle.expansion.proofs.Moves.{Good, some-excess, some-shortfall, apart, new-giver, new-receiver, new-other}
@@ -48,6 +54,34 @@ next-go F rs m h = go (isWithin F rs) refl (isNoGain F rs) refl h
     go false p true q n = absurd (let z : _≡_ {A = ℕ} 0 1 = cc in omega arith)
     go false p false q n = (record { outside = p; gain = q }, cc)
 
+-- the terms above c are left out, where the move that comes next isn't of one of them
+module _ (give take : Extreme) (k tolerance cap c : ℕ) (less : c ≤ cap)
+    (falls : (w : Move) → nextFor give take k tolerance cap ≡ Go w → w .index ≤ c) where
+  abbrev gain : ℕ → ℕ
+  gain j = reduction (over (take .size)) (over (give .size)) (2 ^ j * unit)
+
+  abbrev within : Bool
+  within = both (leb (over (give .size)) (tolerance * 2 ^ k)) (leb (over (take .size)) (tolerance * 2 ^ k))
+
+  abbrev go-by : ℕ → Next
+  go-by i = Go (record { giver = give .backend; receiver = take .backend; index = i })
+
+  pub next-fewer : nextFor give take k tolerance c ≡ nextFor give take k tolerance cap
+  unfolding nextFor
+  next-fewer = go within refl (eqb (gain (lastmax gain cap)) 0) refl
+    where
+      go : (w : Bool) → within ≡ w → (g : Bool) → eqb (gain (lastmax gain cap)) 0 ≡ g
+          → pick within (Stop Within) (pick (eqb (gain (lastmax gain c)) 0) (Stop NoGain) (go-by (lastmax gain c)))
+          ≡ pick within (Stop Within) (pick (eqb (gain (lastmax gain cap)) 0) (Stop NoGain) (go-by (lastmax gain cap)))
+      go true p g q = rw p
+      go false p true q =
+          let none : gain (lastmax gain c) ≡ 0 =
+          omega (arith, eqb-true (gain (lastmax gain cap)) 0 q, lastmax-is gain cap .best (lastmax gain c) (omega (arith, lastmax-is gain c .inside))) in
+          rw (p, q, eq-eqb (gain (lastmax gain c)) 0 none)
+      go false p false q =
+          let l : lastmax gain cap ≤ c = falls (record { giver = give .backend; receiver = take .backend; index = lastmax gain cap }) (rw (p, q)) in
+          rw (p, lastmax-fewer gain cap c less l)
+
 -- a ledger after suffixes went from one backend to another
 abbrev pub movedBy : Ledger → Move → List Backend
 movedBy L m =
@@ -56,7 +90,7 @@ movedBy L m =
 
 -- a move that the program is about to make, after the rules rs
 pub record Ready (k tolerance : ℕ) (ws holder run : List ℕ) (rs : List Rule) (L : Ledger) (m : Move) : Type 0 where
-  pub index : m .index ≤ k
+  pub index : m .index ≤ k - 1
   pub giver : m .giver < length ws
   pub receiver : m .receiver < length ws
   pub found : (r : ℕ) × Leads holder run (m .giver) (2 ^ m .index) (2 ^ k) 0 r

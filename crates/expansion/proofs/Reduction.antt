@@ -1,5 +1,6 @@
 -- The reduction of a term over plain numbers. Where shortfall and excess fall, reductions don't grow, and a larger term can only lose against a smaller one.
 use Prim.Native.Nat.{ℕ, _+_, _-_, _*_, _≤_, _<_, min}
+use mathlib.Core.Logic.{_⊎_, inl, inr}
 use mathlib.Core.Path.{_≡_}
 use native.Mathlib.Omega.{arith}
 use Rattle.expansion.specs.Steps.{reduction}
@@ -33,6 +34,12 @@ reduction-le u o t = omega arith
 pub reduction-term : (u o t : ℕ) → reduction u o t ≤ 2 * t
 unfolding reduction
 reduction-term u o t = omega arith
+
+-- up to the larger of the two errors, a larger term doesn't gain less
+pub reduction-enough : (u o s t : ℕ) → (t ≤ u) ⊎ (t ≤ o) → s ≤ t → reduction u o s ≤ reduction u o t
+unfolding reduction
+reduction-enough u o s t (inl h) l = omega arith
+reduction-enough u o s t (inr h) l = omega arith
 
 pub reduction-larger : (u o u′ o′ s t : ℕ) → u′ ≤ u → o′ ≤ o → s ≤ t → reduction u o t < reduction u o s
     → 0 < reduction u′ o′ t → reduction u′ o′ t < reduction u′ o′ s

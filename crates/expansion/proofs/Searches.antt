@@ -288,6 +288,13 @@ lastmax-unique f n i j p q = go (decLt i j) (decLt j i)
     go (no l) (yes m) = absurd (omega (arith, q .last i m (p .inside), p .best j (q .inside)))
     go (no l) (no m) = omega arith
 
+-- the same place among fewer, where it is one of them
+pub lastmax-fewer : (f : ℕ → ℕ) (n c : ℕ) → c ≤ n → lastmax f n ≤ c → lastmax f c ≡ lastmax f n
+lastmax-fewer f n c h l =
+    let p = lastmax-is f n in
+    lastmax-unique f c (lastmax f c) (lastmax f n) (lastmax-is f c)
+    (record { inside = l; best = λ j m. p .best j (omega arith); last = λ j k m. p .last j k (omega arith) })
+
 pub lastmax-ext : (f g : ℕ → ℕ) (n : ℕ) → ((i : ℕ) → i ≤ n → f i ≡ g i) → lastmax f n ≡ lastmax g n
 lastmax-ext f g n h = lastmax-unique g n (lastmax f n) (lastmax g n) (go (lastmax-is f n)) (lastmax-is g n)
   where
@@ -299,34 +306,50 @@ lastmax-ext f g n h = lastmax-unique g n (lastmax f n) (lastmax g n) (go (lastma
           last = λ j l m. omega (arith, p .last j l m, h j m, h (lastmax f n) (p .inside));
         }
 
--- the same search among the first n values, the last place of the greatest; 0 of none
-unfoldable pub lastTo : (ℕ → ℕ) → ℕ → ℕ
-lastTo f zero = 0
-lastTo f (suc n) = lastmax f n
+-- the same search from n downwards: the best of the places from `left` on; at the start its value is 0
+pub record Led (f : ℕ → ℕ) (n left i best : ℕ) : Type 0 where
+  pub inside : i ≤ n
+  pub low : best ≤ f i
+  pub passed : (j : ℕ) → left ≤ j → j ≤ n → f j ≤ best
+  pub last : (j : ℕ) → i < j → j ≤ n → f j < f i
 
-unfoldable pub lastPeak : (ℕ → ℕ) → ℕ → ℕ
-lastPeak f zero = 0
-lastPeak f (suc n) = f (lastmax f n)
+pub led-start : (f : ℕ → ℕ) (n left : ℕ) → n < left → Led f n left n 0
+led-start f n left h =
+    record { inside = omega arith; low = omega arith; passed = λ j l m. absurd (omega arith); last = λ j l m. absurd (omega arith) }
 
-pub lastPeak-none : (f : ℕ → ℕ) → (lastTo f 0 ≡ 0) × (lastPeak f 0 ≡ 0)
-unfolding lastTo lastPeak
-lastPeak-none f = (refl, refl)
+-- one place more
+module _ (f : ℕ → ℕ) (n left i best : ℕ) (L : Led f n left i best) (j : ℕ) (next : left ≤ suc j) where
+  one-more : (c : ℕ) → best ≤ c → f j ≤ c → (m : ℕ) → j ≤ m → m ≤ n → f m ≤ c
+  one-more c p q m l h = go (ℕ-discrete m j)
+    where
+      go : Dec (m ≡ j) → f m ≤ c
+      go (yes e) = omega (arith, ap f e)
+      go (no d) = omega (arith, L .passed m (omega arith) h)
 
-pub lastPeak-is : (f : ℕ → ℕ) (n : ℕ) → (lastTo f (suc n) ≡ lastmax f n) × (lastPeak f (suc n) ≡ f (lastmax f n))
-unfolding lastTo lastPeak
-lastPeak-is f n = (refl, refl)
+  pub led-higher : j ≤ n → best < f j → Led f n j j (f j)
+  led-higher h l =
+      record {
+        inside = h;
+        low = omega arith;
+        passed = one-more (f j) (omega arith) (omega arith);
+        last = λ m k o. omega (arith, L .passed m (omega arith) o);
+      }
 
-pub lastPeak-most : (f : ℕ → ℕ) (n c : ℕ) → ((i : ℕ) → i < n → f i ≤ c) → lastPeak f n ≤ c
-unfolding lastPeak
-lastPeak-most f zero c h = omega arith
-lastPeak-most f (suc n) c h = h (lastmax f n) (omega (arith, lastmax-is f n .inside))
+  pub led-kept : f j ≤ best → Led f n j i best
+  led-kept l =
+      record { inside = L .inside; low = L .low; passed = one-more best (omega arith) l; last = L .last }
 
-pub lastPeak-higher : (f : ℕ → ℕ) (n : ℕ) → lastPeak f n ≤ f n → (lastTo f (suc n) ≡ n) × (lastPeak f (suc n) ≡ f n)
-unfolding lastTo lastPeak
-lastPeak-higher f zero l = (lastmax-zero f, ap f (lastmax-zero f))
-lastPeak-higher f (suc n) l = let e = lastmax-higher f n l in (e, ap f e)
-
-pub lastPeak-kept : (f : ℕ → ℕ) (n : ℕ) → f n < lastPeak f n → (lastTo f (suc n) ≡ lastTo f n) × (lastPeak f (suc n) ≡ lastPeak f n)
-unfolding lastTo lastPeak
-lastPeak-kept f zero l = absurd (omega arith)
-lastPeak-kept f (suc n) l = let e = lastmax-kept f n l in (e, ap f e)
+-- where no place further down has a greater value
+pub led-end : (f : ℕ → ℕ) (n left i best : ℕ) → Led f n left i best → ((j : ℕ) → j < left → f j ≤ best)
+    → (i ≡ lastmax f n) × (best ≡ f i)
+led-end f n left i best L h = (
+  lastmax-unique f n i (lastmax f n) (record { inside = L .inside; best = λ j l. omega (arith, all j l, L .low); last = L .last }) (lastmax-is f n),
+  omega (arith, all i (L .inside), L .low),
+)
+  where
+    all : (j : ℕ) → j ≤ n → f j ≤ best
+    all j l = go (decLt j left)
+      where
+        go : Dec (j < left) → f j ≤ best
+        go (yes m) = h j m
+        go (no m) = L .passed j (omega arith) l

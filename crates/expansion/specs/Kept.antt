@@ -4,7 +4,7 @@ use mathlib.Core.Path.{_≡_}
 use mathlib.Core.Bool.{Bool, true, false}
 use mathlib.Core.List.{List, [], _∷_}
 use mathlib.Core.Logic.{_≢_}
-use lib.Dec.{leb, eqb}
+use lib.Dec.{leb, ltb, eqb}
 use lib.IntN.{ℤ, pos, negsuc, subℕ, _+ℤ_, _-ℤ_}
 use lib.Signed.{mag}
 use lib.ListN.{length, getD, set}
@@ -17,7 +17,7 @@ use Rattle.expansion.specs.Steps.{frame, reduction, after, stair, endOf}
 use Rattle.expansion.specs.Sound.{Lengths}
 use Rattle.expansion.specs.Answer.{unit, listMade}
 use Rattle.expansion.specs.declared.rule.Rule.{Rule}
-use Rattle.expansion.specs.declared.rule.Ended.the-variants.{Within, NoGain}
+use Rattle.expansion.specs.declared.rule.Ended.the-variants.{Within, NoGain, Budget}
 use Rattle.expansion.specs.declared.ledger.Backend.{Backend}
 use Rattle.expansion.specs.declared.ledger.Ledger.{Ledger}
 use Rattle.expansion.specs.declared.ledger.Extreme.{Extreme}
@@ -123,6 +123,11 @@ nextFor give take k tolerance cap =
 -- steps 2 to 4 on the errors kept
 unfoldable pub nextOf : Ledger → ℕ → ℕ → ℕ → ℕ → Next
 nextOf L n k tolerance cap = nextFor (largestOf L n false) (largestOf L n true) k tolerance cap
+
+-- step 5: a move comes after c rules only where the budget has room for one more
+abbrev pub inBudget : Next → ℕ → ℕ → Next
+inBudget (Stop e) c budget = Stop e
+inBudget (Go m) c budget = pick (ltb c budget) (Go m) (Stop Budget)
 
 -- the ledger after the rules rs: at each backend its weight, its share by first match and its error
 pub record Keeps (F : Frame) (rs : List Rule) (L : Ledger) : Type 0 where

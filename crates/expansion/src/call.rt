@@ -102,6 +102,12 @@ fn copy_out(
     }
 }
 
+fn smaller(a: usize, b: usize) -> usize
+    ensures { λ r. ⌜ r ≡ min a b ⌝ }
+{
+    if a < b { a } else { b }
+}
+
 // Whether a buffer of `len` places has room for n more from a position on.
 fn has_room(len: usize, at: usize, n: usize) -> bool
     ensures { λ r. ⌜ r ≡ leb (at + n) len ⌝ }
@@ -136,16 +142,9 @@ pub fn expand(
     let list = made.list;
     let ended = made.ended;
     let n = list.count;
-    if !has_room(lens.len(), at, n) {
-        return Expanded::Refused(Refusal::ShortLoan);
-    }
-    if !has_room(values.len(), at, n) {
-        return Expanded::Refused(Refusal::ShortLoan);
-    }
-    if !has_room(backends.len(), at, n) {
-        return Expanded::Refused(Refusal::ShortLoan);
-    }
-    if !has_room(stairs.len(), at, n) {
+    let rules = smaller(lens.len(), values.len());
+    let ends = smaller(backends.len(), stairs.len());
+    if !has_room(smaller(rules, ends), at, n) {
         return Expanded::Refused(Refusal::ShortLoan);
     }
     copy_out(list, at, lens, values, backends, stairs);

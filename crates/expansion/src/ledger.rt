@@ -11,9 +11,10 @@ ghost use Rattle.expansion.specs.Kept as kept;
 // 100 percent, the sum of a service's weights; also one suffix in parts of the imbalance.
 pub const UNIT: u64 = 1000000;
 
+// The ledger goes by value, so an entry is no wider than it must be.
 pub struct Backend {
-    pub weight: u64,
-    pub share: u64,
+    pub weight: u32,
+    pub share: u32,
     pub error: i64,
 }
 
@@ -40,8 +41,8 @@ pub fn entry(weight: u64, share: u64, k: usize) -> Backend
     ensures { λ r. ⌜ r ≡ kept.entryOf unit k weight share ⌝ }
 {
     Backend {
-        weight,
-        share,
+        weight: weight as u32,
+        share: share as u32,
         error: (share * UNIT) as i64 - (weight * (1 << k)) as i64,
     }
 }
@@ -114,7 +115,7 @@ fn less(b: Backend, count: u64) -> Backend
 {
     Backend {
         weight: b.weight,
-        share: b.share - count,
+        share: b.share - count as u32,
         error: b.error - (count * UNIT) as i64,
     }
 }
@@ -126,7 +127,7 @@ fn more(b: Backend, count: u64) -> Backend
 {
     Backend {
         weight: b.weight,
-        share: b.share + count,
+        share: b.share + count as u32,
         error: b.error + (count * UNIT) as i64,
     }
 }

@@ -110,7 +110,8 @@ fn advance(
         },
         count: state.count + 1,
         imbalance: seen.imbalance,
-        next: decide(seen.give, seen.take, k, tolerance, k - 1),
+        // terms never grow along a list
+        next: decide(seen.give, seen.take, k, tolerance, m.index),
     }
 }
 
@@ -137,6 +138,22 @@ fn begin(weights: &[u64], k: usize, tolerance: u64, first: usize) -> State
     }
 }
 
+// Step 5: a move that comes after `count` rules is made only if the budget has room for its rule.
+fn in_budget(next: Next, count: usize, budget: usize) -> Next
+    ensures { λ r. ⌜ r ≡ kept.inBudget next count budget ⌝ }
+{
+    match next {
+        Next::Stop(ended) => Next::Stop(ended),
+        Next::Go(m) => {
+            if count < budget {
+                Next::Go(m)
+            } else {
+                Next::Stop(Ended::Budget)
+            }
+        }
+    }
+}
+
 // The list of a budget, for numbers that were checked.
 pub fn make_list(k: usize, tolerance: u64, budget: usize, weights: &[u64]) -> Run
     requires { ⌜ kept.Valid k tolerance (now weights) × ((1 ≤ budget) × (budget ≤ 32)) ⌝ }
@@ -151,19 +168,14 @@ pub fn make_list(k: usize, tolerance: u64, budget: usize, weights: &[u64]) -> Ru
     let star = state.rule;
     let mut list = crate::list::of_one(star, state.imbalance);
     loop {
-        let next = state.next;
+        let n = list.count;
+        let wanted = state.next;
+        let next = in_budget(wanted, n, budget);
         match next {
             Next::Stop(ended) => {
                 return Run { list, ended };
             }
             Next::Go(m) => {
-                let n = list.count;
-                if budget <= n {
-                    return Run {
-                        list,
-                        ended: Ended::Budget,
-                    };
-                }
                 state = advance(
                     &mut holder,
                     &mut run,

@@ -1,6 +1,7 @@
 // The term of a move: how many suffixes go from giver to receiver, and what that gains.
 ghost use mathlib.Core.Path.{_≡_};
-ghost use Prim.Native.Nat.{_≤_, min};
+ghost use mathlib.Core.Bool.{true};
+ghost use Prim.Native.Nat.{ℕ, _≤_, min};
 ghost use lib.IntN.{pos};
 ghost use Rattle.expansion.specs.Steps as steps;
 ghost use Rattle.expansion.specs.Kept as kept;
@@ -28,21 +29,36 @@ fn reduction(u: i64, o: i64, t: i64) -> i64
     if twice < 0 { 0 } else { twice }
 }
 
+// Whether one of the errors is at least t. No smaller term then gains more than t.
+fn is_enough(u: i64, o: i64, t: i64) -> bool
+    requires { ⌜ (u ≡ pos (kept.over u)) × ((o ≡ pos (kept.over o)) × (t ≡ pos (kept.over t))) ⌝ }
+    ensures { λ r. ⌜ (r ≡ true → (s : ℕ) → s ≤ kept.over t → steps.reduction (kept.over u) (kept.over o) s ≤ steps.reduction (kept.over u) (kept.over o) (kept.over t)) ⌝ }
+{
+    if t <= u {
+        return true;
+    }
+    t <= o
+}
+
 // The greatest reduction of the terms of 1 to 2^cap suffixes, the larger term if equal.
 pub fn best_term(u: i64, o: i64, cap: usize) -> Term
     requires { ⌜ (u ≡ pos (kept.over u)) × ((o ≡ pos (kept.over o)) × (cap ≤ 12)) ⌝ }
     ensures { λ r. ⌜ kept.Best (kept.over u) (kept.over o) cap r ⌝ }
 {
-    let mut index = 0;
+    let mut index = cap;
     let mut best: i64 = 0;
-    let mut i = 0;
-    while i <= cap {
-        let r = reduction(u, o, (crate::ledger::UNIT * (1 << i)) as i64);
-        if best <= r {
+    let mut left = cap + 1;
+    while 0 < left {
+        left -= 1;
+        let t = (crate::ledger::UNIT * (1 << left)) as i64;
+        let r = reduction(u, o, t);
+        if best < r {
             best = r;
-            index = i;
+            index = left;
         }
-        i += 1;
+        if is_enough(u, o, t) {
+            break;
+        }
     }
     Term {
         index,

@@ -9,11 +9,9 @@ use lib.ListN.{length, take, length-map}
 use lib.Seq.{sets}
 use borrow.Author.Needs.{needs}
 use borrow.Author.Tests.{not-true, not-false, leb-true}
-use Rattle.expansion.specs.Answer.{checkCall, listMade, answer, lensMade, valuesMade, backendsMade}
+use Rattle.expansion.specs.Answer.{checkCall, listMade, lensMade, valuesMade, backendsMade}
 use Rattle.expansion.specs.declared.rule.Rule.{Rule}
-use Rattle.expansion.specs.declared.refusal.Refusal.the-variants.{ShortLoan}
 use Rattle.expansion.specs.declared.call.Checked.the-variants.{Sound as Passed}
-use Rattle.expansion.specs.declared.call.Expanded.the-variants.{Refused}
 use Rattle.expansion.proofs.Checks.{call-passed}
 use Rattle.expansion.proofs.Answers.{answer-turned, answer-short, answer-made, made-column, made-stairs}
 use Rattle.expansion.proofs.call.expand.Statement.{statement}
@@ -52,59 +50,55 @@ make-list-requires c κs =
     let v = call-passed (a .k) (a .tolerance) (a .budget) (a .weights .now) (passed c) in
     (v .0, (v .1, v .2))
 
+smaller-requires : tie.Need-smaller-requires
+smaller-requires c κs = search needs
+
+smaller-requires-2 : tie.Need-smaller-requires-2
+smaller-requires-2 c κs = search needs
+
+smaller-requires-3 : tie.Need-smaller-requires-3
+smaller-requires-3 c κs = search needs
+
 has-room-requires : tie.Need-has-room-requires
 has-room-requires c κs = search needs
 
--- where a buffer of `len` places is too short
-short : (c : tie.After-list) (len : ℕ) → room (c .before .before .before .before .before .before .before .before .before .before) ≤ len → leb (c .before .before .before .before .before .before .before .before .before .before .args .at + c .before .make-list .result .list .count) len ≡ false
-    → let s = c .before .before .before .before .before .before .before .before .before .before in let a = s .args in Refused ShortLoan ≡ answer (a .k) (a .tolerance) (a .budget) (a .weights .now) (a .at) (room s)
-short c len l h =
-    let s = c .before .before .before .before .before .before .before .before .before .before in let a = s .args in
-    sym
-    (answer-short (a .k) (a .tolerance) (a .budget) (a .weights .now) (c .before .make-list .result) (c .before .make-list .ensures)
-    (a .at) (room s) len (passed (c .before .before)) l h)
+-- from the test of the room back to the list made, and to the start
+abbrev list-of : tie.After-has-room → tie.After-make-list
+list-of c = c .before .before .before .before .before
+
+abbrev begun : tie.After-has-room → tie.Start
+begun c = c .before .before .before .before .before .before .before .before .before .before .before .before .before .before
+
+-- the test is one of the shortest buffer
+room-is : (c : tie.After-has-room) → c .has-room .result ≡ leb (begun c .args .at + list-of c .make-list .result .list .count) (room (begun c))
+room-is c =
+    let n = begun c .args .at + list-of c .make-list .result .list .count in
+    let least : c .before .smaller3 .result ≡ room (begun c) = omega (arith, c .before .smaller3 .ensures, c .before .before .smaller2 .ensures, c .before .before .before .smaller .ensures) in
+    c .has-room .ensures ∙ ap (leb n) least
 
 returns-2 : tie.Need-returns-2
 returns-2 c =
-    let s = c .before .before .before .before .before .before .before .before .before .before .before .before in let a = s .args in
-    (short (c .before .before) (length (a .lens .now)) (omega arith) (sym (c .before .has-room .ensures) ∙ not-true _ (c .if1 .taken)), (refl, (refl, (refl, refl))))
-
-has-room-requires-2 : tie.Need-has-room-requires-2
-has-room-requires-2 c κs = search needs
-
-returns-3 : tie.Need-returns-3
-returns-3 c =
-    let s = c .before .before .before .before .before .before .before .before .before .before .before .before .before .before in let a = s .args in
-    (short (c .before .before .before .before) (length (a .values .now)) (omega arith) (sym (c .before .has-room2 .ensures) ∙ not-true _ (c .if2 .taken)), (refl, (refl, (refl, refl))))
-
-has-room-requires-3 : tie.Need-has-room-requires-3
-has-room-requires-3 c κs = search needs
-
-returns-4 : tie.Need-returns-4
-returns-4 c =
-    let s = c .before .before .before .before .before .before .before .before .before .before .before .before .before .before .before .before in let a = s .args in
-    (short (c .before .before .before .before .before .before) (length (a .backends .now)) (omega arith) (sym (c .before .has-room3 .ensures) ∙ not-true _ (c .if3 .taken)), (refl, (refl, (refl, refl))))
-
-has-room-requires-4 : tie.Need-has-room-requires-4
-has-room-requires-4 c κs = search needs
-
-returns-5 : tie.Need-returns-5
-returns-5 c =
-    let s = c .before .before .before .before .before .before .before .before .before .before .before .before .before .before .before .before .before .before in let a = s .args in
-    (short (c .before .before .before .before .before .before .before .before) (length (a .stairs .now)) (omega arith) (sym (c .before .has-room4 .ensures) ∙ not-true _ (c .if4 .taken)), (refl, (refl, (refl, refl))))
+    let h = c .before in
+    let s = begun h in
+    let a = s .args in
+    let m = list-of h in (
+      sym
+          (answer-short (a .k) (a .tolerance) (a .budget) (a .weights .now) (m .make-list .result) (m .make-list .ensures)
+          (a .at) (room s) (passed (m .before)) (sym (room-is h) ∙ not-true _ (c .if1 .taken))),
+      (refl, (refl, (refl, refl))),
+    )
 
 -- all have room
-fits : (c : tie.Else4)
-    → let s = c .before .before .before .before .before .before .before .before .before .before .before .before .before .before .before .before .before .before in
-    let n = s .args .at + c .before .before .before .before .before .before .before .before .before .make-list .result .list .count in
-    (n ≤ length (s .args .lens .now)) × (n ≤ length (s .args .values .now)) × (n ≤ length (s .args .backends .now)) × (n ≤ length (s .args .stairs .now))
+fits : (c : tie.Else1) → begun (c .before) .args .at + list-of (c .before) .make-list .result .list .count ≤ room (begun (c .before))
 fits c =
-    (leb-true _ _ (sym (c .before .before .before .before .before .before .before .has-room .ensures) ∙ not-false _ (c .before .before .before .before .before .before .if1 .left)), leb-true _ _ (sym (c .before .before .before .before .before .has-room2 .ensures) ∙ not-false _ (c .before .before .before .before .if2 .left)), leb-true _ _ (sym (c .before .before .before .has-room3 .ensures) ∙ not-false _ (c .before .before .if3 .left)), leb-true _ _ (sym (c .before .has-room4 .ensures) ∙ not-false _ (c .if4 .left)))
+    leb-true (begun (c .before) .args .at + list-of (c .before) .make-list .result .list .count) (room (begun (c .before)))
+    (sym (room-is (c .before)) ∙ not-false _ (c .if1 .left))
 
 copy-out-requires : tie.Need-copy-out-requires
 copy-out-requires c κs =
-    let f = fits (c .before .before .before .before) in
-    (c .before .before .before .before .before .before .before .before .before .before .before .before .before .make-list .ensures .few-rules, (f .0, (f .1, (f .2, f .3))))
+    let e = c .before .before .before .before in
+    let f = fits e in
+    (list-of (e .before) .make-list .ensures .few-rules, (omega arith, (omega arith, (omega arith, omega arith))))
 
 same-length : tie.Need-same-length
 same-length c = search needs
@@ -125,11 +119,13 @@ rules-long c = simp length-map at (c .make-list .ok .1 .1 .0 .1 .1 .0 .1 .0 .1)
 stairs-long : (c : tie.After-make-list) → length (c .make-list .result .list .stairs) ≡ 32
 stairs-long c = simp length-map at (c .make-list .ok .1 .1 .0 .1 .1 .1 .0 .1 .0 .1)
 
-returns-6 : tie.Need-returns-6
+returns-3 : tie.Need-returns-3
 unfolding lensMade valuesMade backendsMade
-returns-6 c =
-    let s = c .before .before .before .before .before .before .before .before .before .before .before .before .before .before .before .before .before .before .before .before .before .before .before .before .before .before .before .before .before .before .before in let a = s .args in
-    let m = c .before .before .before .before .before .before .before .before .before .before .before .before .before .before .before .before .before .before .before .before .before .before in
+returns-3 c =
+    let e = c .before .before .before .before .before .before .before .before .before .before .before .before .before in
+    let s = begun (e .before) in
+    let a = s .args in
+    let m = list-of (e .before) in
     let r = m .make-list .result in
     let M = m .make-list .ensures in
     let rules : r .list .count ≤ length (r .list .rules) = omega (arith, rules-long m, M .few-rules) in
@@ -137,9 +133,8 @@ returns-6 c =
     let column : (f : Rule → ℕ)
     → map f (take (r .list .count) (r .list .rules)) ≡ map f (reverse (listMade (a .k) (a .tolerance) (a .budget) (a .weights .now))) =
     λ f. made-column (a .k) (a .tolerance) (a .budget) (a .weights .now) r M f rules in
-    let f = fits (c .before .before .before .before .before .before .before .before .before .before .before .before .before) in
     let out = c .before .before .before .before .before .before .before .before .copy-out .ensures in (
-      sym (answer-made (a .k) (a .tolerance) (a .budget) (a .weights .now) r M (a .at) (room s) (passed (c .before .before .before .before .before .before .before .before .before .before .before .before .before .before .before .before .before .before .before .before .before .before .before)) (omega arith)),
+      sym (answer-made (a .k) (a .tolerance) (a .budget) (a .weights .now) r M (a .at) (room s) (passed (m .before)) (fits e)),
       (
         out .0 ∙ ap (sets (a .lens .now) (a .at)) (column (λ (r : Rule). r .len)),
         (
@@ -161,17 +156,14 @@ expand-spec =
     returns
     enum-told
     make-list-requires
+    smaller-requires
+    smaller-requires-2
+    smaller-requires-3
     has-room-requires
     returns-2
-    has-room-requires-2
-    returns-3
-    has-room-requires-3
-    returns-4
-    has-room-requires-4
-    returns-5
     copy-out-requires
     same-length
     same-length-2
     same-length-3
     same-length-4
-    returns-6)
+    returns-3)

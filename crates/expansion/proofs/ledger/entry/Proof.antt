@@ -10,18 +10,24 @@ use borrow.Author.Needs.{needs}
 use Rattle.expansion.specs.Answer.{unit}
 use Rattle.expansion.specs.Kept.{entryOf}
 use Rattle.expansion.proofs.Powers.{shifted}
-use Rattle.expansion.proofs.Signed.{pos-less, mag-sub, back, plain, parts-few, wants-few, parts-read}
+use Rattle.expansion.proofs.Signed.{pos-less, mag-sub, back, plain, unit-few, parts-few, wants-few, parts-read}
 use Rattle.expansion.proofs.ledger.entry.Statement.{statement}
 use Rattle.expansion.proofs.ledger.entry.Tie as tie
 
-mul-t4 : tie.Need-mul-t4
-mul-t4 c = search needs
+cast-t4 : tie.Need-cast-t4
+cast-t4 c = record { fits = omega (arith, unit-few) }
 
 cast-t5 : tie.Need-cast-t5
 cast-t5 c = search needs
 
-shl-t7 : tie.Need-shl-t7
-shl-t7 c = search needs
+mul-t6 : tie.Need-mul-t6
+mul-t6 c = search needs
+
+cast-t7 : tie.Need-cast-t7
+cast-t7 c = search needs
+
+shl-t9 : tie.Need-shl-t9
+shl-t9 c = search needs
 
 -- the parts wanted, and the error
 module _ (c : tie.Start) where
@@ -45,19 +51,19 @@ module _ (c : tie.Start) where
   few : mag (subℕ (a * unit) (w * 2 ^ k)) < 2 ^ 63
   few = omega (arith, mag-sub (a * unit) (w * 2 ^ k), parts-few a unit (c .pre .1 .0) (omega arith), wants)
 
-mul-t8 : tie.Need-mul-t8
-mul-t8 c = rw (shifted (k c) (c .pre .0)) (record { fits = omega (arith, wants c) })
+mul-t10 : tie.Need-mul-t10
+mul-t10 c = rw (shifted (k c) (c .pre .0)) (record { fits = omega (arith, wants c) })
 
-cast-t9 : tie.Need-cast-t9
-cast-t9 c = rw (shifted (k c) (c .pre .0)) (record { sfits = omega (arith, wants c) })
+cast-t11 : tie.Need-cast-t11
+cast-t11 c = rw (shifted (k c) (c .pre .0)) (record { sfits = omega (arith, wants c) })
 
-sub-t10 : tie.Need-sub-t10
+sub-t12 : tie.Need-sub-t12
 unfolding unit
-sub-t10 c = rw (error c) (record { sfits = few c })
+sub-t12 c = rw (error c) (record { sfits = few c })
 
 returns : tie.Need-returns
 unfolding unit entryOf
 returns c = rw (error c, back (subℕ (a c * unit) (w c * 2 ^ k c)) (few c))
 
 pub entry-spec : {M : Type 1} → statement M
-entry-spec = tie.close (tie.spec mul-t4 cast-t5 shl-t7 mul-t8 cast-t9 sub-t10 returns)
+entry-spec = tie.close (tie.spec cast-t4 cast-t5 mul-t6 cast-t7 shl-t9 mul-t10 cast-t11 sub-t12 returns)

@@ -8,18 +8,21 @@ use Rattle.expansion.proofs.Signed.{back, small-read, few-less, parts-r
 use Rattle.expansion.proofs.ledger.less.Statement.{statement}
 use Rattle.expansion.proofs.ledger.less.Tie as tie
 
-sub-t3 : tie.Need-sub-t3
-sub-t3 c = search needs
+cast-t3 : tie.Need-cast-t3
+cast-t3 c = search needs
 
-mul-t4 : tie.Need-mul-t4
-mul-t4 c = search needs
+sub-t4 : tie.Need-sub-t4
+sub-t4 c = search needs
 
-cast-t5 : tie.Need-cast-t5
-cast-t5 c = search needs
+mul-t5 : tie.Need-mul-t5
+mul-t5 c = search needs
 
-sub-t6 : tie.Need-sub-t6
+cast-t6 : tie.Need-cast-t6
+cast-t6 c = search needs
+
+sub-t7 : tie.Need-sub-t7
 unfolding unit
-sub-t6 c =
+sub-t7 c =
     let s = c .before .before .before in
     let e = s .args .b .error in
     let h = s .pre .1 .1 in
@@ -35,4 +38,4 @@ returns c =
     rw (small-read e h, parts-read n (s .pre .0), back (e -ℤ pos (n * unit)) (few-less e n h (s .pre .0)))
 
 pub less-spec : {M : Type 1} → statement M
-less-spec = tie.close (tie.spec sub-t3 mul-t4 cast-t5 sub-t6 returns)
+less-spec = tie.close (tie.spec cast-t3 sub-t4 mul-t5 cast-t6 sub-t7 returns)

@@ -8,18 +8,21 @@ use Rattle.expansion.proofs.Signed.{back, small-read, few-more, parts-r
 use Rattle.expansion.proofs.ledger.more.Statement.{statement}
 use Rattle.expansion.proofs.ledger.more.Tie as tie
 
-add-t3 : tie.Need-add-t3
-add-t3 c = search needs
+cast-t3 : tie.Need-cast-t3
+cast-t3 c = search needs
 
-mul-t4 : tie.Need-mul-t4
-mul-t4 c = search needs
+add-t4 : tie.Need-add-t4
+add-t4 c = search needs
 
-cast-t5 : tie.Need-cast-t5
-cast-t5 c = search needs
+mul-t5 : tie.Need-mul-t5
+mul-t5 c = search needs
 
-add-t6 : tie.Need-add-t6
+cast-t6 : tie.Need-cast-t6
+cast-t6 c = search needs
+
+add-t7 : tie.Need-add-t7
 unfolding unit
-add-t6 c =
+add-t7 c =
     let s = c .before .before .before in
     let e = s .args .b .error in
     let h = s .pre .1 .1 in
@@ -35,4 +38,4 @@ returns c =
     rw (small-read e h, parts-read n (s .pre .0), back (e +ℤ pos (n * unit)) (few-more e n h (s .pre .0)))
 
 pub more-spec : {M : Type 1} → statement M
-more-spec = tie.close (tie.spec add-t3 mul-t4 cast-t5 add-t6 returns)
+more-spec = tie.close (tie.spec cast-t3 add-t4 mul-t5 cast-t6 add-t7 returns)

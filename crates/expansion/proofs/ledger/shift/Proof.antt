@@ -66,7 +66,7 @@ stayed =
     (stay-slice (0 ∷ []) tt (plain (λ _. Entry)), (stay-none (λ _. usize) yes, (stay-none (λ _. usize) yes, (stay-none (λ _. u64) yes, tt))))
 
 -- where an entry lies fits a word
-near : (i n : ℕ) → i < n → Room Entry n → Fits w64 (i * 24)
+near : (i n : ℕ) → i < n → Room Entry n → Fits w64 (i * 16)
 near i n l room = record { fits = omega (arith, l, room .1) }
 
 module _ {M : Type 1} (𝓤 : URA M) (H : Heap 𝓤) (A : Atoms 𝓤) (W : Given 𝓤 H A) (mem : Memory → SProp 𝓤) (run : Routine → Fun 𝓤)

@@ -1,17 +1,19 @@
 -- `run::advance` meets its contract: the move that comes next can be made, and after it the state stands with its rule.
 use Prim.Native.Nat.{ℕ, _-_, _≤_, _<_}
 use mathlib.Core.List.{_∷_}
-use mathlib.Core.Path.{_≡_, refl, _∙_}
+use mathlib.Core.Path.{_≡_, refl, sym, _∙_}
 use native.Mathlib.Omega.{arith}
 use lib.ListN.{length}
 use borrow.Author.Needs.{needs}
 use Rattle.expansion.specs.Answer.{unit}
 use Rattle.expansion.specs.Steps.{frame, newRule, after}
-use Rattle.expansion.specs.Kept.{Small, errorAt}
+use Rattle.expansion.specs.Kept.{Small, errorAt, nextFor}
+use Rattle.expansion.specs.declared.run.Move.{Move}
+use Rattle.expansion.specs.declared.run.Next.the-variants.{Go}
 use Rattle.expansion.proofs.Powers.{pow-few, shifted}
-use Rattle.expansion.proofs.Ready.{Ready, movedBy}
+use Rattle.expansion.proofs.Ready.{Ready, movedBy, next-fewer}
 use Rattle.expansion.proofs.Surveys.{surveyed-sized, surveyed-next}
-use Rattle.expansion.proofs.Standing.{small, ready-go, adds-rule, stands-moved}
+use Rattle.expansion.proofs.Standing.{small, ready-go, index-falls, adds-rule, stands-moved}
 use Rattle.expansion.proofs.run.advance.Statement.{statement}
 use Rattle.expansion.proofs.run.advance.Tie as tie
 
@@ -39,7 +41,7 @@ hand-over-requires c κs =
     let R = ready s in
     let v = s .pre .0 .0 in
     let S = s .pre .0 .1 .0 in (
-      (v .few-bits, (R .index, (omega (arith, R .giver, v .few), omega (arith, R .receiver, v .few)))),
+      (v .few-bits, (omega (arith, R .index), (omega (arith, R .giver, v .few), omega (arith, R .receiver, v .few)))),
       ((S .long .0, (S .long .1, s .pre .0 .1 .1)), R .found),
     )
 
@@ -79,13 +81,10 @@ survey-of-requires c κs =
     ((v .someone, v .few), moved-small c)
 
 sub-t20 : tie.Need-sub-t20
-sub-t20 c = ready (begun (c .before .before .before)) .index
+sub-t20 c = omega (arith, ready (begun (c .before .before .before)) .index)
 
 add-t22 : tie.Need-add-t22
 add-t22 c = omega (arith, begun (c .before .before .before .before) .pre .1 .0)
-
-sub-decide : tie.Need-sub-decide
-sub-decide c = omega (arith, begun (c .before .before .before .before) .pre .0 .0 .some-bits)
 
 decide-requires : tie.Need-decide-requires
 decide-requires c κs =
@@ -93,7 +92,7 @@ decide-requires c κs =
     let M = w .before in
     let s = begun (M .before) in
     let v = s .pre .0 .0 in (
-      (v .few-bits, (v .tolerable, omega (arith, v .few-bits))),
+      (v .few-bits, (v .tolerable, low s)),
       surveyed-sized (M .moved .result) (length (s .args .weights .now)) (w .survey-of .result) (w .survey-of .ensures) (v .someone) (moved-small M),
     )
 
@@ -110,13 +109,18 @@ returns c =
     let s = begun (M .before) in
     let a = s .args in
     let S = w .survey-of .ensures in
+    let next = surveyed-next (M .moved .result) (length (a .weights .now)) (w .survey-of .result) S (a .k) (a .tolerance) (a .k - 1) in
+    let falls : (x : Move) → nextFor (w .survey-of .result .give) (w .survey-of .result .take) (a .k) (a .tolerance) (a .k - 1) ≡ Go x → x .index ≤ a .m .index =
+    λ x h.
+    index-falls (a .k) (a .tolerance) (a .weights .now) (s .pre .0 .0) (a .holder .now) (a .run .now) (a .state) (s .pre .0 .1 .0) (a .m) (s .pre .1 .1)
+    (M .moved .result) (moved-at M) x (sym next ∙ h) in
     let g = M .before .before .before .before .before .before in
     let H = g .hand-over .ensures in (
       stands-moved (a .k) (a .tolerance) (a .weights .now) (s .pre .0 .0) (a .holder .now) (a .run .now) (a .state) (s .pre .0 .1 .0) (a .m) (s .pre .1 .1)
           (H .at) (H .found) (g .hand-over .last .0) (g .hand-over .last .1 .0) (H .given)
           (M .moved .result) (moved-at M)
           (w .survey-of .result .imbalance) (S .imbalance)
-          (c .decide .result) (c .decide .ensures ∙ surveyed-next (M .moved .result) (length (a .weights .now)) (w .survey-of .result) S (a .k) (a .tolerance) (a .k - 1))
+          (c .decide .result) (c .decide .ensures ∙ next-fewer (w .survey-of .result .give) (w .survey-of .result .take) (a .k) (a .tolerance) (a .k - 1) (a .m .index) (ready s .index) falls ∙ next)
           (record { len = a .k - a .m .index; value = g .hand-over .result; backend = a .m .receiver }),
       (
         refl,
@@ -135,7 +139,6 @@ advance-spec =
     survey-of-requires
     sub-t20
     add-t22
-    sub-decide
     decide-requires
     same-length
     same-length-2

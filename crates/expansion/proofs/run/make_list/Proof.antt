@@ -9,9 +9,10 @@ use Rattle.expansion.specs.Steps.{frame, after}
 use Rattle.expansion.specs.Answer.{unit}
 use Rattle.expansion.specs.Kept.{Stands, Adds, Listed}
 use Rattle.expansion.specs.declared.list.RuleList.{RuleList}
+use Rattle.expansion.specs.declared.run.Next.the-variants.{Go}
 use Rattle.expansion.proofs.Powers.{pow-few, shifted}
 use Rattle.expansion.proofs.Checks.{first-lt}
-use Rattle.expansion.proofs.Standing.{listed-one, listed-more, made-stopped, made-spent}
+use Rattle.expansion.proofs.Standing.{listed-one, listed-more, made-ended, in-budget}
 use Rattle.expansion.proofs.run.make_list.Statement.{statement}
 use Rattle.expansion.proofs.run.make_list.Tie as tie
 
@@ -68,27 +69,33 @@ loop-holds c =
       ap (λ (l : RuleList). length (l .stairs)) is ∙ length-replicate 32 (b .result .imbalance),
     )
 
+in-budget-requires : tie.Need-in-budget-requires Inv-loop μ-loop
+in-budget-requires c κs = search needs
+
 enum-known-next : tie.Need-enum-known-next Inv-loop μ-loop
 enum-known-next c = search needs
 
 returns : tie.Need-returns Inv-loop μ-loop
 returns c =
-    let s = c .before .before .before .before .before .before .before .before .before .before in
-    let l = c .before .before .before .loop in
-    made-stopped (s .args .k) (s .args .tolerance) (s .args .weights .now) (s .pre .0) (l .holder) (l .run) (l .state) (l .inv .0)
-    (l .list) (l .inv .1) (l .inv .2) (s .args .budget) (l .inv .3) (c .before .next .given .0 .0) (c .before .next .given .1)
+    let b = c .before .before .before in
+    let l = b .before .loop in
+    let s = b .before .before .before .before .before .before .before .before in
+    made-ended (s .args .k) (s .args .tolerance) (s .args .weights .now) (s .pre .0) (l .holder) (l .run) (l .state) (l .inv .0)
+    (l .list) (l .inv .1) (l .inv .2) (s .args .budget) (l .inv .3) (c .before .next .given .0 .0) (sym (b .in-budget .ensures) ∙ c .before .next .given .1)
 
 enum-known-next-2 : tie.Need-enum-known-next-2 Inv-loop μ-loop
 enum-known-next-2 c = search needs
 
-returns-2 : tie.Need-returns-2 Inv-loop μ-loop
-returns-2 c =
-    let s = c .before .before .before .before .before .before .before .before .before .before .before in
-    let l = c .before .before .before .before .loop in
-    let spent : l .list .count ≡ s .args .budget = omega (arith, l .inv .3) in
-    made-spent (s .args .k) (s .args .tolerance) (s .args .weights .now) (s .pre .0) (l .holder) (l .run) (l .state) (l .inv .0)
-    (l .list) (l .inv .1) (l .inv .2) (s .args .budget) spent
-    (c .before .before .next2 .given .0 .0) (c .before .before .next2 .given .1)
+-- the move that was let through
+let-through : (c : tie.After-known-told2 Inv-loop μ-loop)
+    → let l = c .before .before .before .before .loop in
+    (l .state .next ≡ Go (c .before .next2 .given .0 .0))
+    × (l .list .count < c .before .before .before .before .before .before .before .before .before .before .before .args .budget)
+let-through c =
+    let b = c .before .before .before in
+    let l = b .before .loop in
+    let s = b .before .before .before .before .before .before .before .before in
+    in-budget (l .state .next) (l .list .count) (s .args .budget) (c .before .next2 .given .0 .0) (sym (b .in-budget .ensures) ∙ c .before .next2 .given .1)
 
 slice-aggregate-advance : tie.Need-slice-aggregate-advance Inv-loop μ-loop
 slice-aggregate-advance c = sym (c .before .before .before .before .before .loop .inv .0 .long .0)
@@ -104,18 +111,19 @@ advance-requires : tie.Need-advance-requires Inv-loop μ-loop
 advance-requires c κs =
     let o = c .before .before .before .before .before .before .before .before .before .before .before .before in
     let s = o .before .before in
-    let l = c .before .before .before .before .before .before .before .loop in (
+    let l = c .before .before .before .before .before .before .before .loop in
+    let t = let-through (c .before .before .before) in (
       (s .pre .0, (l .inv .0, o .all-places .ensures)),
-      (omega (arith, l .inv .2, l .inv .3), c .before .before .before .before .before .next2 .given .1),
+      (omega (arith, l .inv .2, t .1, s .pre .1 .1), t .0),
     )
 
 -- there is room for a rule more
 room : (c : tie.After-rule Inv-loop μ-loop)
     → c .before .before .before .before .before .before .before .before .before .before .before .loop .list .count < 32
 room c =
-    let i = c .before .before .before .before .before .before .before in
-    let s = i .before .before .before .before .before .before .before .before .before .before .before in
-    omega (arith, i .if1 .left, s .pre .1 .1)
+    let t = c .before .before .before .before .before .before .before in
+    let s = t .before .before .before .before .before .before .before .before .before .before .before in
+    omega (arith, let-through t .1, s .pre .1 .1)
 
 mul-rule : tie.Need-mul-rule Inv-loop μ-loop
 mul-rule c = omega arith
@@ -133,7 +141,7 @@ add-list : tie.Need-add-list Inv-loop μ-loop
 add-list c = omega arith
 
 loop-less : tie.Need-loop-less Inv-loop μ-loop
-loop-less c = omega arith
+loop-less c = omega (arith, let-through (c .before .before .before .before .before .before .before) .1)
 
 loop-again : tie.Need-loop-again Inv-loop μ-loop
 loop-again c =
@@ -147,11 +155,11 @@ loop-again c =
     let last : r .count - 1 ≡ l .list .count = omega (arith, e .1 .0, l .inv .2) in (
       e .0,
       listed-more (a .k) (a .tolerance) (a .weights .now) (s .pre .0) (l .list) (r .rule) (r .imbalance) (l .inv .1)
-          (omega arith) (l .inv .4) (l .inv .5)
+          (room c) (l .inv .4) (l .inv .5)
           (subst (λ (n : ℕ). Adds (a .k) (a .tolerance) (a .weights .now) n (r .rule)) (l .inv .2) (e .1 .1))
           (e .0 .stair ∙ ap (λ (n : ℕ). imbalance F (after F n)) last),
       e .1 .0 ∙ ap (λ (n : ℕ). n + 1) (l .inv .2),
-      omega arith,
+      omega (arith, let-through (w .before .before .before .before) .1),
       simp length-set (l .inv .4),
       simp length-set (l .inv .5),
     )
@@ -170,10 +178,10 @@ make-list-spec =
     begin-requires
     of-one-requires
     loop-holds
+    in-budget-requires
     enum-known-next
     returns
     enum-known-next-2
-    returns-2
     slice-aggregate-advance
     slice-aggregate-advance-2
     slice-aggregate-advance-3

@@ -1,23 +1,24 @@
--- `term::best_term`: the index so far is the last place of the greatest gain passed.
-use Prim.Native.Nat.{ℕ, suc, _+_, _-_, _*_, _^_, _≤_}
+-- `term::best_term`: of the terms passed, from the largest down, the index is the last place of the greatest gain.
+use Prim.Native.Nat.{ℕ, _+_, _-_, _*_, _^_, _≤_, _<_}
 use mathlib.Core.Logic.{⊎-elim}
 use mathlib.Core.Path.{_≡_, sym, ap, _∙_}
-use native.Mathlib.Numerals.{add-one}
+use native.Mathlib.Nat.{mul-le-mul-right, le-of-lt}
 use native.Mathlib.Omega.{arith}
-use lib.Dec.{leb}
+use lib.Dec.{ltb}
 use lib.IntN.{ℤ, pos}
-use lib.Signed.{leZ}
+use lib.Pow.{pow-mono}
+use lib.Signed.{ltZ}
 use mir.Facts.{toZ-ofZ}
 use mir.Syntax.{w64}
 use mir.Val.{toZ, ofZ}
-use borrow.Author.Tests.{leb-true, leb-false}
+use borrow.Author.Needs.{needs}
+use borrow.Author.Tests.{ltb-true, ltb-false}
 use Rattle.expansion.specs.Answer.{unit}
-use Rattle.expansion.specs.Sums.{lastmax}
 use Rattle.expansion.specs.Steps.{reduction}
 use Rattle.expansion.specs.Kept.{over, Best}
 use Rattle.expansion.proofs.Powers.{pow-few, shifted}
 use Rattle.expansion.proofs.Reduction.{reduction-term}
-use Rattle.expansion.proofs.Searches.{lastTo, lastPeak, lastPeak-none, lastPeak-is, lastPeak-most, lastPeak-higher, lastPeak-kept}
+use Rattle.expansion.proofs.Searches.{Led, led-start, led-higher, led-kept, led-end}
 use Rattle.expansion.proofs.Signed.{back, plain, parts-few, term-read}
 use Rattle.expansion.proofs.term.best_term.Statement.{statement}
 use Rattle.expansion.proofs.term.best_term.Tie as tie
@@ -27,76 +28,90 @@ abbrev gain : ℕ → ℕ → ℕ → ℕ
 gain u o j = reduction (over (toZ w64 u)) (over (toZ w64 o)) (2 ^ j * unit)
 
 abbrev Inv-loop : tie.InvT-loop
-Inv-loop u o cap index₀ best₀ i₀ index best i =
-    (i ≤ cap + 1)
-    × ((index ≡ lastTo (gain u o) i)
-    × (best ≡ lastPeak (gain u o) i))
+Inv-loop u o cap index₀ best₀ left₀ index best left = (left ≤ cap + 1) × Led (gain u o) cap left index best
 
 abbrev μ-loop : tie.MeasureT-loop
-μ-loop u o cap index₀ best₀ i₀ index best i = cap + 1 - i
+μ-loop u o cap index₀ best₀ left₀ index best left = left
+
+add-left : tie.Need-add-left Inv-loop μ-loop
+add-left c = omega arith
 
 loop-holds : tie.Need-loop-holds Inv-loop μ-loop
 loop-holds c =
-    let p = lastPeak-none (gain (ofZ w64 (c .args .u)) (ofZ w64 (c .args .o))) in
-    (omega arith, (sym (p .0), sym (p .1)))
+    (omega arith, led-start (gain (ofZ w64 (c .args .u)) (ofZ w64 (c .args .o))) (c .args .cap) _ (omega arith))
 
-shl-reduction : tie.Need-shl-reduction Inv-loop μ-loop
-shl-reduction c = omega arith
+sub-left : tie.Need-sub-left Inv-loop μ-loop
+sub-left c = omega arith
 
-mul-reduction : tie.Need-mul-reduction Inv-loop μ-loop
-mul-reduction c =
-    let i = c .before .loop .i in
+shl-t : tie.Need-shl-t Inv-loop μ-loop
+shl-t c = omega arith
+
+mul-t : tie.Need-mul-t Inv-loop μ-loop
+mul-t c =
+    let i = c .before .loop .left - 1 in
     rw (shifted i (omega arith)) (record { fits = omega (arith, pow-few i (omega arith)) })
 
-cast-reduction : tie.Need-cast-reduction Inv-loop μ-loop
-cast-reduction c =
-    let i = c .before .loop .i in
+cast-t : tie.Need-cast-t Inv-loop μ-loop
+cast-t c =
+    let i = c .before .loop .left - 1 in
     rw (shifted i (omega arith)) (record { sfits = omega (arith, pow-few i (omega arith)) })
 
 reduction-requires : tie.Need-reduction-requires Inv-loop μ-loop
 unfolding unit
 reduction-requires c κs =
-    let s = c .before .before in
-    let i = c .before .loop .i in
+    let i = c .before .loop .left - 1 in
     let t = term-read i (omega arith) in (
-      (rw (toZ-ofZ (s .fits .u)) (s .pre .0), (rw (toZ-ofZ (s .fits .o)) (s .pre .1 .0), rw t)),
+      (search needs, (search needs, rw t)),
       rw t (record { small = omega (arith, parts-few (2 ^ i) unit (pow-few i (omega arith)) (omega arith)) }),
     )
 
-add-i : tie.Need-add-i Inv-loop μ-loop
-add-i c = omega arith
+is-enough-requires : tie.Need-is-enough-requires Inv-loop μ-loop
+unfolding unit
+is-enough-requires c κs =
+    let i = c .before .before .before .loop .left - 1 in
+    (search needs, (search needs, rw (term-read i (omega arith))))
 
 loop-less : tie.Need-loop-less Inv-loop μ-loop
 loop-less c = omega arith
 
--- the gain of each term, small, and this turn's as the machine has it
+-- the gain of each term, small, and what the search comes to
 module _ (s : tie.Start Inv-loop μ-loop) where
   abbrev each : ℕ → ℕ
   each = gain (ofZ w64 (s .args .u)) (ofZ w64 (s .args .o))
 
-  few : (j : ℕ) → j ≤ 12 → each j ≤ 2 ^ 41
+  few : (j : ℕ) → j ≤ s .args .cap → each j ≤ 2 ^ 41
   few j l =
       omega (
         arith,
         reduction-term (over (toZ w64 (ofZ w64 (s .args .u)))) (over (toZ w64 (ofZ w64 (s .args .o)))) (2 ^ j * unit),
-        parts-few (2 ^ j) unit (pow-few j l) (omega arith),
+        parts-few (2 ^ j) unit (pow-few j (omega arith)) (omega arith),
       )
 
-  peak-few : (i : ℕ) → i ≤ 13 → lastPeak each i ≤ 2 ^ 41
-  peak-few i l = lastPeak-most each i (2 ^ 41) (λ j m. few j (omega arith))
+  ends : (left index best : ℕ) → Led each (s .args .cap) left index best → ((j : ℕ) → j < left → each j ≤ best)
+      → Best (over (s .args .u)) (over (s .args .o)) (s .args .cap) (record { index = index; reduction = toZ w64 best })
+  ends left index best L h =
+      let p = led-end each (s .args .cap) left index best L h in
+      let b : Best (over (toZ w64 (ofZ w64 (s .args .u)))) (over (toZ w64 (ofZ w64 (s .args .o)))) (s .args .cap)
+      (record { index = index; reduction = toZ w64 best }) =
+      record { index = p .0; gain = plain best (omega (arith, L .low, few index (L .inside))) ∙ ap pos (p .1) } in
+      rw (toZ-ofZ (s .fits .u), toZ-ofZ (s .fits .o)) at b
 
+-- this turn's gain as the machine has it
 module _ (c : tie.After-reduction Inv-loop μ-loop) where
   abbrev s : tie.Start Inv-loop μ-loop
   s = c .before .before .before
 
   abbrev i : ℕ
-  i = c .before .before .loop .i
+  i = c .before .before .loop .left - 1
 
   abbrev best : ℕ
   best = c .before .before .loop .best
 
   abbrev r : ℤ
   r = c .reduction .result
+
+  led : Led (each s) (s .args .cap) (c .before .before .loop .left) (c .before .before .loop .index) best
+  led = c .before .before .loop .inv .1
 
   is-each : r ≡ pos (each s i)
   unfolding unit
@@ -105,43 +120,48 @@ module _ (c : tie.After-reduction Inv-loop μ-loop) where
       ∙ ap (λ (v : ℤ). pos (reduction (over (toZ w64 (ofZ w64 (s .args .u)))) (over (toZ w64 (ofZ w64 (s .args .o)))) (over v)))
       (term-read i (omega arith))
 
-  test : leZ (toZ w64 best) (toZ w64 (ofZ w64 r)) ≡ leb (lastPeak (each s) i) (each s i)
+  test : ltZ (toZ w64 best) (toZ w64 (ofZ w64 r)) ≡ ltb best (each s i)
   test =
-      ap (λ (v : ℤ). leZ v (toZ w64 (ofZ w64 r))) (plain best (omega (arith, peak-few s i (omega arith))))
-      ∙ ap (leZ (pos best)) (back r (c .reduction .ok) ∙ is-each)
-      ∙ ap (λ (n : ℕ). leb n (each s i)) (c .before .before .loop .inv .1 .1)
+      ap (λ (v : ℤ). ltZ v (toZ w64 (ofZ w64 r))) (plain best (omega (arith, led .low, few s (c .before .before .loop .index) (led .inside))))
+      ∙ ap (ltZ (pos best)) (back r (c .reduction .ok) ∙ is-each)
+
+led-on : (c : tie.Joined1 Inv-loop μ-loop) → Led (each (s (c .before))) (s (c .before) .args .cap) (i (c .before)) (c .if1 .index) (c .if1 .best)
+led-on c =
+    let q = c .before in
+    let l = q .before .before .loop in
+    let f = each (s q) in
+    let cap = s q .args .cap in
+    ⊎-elim
+    (λ w. rw (w .1, w .2 ∙ ap (ofZ w64) (is-each q)) (led-higher f cap (l .left) (l .index) (l .best) (led q) (i q) (omega arith) (omega arith) (ltb-true (l .best) (f (i q)) (sym (test q) ∙ w .0 .taken))))
+    (λ w. rw (w .1, w .2) (led-kept f cap (l .left) (l .index) (l .best) (led q) (i q) (omega arith) (ltb-false (l .best) (f (i q)) (sym (test q) ∙ w .0 .left))))
+    (c .if1 .came)
 
 loop-again : tie.Need-loop-again Inv-loop μ-loop
-loop-again c =
-    let q = c .before in
-    let inv = q .before .before .loop .inv in (
-      omega arith,
-      ⊎-elim
-          (λ w.
-          let p = lastPeak-higher (each (s q)) (i q) (leb-true (lastPeak (each (s q)) (i q)) (each (s q) (i q)) (sym (test q) ∙ w .0 .taken)) in
-          rw (add-one (i q)) (w .1 ∙ sym (p .0), w .2 ∙ ap (ofZ w64) (is-each q) ∙ sym (p .1)))
-          (λ w.
-          let p = lastPeak-kept (each (s q)) (i q) (leb-false (lastPeak (each (s q)) (i q)) (each (s q) (i q)) (sym (test q) ∙ w .0 .left)) in
-          rw (add-one (i q)) (w .1 ∙ inv .1 .0 ∙ sym (p .0), w .2 ∙ inv .1 .1 ∙ sym (p .1)))
-          (c .if1 .came),
-    )
+loop-again c = (omega arith, led-on (c .before .before))
 
 returns : tie.Need-returns Inv-loop μ-loop
 returns c =
-    let z = c .before .before in
-    let cap = z .args .cap in
-    let inv = c .before .loop .inv in
-    let e : c .before .loop .i ≡ suc cap = omega arith in
-    let p = lastPeak-is (each z) cap in
-    let at : c .before .loop .index ≡ lastmax (each z) cap = inv .1 .0 ∙ ap (lastTo (each z)) e ∙ p .0 in
-    let b : Best (over (toZ w64 (ofZ w64 (z .args .u)))) (over (toZ w64 (ofZ w64 (z .args .o)))) cap
-    (record { index = c .before .loop .index; reduction = toZ w64 (c .before .loop .best) }) =
-    record {
-      index = at;
-      gain = plain (c .before .loop .best) (omega (arith, peak-few z (c .before .loop .i) (omega arith)))
-          ∙ ap pos (inv .1 .1 ∙ ap (lastPeak (each z)) e ∙ p .1 ∙ ap (each z) (sym at));
-    } in
-    rw (toZ-ofZ (z .fits .u), toZ-ofZ (z .fits .o)) at b
+    let l = c .before .loop in
+    ends (c .before .before) (l .left) (l .index) (l .best) (l .inv .1) (λ j m. absurd (omega arith))
+
+-- a term that is enough: none below it gains more
+returns-2 : tie.Need-returns-2 Inv-loop μ-loop
+unfolding unit
+returns-2 c =
+    let b = c .before .before in
+    let q = b .before in
+    let L = led-on b in
+    let t = term-read (i q) (omega arith) in
+    let gains : ℤ → ℕ = λ v. reduction (over (toZ w64 (ofZ w64 (s q .args .u)))) (over (toZ w64 (ofZ w64 (s q .args .o)))) (over v) in
+    ends (s q) (i q) (b .if1 .index) (b .if1 .best) L
+    (λ j m.
+    let less : 2 ^ j * unit ≤ 2 ^ (i q) * unit = mul-le-mul-right unit (pow-mono (le-of-lt m)) in
+    omega (
+      arith,
+      c .before .is-enough .ensures (c .if2 .taken) (2 ^ j * unit) (omega (arith, ap over t)),
+      ap gains t,
+      L .passed (i q) (omega arith) (omega arith),
+    ))
 
 pub best-term-spec : {M : Type 1} → statement M
 best-term-spec =
@@ -149,12 +169,15 @@ best-term-spec =
     (tie.spec
     Inv-loop
     μ-loop
+    add-left
     loop-holds
-    shl-reduction
-    mul-reduction
-    cast-reduction
+    sub-left
+    shl-t
+    mul-t
+    cast-t
     reduction-requires
-    add-i
+    is-enough-requires
     loop-less
     loop-again
-    returns)
+    returns
+    returns-2)
