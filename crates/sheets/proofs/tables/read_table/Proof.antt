@@ -44,7 +44,7 @@ mul-copy : tie.Need-mul-copy
 mul-copy c = search needs
 
 copy-requires : tie.Need-copy-requires
-copy-requires c κs = (has (c .before .before .before) .limited .room, c .before .before .if1 .left)
+copy-requires c κs = (omega (arith, has (c .before .before .before) .limited .room), omega arith)
 
 returns-2 : tie.Need-returns-2
 unfolding readAnswer readIn
