@@ -21,6 +21,7 @@ use Rattle.packing.specs.declared.call.Packing.{Packing}
 use Rattle.packing.specs.declared.call.Packing.the-variants.{Made, Refused, ShortFigures, ShortTable}
 use Rattle.sheets.specs.PercentageSheet.{Sheet, readSheet}
 use Rattle.sheets.specs.Calls.{refusedAt, servicesIn, tableFor, planOf, planAnswer, fromSheet, planFilled, figuresFor, cellsFor}
+use Rattle.sheets.specs.FromPacking.{planFrom}
 use Rattle.sheets.specs.Kept.{sizesOf, rowOf, SheetKept}
 use Rattle.sheets.specs.declared.percentage_sheet.Head.{Head}
 use Rattle.sheets.specs.declared.answer.Planned.{Planned}
@@ -93,14 +94,7 @@ all-pass S l =
       le-leb (length (S .volumes)) (S .capacity) (l .room),
     )
 
--- the one call's answer, from the packing's
-abbrev pub planFrom : ℕ → ℕ → Packing → Planned
-planFrom k n (Made p) = planned-variants.Made (record { k = k; services = n; rules = p .rules; total = p .total })
-planFrom k n (Refused why) = planned-variants.Refused (refusedAt why 0)
-planFrom k n ShortFigures = planned-variants.ShortFigures
-planFrom k n ShortTable = planned-variants.ShortTable
-
--- a choice by two tests, carried through
+-- a choice by two tests, carried through to the one call's answer
 plan-picks :
     (k n : ℕ) (t u : Bool) (p : Packed)
     → planFrom k n (pick t (pick u (Made p) ShortTable) ShortFigures)

@@ -9,5 +9,6 @@ pub mod Rows
 pub mod Demand
 pub mod Parts
 pub mod Kept
+pub mod FromPacking
 pub mod Cases
 pub mod Twelve

@@ -11,6 +11,7 @@ ghost use lib.ListN.{length};
 ghost use Rattle.sheets.specs.PercentageSheet.{readSheet};
 ghost use Rattle.sheets.specs.Calls as calls;
 ghost use Rattle.sheets.specs.Demand.{owed};
+ghost use Rattle.sheets.specs.FromPacking.{planFrom};
 
 // The table and the figures of a percentage sheet. `figures` takes three numbers for each service: its grant, the length
 // of its list and how the list ended (within 0, no gain 1, budget 2). `table` takes four for each line.
@@ -41,18 +42,25 @@ pub fn plan(text: &[u8], figures: &mut [usize], table: &mut [usize]) -> Planned
                 figures,
                 table,
             );
-            match packed {
-                Packing::Made(p) => Planned::Made(Plan {
-                    k,
-                    services,
-                    rules: p.rules,
-                    total: p.total,
-                }),
-                Packing::Refused(why) => Planned::Refused(Refused { why, line: 0 }),
-                Packing::ShortFigures => Planned::ShortFigures,
-                Packing::ShortTable => Planned::ShortTable,
-            }
+            plan_from(k, services, packed)
         }
+    }
+}
+
+// The packing's answer, as the one call answers it.
+fn plan_from(k: usize, services: usize, packed: Packing) -> Planned
+    ensures { λ r. ⌜ r ≡ planFrom k services packed ⌝ }
+{
+    match packed {
+        Packing::Made(p) => Planned::Made(Plan {
+            k,
+            services,
+            rules: p.rules,
+            total: p.total,
+        }),
+        Packing::Refused(why) => Planned::Refused(Refused { why, line: 0 }),
+        Packing::ShortFigures => Planned::ShortFigures,
+        Packing::ShortTable => Planned::ShortTable,
     }
 }
 

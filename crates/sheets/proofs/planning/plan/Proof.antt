@@ -8,7 +8,8 @@ use borrow.Author.Needs.{needs}
 use Rattle.sheets.specs.PercentageSheet.{readSheet}
 use Rattle.sheets.specs.Calls.{planAnswer, fromSheet, planFilled, figuresFor, cellsFor}
 use Rattle.sheets.specs.Kept.{SheetKept}
-use Rattle.sheets.proofs.Packable.{planFrom, held-figures, held-cells, plan-made, plan-buffer}
+use Rattle.sheets.specs.FromPacking.{planFrom}
+use Rattle.sheets.proofs.Packable.{held-figures, held-cells, plan-made, plan-buffer}
 use Rattle.sheets.proofs.planning.plan.Statement.{statement}
 use Rattle.sheets.proofs.planning.plan.Tie as tie
 
@@ -68,17 +69,8 @@ slice-aggregate-pack-3 c = sym (length-take-le _ _ (room-weights (c .before .bef
 pack-requires : tie.Need-pack-requires
 pack-requires c κs = search needs
 
-enum-known-packed : tie.Need-enum-known-packed
-enum-known-packed c = search needs
-
-enum-known-packed-2 : tie.Need-enum-known-packed-2
-enum-known-packed-2 c = search needs
-
-enum-told : tie.Need-enum-told
-enum-told c = search needs
-
-enum-told-2 : tie.Need-enum-told-2
-enum-told-2 c = search needs
+plan-from-requires : tie.Need-plan-from-requires
+plan-from-requires c κs = search needs
 
 returns : tie.Need-returns
 unfolding planAnswer
@@ -115,34 +107,7 @@ packed c =
     )
 
 returns-2 : tie.Need-returns-2
-returns-2 c = rw (c .before .packed .given .1) at (packed (c .before .before .before .before .before .before .before))
-
-same-length-3 : tie.Need-same-length-3
-same-length-3 c = search needs
-
-same-length-4 : tie.Need-same-length-4
-same-length-4 c = search needs
-
-returns-3 : tie.Need-returns-3
-returns-3 c = rw (c .before .packed2 .given .1) at (packed (c .before .before .before .before .before .before .before))
-
-same-length-5 : tie.Need-same-length-5
-same-length-5 c = search needs
-
-same-length-6 : tie.Need-same-length-6
-same-length-6 c = search needs
-
-returns-4 : tie.Need-returns-4
-returns-4 c = rw (c .enum-told .given .1) at (packed (c .before .before .before .before .before .before))
-
-same-length-7 : tie.Need-same-length-7
-same-length-7 c = search needs
-
-same-length-8 : tie.Need-same-length-8
-same-length-8 c = search needs
-
-returns-5 : tie.Need-returns-5
-returns-5 c = rw (c .enum-told2 .given .1) at (packed (c .before .before .before .before .before .before))
+returns-2 c = rw (c .plan-from .ensures) (packed (c .before .before .before .before .before))
 
 pub plan-spec : {M : Type 1} → statement M
 plan-spec =
@@ -161,20 +126,8 @@ plan-spec =
     array-share-prefix-weights
     slice-aggregate-pack-3
     pack-requires
-    enum-known-packed
-    enum-known-packed-2
-    enum-told
-    enum-told-2
+    plan-from-requires
     returns
     same-length
     same-length-2
-    returns-2
-    same-length-3
-    same-length-4
-    returns-3
-    same-length-5
-    same-length-6
-    returns-4
-    same-length-7
-    same-length-8
-    returns-5)
+    returns-2)
