@@ -1,6 +1,6 @@
 -- The header line's numbers one after the other, and what stands behind the line.
-use Prim.Native.Nat.{ℕ, _+_}
-use mathlib.Core.Path.{_≡_, sym, ap, _∙_}
+use Prim.Native.Nat.{ℕ}
+use mathlib.Core.Path.{_≡_, ap, _∙_}
 use mathlib.Core.List.{List, []}
 use lib.ListN.{getD, drop}
 use Rattle.numerals.specs.Text.{split}

@@ -1,5 +1,5 @@
 -- The parts of a text one after the other: the first, and what stands behind it.
-use Prim.Native.Nat.{ℕ, zero, suc, _+_, _-_, min, _≤_, _<_}
+use Prim.Native.Nat.{ℕ, zero, suc, _+_, min, _≤_}
 use native.Mathlib.Nat.{zero-add}
 use native.Mathlib.Omega.{arith}
 use mathlib.Core.Path.{_≡_, refl, sym, ap, _∙_}
@@ -8,7 +8,7 @@ use lib.ListN.{length, getD, take, drop, length-drop, drop-of-length-le}
 use lib.Seq.{slice, take-all, take-length, drop-drop, drop-length}
 use Rattle.numerals.specs.Text.{split, indexOf}
 use Rattle.numerals.proofs.Choice.{by-less}
-use Rattle.numerals.proofs.Fields.{index-le, free-before, free-whole, cut-list}
+use Rattle.numerals.proofs.Fields.{free-before, free-whole, cut-list}
 use Rattle.vectors.specs.Parts.{behind, part}
 
 -- a text without the separator is its only part

@@ -6,7 +6,7 @@ use Rattle.numerals.specs.Text.{split, indexOf}
 use Rattle.vectors.specs.Numbers.{numeral}
 use Rattle.vectors.specs.declared.header.Header.{Header}
 
--- the number in the field of the header line that has n fields before it, or 0
+-- the number in the field of the header line that has n fields before it; what the line lacks is 0
 unfoldable pub headerNumber : ℕ → List ℕ → ℕ
 headerNumber n s = numeral (getD (split 32 (getD (split 10 s) 0 [])) n [])
 

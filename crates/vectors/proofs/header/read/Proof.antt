@@ -1,8 +1,7 @@
 -- `header::read` meets its contract: each walk ends where the next field starts.
-use mathlib.Core.Path.{_≡_}
 use borrow.Author.Needs.{needs}
-use Rattle.vectors.specs.Header.{headerNumber, header}
-use Rattle.vectors.proofs.Parts.{Walked, walked-none, walked-next}
+use Rattle.vectors.specs.Header.{header}
+use Rattle.vectors.proofs.Parts.{walked-none, walked-next}
 use Rattle.vectors.proofs.HeaderLine.{header-number}
 use Rattle.vectors.proofs.header.read.Statement.{statement}
 use Rattle.vectors.proofs.header.read.Tie as tie
@@ -37,7 +36,9 @@ number-requires-4 c κs = search needs
 returns : tie.Need-returns
 unfolding header
 returns c =
-    let n1 = c .before .before .before in
+    let n3 = c .before in
+    let n2 = n3 .before in
+    let n1 = n2 .before in
     let a4 = n1 .before in
     let a3 = a4 .before in
     let a2 = a3 .before in
@@ -45,14 +46,14 @@ returns c =
     let p = a1 .before in
     let s = p .before .before .args .s .now in
     let line = p .part .result .now in
-    let w1 : Walked 32 line 1 (a1 .after .result) = walked-next 32 line 0 0 (a1 .after .result) (walked-none 32 line) (a1 .after .ensures) in
-    let w2 : Walked 32 line 2 (a2 .after2 .result) = walked-next 32 line 1 (a1 .after .result) (a2 .after2 .result) w1 (a2 .after2 .ensures) in
-    let w3 : Walked 32 line 3 (a3 .after3 .result) = walked-next 32 line 2 (a2 .after2 .result) (a3 .after3 .result) w2 (a3 .after3 .ensures) in
-    let w4 : Walked 32 line 4 (a4 .after4 .result) = walked-next 32 line 3 (a3 .after3 .result) (a4 .after4 .result) w3 (a4 .after4 .ensures) in
-    let e1 : n1 .number .result ≡ headerNumber 1 s = header-number s line 1 (a1 .after .result) (n1 .number .result) (p .part .ensures) w1 (n1 .number .ensures) in
-    let e2 : c .before .before .number2 .result ≡ headerNumber 2 s = header-number s line 2 (a2 .after2 .result) (c .before .before .number2 .result) (p .part .ensures) w2 (c .before .before .number2 .ensures) in
-    let e3 : c .before .number3 .result ≡ headerNumber 3 s = header-number s line 3 (a3 .after3 .result) (c .before .number3 .result) (p .part .ensures) w3 (c .before .number3 .ensures) in
-    let e4 : c .number4 .result ≡ headerNumber 4 s = header-number s line 4 (a4 .after4 .result) (c .number4 .result) (p .part .ensures) w4 (c .number4 .ensures) in
+    let w1 = walked-next 32 line 0 0 (a1 .after .result) (walked-none 32 line) (a1 .after .ensures) in
+    let w2 = walked-next 32 line 1 (a1 .after .result) (a2 .after2 .result) w1 (a2 .after2 .ensures) in
+    let w3 = walked-next 32 line 2 (a2 .after2 .result) (a3 .after3 .result) w2 (a3 .after3 .ensures) in
+    let w4 = walked-next 32 line 3 (a3 .after3 .result) (a4 .after4 .result) w3 (a4 .after4 .ensures) in
+    let e1 = header-number s line 1 (a1 .after .result) (n1 .number .result) (p .part .ensures) w1 (n1 .number .ensures) in
+    let e2 = header-number s line 2 (a2 .after2 .result) (n2 .number2 .result) (p .part .ensures) w2 (n2 .number2 .ensures) in
+    let e3 = header-number s line 3 (a3 .after3 .result) (n3 .number3 .result) (p .part .ensures) w3 (n3 .number3 .ensures) in
+    let e4 = header-number s line 4 (a4 .after4 .result) (c .number4 .result) (p .part .ensures) w4 (c .number4 .ensures) in
     rw (e1, e2, e3, e4)
 
 pub read-spec : {M : Type 1} → statement M

@@ -1,9 +1,9 @@
 -- `walk::after` meets its contract.
 use native.Mathlib.Omega.{arith}
 use borrow.Author.Needs.{needs}
+use Rattle.vectors.proofs.Parts.{behind-is}
 use Rattle.vectors.proofs.walk.after.Statement.{statement}
 use Rattle.vectors.proofs.walk.after.Tie as tie
-use Rattle.vectors.proofs.Parts.{behind-is}
 
 find-requires : tie.Need-find-requires
 find-requires c κs = search needs

@@ -1,12 +1,12 @@
 -- `walk::fields` meets its contract.
-use borrow.Author.Needs.{needs}
-use Rattle.vectors.proofs.walk.fields.Statement.{statement}
-use Rattle.vectors.proofs.walk.fields.Tie as tie
 use mathlib.Core.Path.{sym, ap, _∙_}
 use lib.ListN.{length}
 use lib.Seq.{take-length}
+use borrow.Author.Needs.{needs}
 use Rattle.numerals.specs.Text.{split}
 use Rattle.vectors.proofs.Numbers.{fields-none, fields-some}
+use Rattle.vectors.proofs.walk.fields.Statement.{statement}
+use Rattle.vectors.proofs.walk.fields.Tie as tie
 
 count-fields-requires : tie.Need-count-fields-requires
 count-fields-requires c κs = search needs

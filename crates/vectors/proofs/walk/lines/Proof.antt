@@ -1,16 +1,16 @@
 -- `walk::lines` meets its contract.
-use borrow.Author.Needs.{needs}
-use Rattle.vectors.proofs.walk.lines.Statement.{statement}
-use Rattle.vectors.proofs.walk.lines.Tie as tie
 use Prim.Native.Nat.{ℕ}
 use mathlib.Core.Path.{ap}
 use mathlib.Core.List.{List}
 use native.Mathlib.Omega.{arith}
 use lib.ListN.{length}
 use lib.Seq.{slice, take-length}
+use borrow.Author.Needs.{needs}
 use Rattle.numerals.specs.Text.{split}
 use Rattle.numerals.proofs.Fields.{split-some}
 use Rattle.vectors.specs.Parts.{lines}
+use Rattle.vectors.proofs.walk.lines.Statement.{statement}
+use Rattle.vectors.proofs.walk.lines.Tie as tie
 
 count-fields-requires : tie.Need-count-fields-requires
 count-fields-requires c κs = search needs

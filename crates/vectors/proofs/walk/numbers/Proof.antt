@@ -2,7 +2,6 @@
 use Prim.Native.Nat.{_-_}
 use mathlib.Core.Path.{_≡_, ap, _∙_}
 use native.Mathlib.Omega.{arith}
-use lib.ListN.{length}
 use lib.Seq.{paste}
 use Rattle.vectors.specs.Numbers.{numbers}
 use Rattle.vectors.proofs.Numbers.{Stored, stored-none, stored-length, stored-next}

@@ -1,9 +1,9 @@
 -- `walk::part` meets its contract.
+use mathlib.Core.Path.{_∙_}
 use borrow.Author.Needs.{needs}
+use Rattle.vectors.proofs.Parts.{part-found}
 use Rattle.vectors.proofs.walk.part.Statement.{statement}
 use Rattle.vectors.proofs.walk.part.Tie as tie
-use mathlib.Core.Path.{_∙_}
-use Rattle.vectors.proofs.Parts.{part-found}
 
 rest-requires : tie.Need-rest-requires
 rest-requires c κs = search needs

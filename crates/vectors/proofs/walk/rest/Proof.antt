@@ -1,13 +1,13 @@
 -- `walk::rest` meets its contract.
-use native.Mathlib.Omega.{arith}
+use Prim.Native.Nat.{_-_}
 use mathlib.Core.Path.{sym}
+use native.Mathlib.Omega.{arith}
 use lib.ListN.{length-drop, drop-of-length-le}
 use lib.Seq.{take-all}
+use lib.ListN.{length, drop}
 use borrow.Author.Needs.{needs}
 use Rattle.vectors.proofs.walk.rest.Statement.{statement}
 use Rattle.vectors.proofs.walk.rest.Tie as tie
-use Prim.Native.Nat.{_-_}
-use lib.ListN.{length, drop}
 
 sub-result : tie.Need-sub-result
 sub-result c = search needs
