@@ -96,7 +96,7 @@ fn read_rule(
     if i < 32 {
         lens[i] = len;
         values[i] = value;
-        backends[i] = walk::place(line, walk::after(line, 0, line.len(), 32));
+        backends[i] = walk::place(line, walk::after(line, 0, 32));
     }
 }
 
@@ -111,7 +111,7 @@ fn read_rules(
     let mut from = 0;
     for i in 0..n {
         read_rule(walk::part(text, from, 10), i, lens, values, backends);
-        from = walk::after(text, from, text.len(), 10);
+        from = walk::after(text, from, 10);
     }
     n
 }

@@ -86,7 +86,7 @@ fn show_field(line: &[u8], from: usize) -> usize {
     print::field(from as u64);
     print::bytes(b"-");
     print::number(numerals::find(line, from, line.len(), 32) as u64);
-    walk::after(line, from, line.len(), 32)
+    walk::after(line, from, 32)
 }
 
 fn show_fields(line: &[u8], count: usize) {

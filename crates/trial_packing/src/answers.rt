@@ -11,7 +11,7 @@ fn read_weights(line: &[u8], weights: &mut [u64], at: usize) -> usize {
     if weights.len() < at {
         return at;
     }
-    let text = walk::rest(line, walk::after(line, 0, line.len(), 32));
+    let text = walk::rest(line, walk::after(line, 0, 32));
     at + walk::numbers(text, &mut weights[at..])
 }
 
@@ -29,7 +29,7 @@ fn read_service(
         return at;
     }
     if i < 80 {
-        volumes[i] = walk::number(line, 0, line.len());
+        volumes[i] = walk::number(line, 0);
         sizes[i] = next - at;
     }
     next
@@ -48,7 +48,7 @@ fn read_services(
     let mut at = 0;
     for i in 0..n {
         at = read_service(walk::part(text, from, 10), i, at, volumes, sizes, weights);
-        from = walk::after(text, from, text.len(), 10);
+        from = walk::after(text, from, 10);
     }
     at
 }

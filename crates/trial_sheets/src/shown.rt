@@ -15,7 +15,7 @@ pub fn refused(r: Refused) {
 fn line(text: &[u8], from: usize) -> usize {
     print::bytes(walk::part(text, from, 10));
     print::bytes(b"/");
-    walk::after(text, from, text.len(), 10)
+    walk::after(text, from, 10)
 }
 
 pub fn sheet(text: &[u8]) {

@@ -8,9 +8,9 @@ use vectors::walk;
 // Stores the number in the field that starts at a position, and says where the next field starts.
 fn read_cell(text: &[u8], from: usize, cells: &mut [usize; 8200], i: usize) -> usize {
     if i < 8200 {
-        cells[i] = walk::number(text, from, text.len()) as usize;
+        cells[i] = walk::number(text, from) as usize;
     }
-    walk::after(text, from, text.len(), 32)
+    walk::after(text, from, 32)
 }
 
 // The numbers in the n fields of a text.

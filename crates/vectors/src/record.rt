@@ -2,6 +2,8 @@
 // header line of fields, and a payload.
 use libc::STDIN_FILENO;
 use numerals::Number;
+ghost use Prim.Native.Nat.{_≤_};
+ghost use lib.ListN.{length};
 
 // The number that eight digits are. They are read behind a 1, since no number has leading zeros.
 fn body_length(head: &[u8; 8]) -> Number {
@@ -23,7 +25,9 @@ fn body_length(head: &[u8; 8]) -> Number {
 }
 
 // Fills a buffer, and says how many bytes it has, or 0 where the input ends before.
-fn fill(body: &mut [u8]) -> usize {
+fn fill(body: &mut [u8]) -> usize
+    ensures { λ r. ⌜ r ≤ length (now (body .entry)) ⌝ }
+{
     if io::read_full(STDIN_FILENO, body) < body.len() {
         0
     } else {
@@ -33,7 +37,9 @@ fn fill(body: &mut [u8]) -> usize {
 
 // Reads the body of the next record to the start of a buffer and says how many bytes it has; 0 where no whole record
 // that fits is left.
-pub fn next(space: &mut [u8]) -> usize {
+pub fn next(space: &mut [u8]) -> usize
+    ensures { λ r. ⌜ r ≤ length (now (space .entry)) ⌝ }
+{
     let mut head = [0u8; 8];
     if io::read_full(STDIN_FILENO, &mut head) < 8 {
         return 0;

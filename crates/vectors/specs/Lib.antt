@@ -1,0 +1,4 @@
+-- What the test programs find in a record's text.
+pub mod Parts
+pub mod Numbers
+pub mod Header
