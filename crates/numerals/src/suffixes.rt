@@ -52,8 +52,10 @@ pub fn write_suffix(out: &mut [u8], at: usize, len: usize, value: usize) -> Writ
         return Written::Short;
     }
     out[at] = 42;
-    crate::digits::write_digits(out, at + 1, l, 2, value as u64);
-    Written::End(at + 1 + l)
+    let bits = at + 1;
+    crate::digits::write_digits(out, bits, l, 2, value as u64);
+    let end = bits + l;
+    Written::End(end)
 }
 
 // The tree place of the suffix that the len lowest bits of value make; a length above 12 counts as 12.

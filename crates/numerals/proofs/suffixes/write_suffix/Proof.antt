@@ -38,17 +38,14 @@ returns-2 c = too-long _ _ _ _ (omega arith)
 slice-write-out : tie.Need-slice-write-out
 slice-write-out c = omega arith
 
-add-write-digits : tie.Need-add-write-digits
-add-write-digits c = omega arith
+add-bits : tie.Need-add-bits
+add-bits c = omega arith
 
 write-digits-requires : tie.Need-write-digits-requires
 write-digits-requires c κs = simp length-set (omega arith)
 
-add-t9 : tie.Need-add-t9
-add-t9 c = omega arith
-
-add-t8 : tie.Need-add-t8
-add-t8 c = omega arith
+add-end : tie.Need-add-end
+add-end c = omega arith
 
 same-length : tie.Need-same-length
 same-length c = c .before .before .write-digits .kept .0 ∙ simp length-set
@@ -78,9 +75,8 @@ write-suffix-spec =
     sub-if2-2
     returns-2
     slice-write-out
-    add-write-digits
+    add-bits
     write-digits-requires
-    add-t9
-    add-t8
+    add-end
     same-length
     returns-3)
