@@ -1,5 +1,6 @@
 /* A tool of an operator's own that calls Gulmorzon. It splits two sheets, looks addresses up, counts the churn between the
- * two tables and shows refusals and short buffers. Each answer is printed and checked: the exit status is 1 if one is wrong. */
+ * two tables, plans a third sheet in numbers and shows refusals and short buffers. Each answer is printed and checked: the
+ * exit status is 1 if one is wrong. */
 #include "gulmorzon.h"
 
 #include <stdio.h>
@@ -11,6 +12,13 @@
 #define TABLE "TABLE 5 5 293333920\n1 *0 2\n1 * 3\n2 *00 2\n2 *0 1\n2 * 3\n"
 #define NEWER "TABLE 5 5 293333920\n1 *0 2\n1 * 1\n2 *00 2\n2 *0 1\n2 * 3\n"
 #define SHALLOW "TABLE 1 1 0\n1 * 1\n"
+
+/* Planned in numbers: k, services, rules and each service's grant, list and end are all unlike, so that none is taken for
+ * another. The lists end within tolerance (0), at no gain (1) and at the budget (2). */
+#define MIXED "SHEET 12 0 8\nSERVICE 2 25 50 25\nSERVICE 20 33.3334 33.3333 33.3333\nSERVICE 6 7 7 7 7 7 7 7 7 7 7 7 7 7 9\n"
+#define FIGURES {2, 3, 0, 5, 13, 1, 1, 32, 2}
+#define NUMBERS \
+    {0, 1, 0, 0, 0, 0, 0, 1, 1, 4, 2, 2, 1, 3, 1, 1, 1, 2, 0, 2, 1, 1, 0, 1, 1, 0, 0, 0, 2, 0, 0, 13}
 
 #define LEN(text) (sizeof(text) - 1)
 
@@ -96,22 +104,37 @@ static void churns(void)
 }
 
 /* The one call with so much room in its two buffers: all its numbers, or nothing written. */
-static void plan(const char *what, size_t figures_len, size_t table_len, size_t number, size_t buffer)
+static void plan(const char *what, const char *sheet, size_t len, size_t figures_len, size_t table_len,
+                 struct gulmorzon_plan_answer want)
 {
-    static const size_t want_figures[] = {2, 4, 0, 3, 3, 0};
-    static const size_t want_table[] = {0, 1, 0, 1, 0, 0, 0, 2, 1, 2, 0, 1, 1, 1, 0, 0, 1, 0, 0, 2};
+    static const size_t want_figures[] = FIGURES;
+    static const size_t want_table[] = NUMBERS;
     static size_t figures[GULMORZON_FIGURES], table[GULMORZON_TABLE];
     fresh(figures, sizeof figures);
     fresh(table, sizeof table);
-    struct gulmorzon_plan_answer a = gulmorzon_plan(SHEET, LEN(SHEET), figures, figures_len, table, table_len);
-    int made = number == GULMORZON_ANSWERED;
+    struct gulmorzon_plan_answer a = gulmorzon_plan(sheet, len, figures, figures_len, table, table_len);
+    int made = want.number == GULMORZON_ANSWERED;
     size_t figures_end = made ? sizeof want_figures : 0, table_end = made ? sizeof want_table : 0;
     printf("%s: number %zu, line %zu, buffer %zu, k %zu, services %zu, rules %zu, total %llu\n", what, a.number, a.line,
            a.buffer, a.k, a.services, a.rules, (unsigned long long)a.total);
-    check(what, a.number == number && a.line == 0 && a.buffer == buffer && a.k == (made ? 5 : 0)
-                    && a.services == (made ? 2 : 0) && a.rules == (made ? 5 : 0) && a.total == (made ? 293333920 : 0));
+    check(what, a.number == want.number && a.line == want.line && a.buffer == want.buffer && a.k == want.k
+                    && a.services == want.services && a.rules == want.rules && a.total == want.total);
     check("figures", memcmp(figures, want_figures, figures_end) == 0 && untouched(figures, figures_end, sizeof figures));
     check("table", memcmp(table, want_table, table_end) == 0 && untouched(table, table_end, sizeof table));
+}
+
+static void plans(void)
+{
+    static const struct gulmorzon_plan_answer made = {.k = 12, .services = 3, .rules = 8, .total = 27825438720};
+    static const struct gulmorzon_plan_answer bad = {.number = GULMORZON_BAD_FIELD, .line = 3};
+    static const struct gulmorzon_plan_answer short_figures = {.number = GULMORZON_SHORT_LOAN, .buffer = 1};
+    static const struct gulmorzon_plan_answer short_table = {.number = GULMORZON_SHORT_LOAN, .buffer = 2};
+    plan("plan", MIXED, LEN(MIXED), GULMORZON_FIGURES, GULMORZON_TABLE, made);
+    plan("plan, just enough room", MIXED, LEN(MIXED), 9, 32, made);
+    plan("plan, a bad percentage", BAD, LEN(BAD), GULMORZON_FIGURES, GULMORZON_TABLE, bad);
+    plan("plan, figures too short", MIXED, LEN(MIXED), 8, 32, short_figures);
+    plan("plan, table too short", MIXED, LEN(MIXED), 9, 31, short_table);
+    plan("plan, both too short", MIXED, LEN(MIXED), 8, 31, short_figures);
 }
 
 int main(void)
@@ -119,9 +142,6 @@ int main(void)
     splits();
     lookups();
     churns();
-    plan("plan", GULMORZON_FIGURES, GULMORZON_TABLE, GULMORZON_ANSWERED, 0);
-    plan("plan, just enough room", 6, 20, GULMORZON_ANSWERED, 0);
-    plan("plan, figures too short", 5, 19, GULMORZON_SHORT_LOAN, 1);
-    plan("plan, table too short", 6, 19, GULMORZON_SHORT_LOAN, 2);
+    plans();
     return wrong;
 }
