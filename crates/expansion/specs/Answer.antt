@@ -10,8 +10,8 @@ use Rattle.expansion.specs.Sums.{sumTo, allTo}
 use Rattle.expansion.specs.Steps.{frame, listOf, endOf, stairsTo}
 use Rattle.expansion.specs.declared.rule.Rule.{Rule}
 use Rattle.expansion.specs.declared.rule.Record.{Record}
-use Rattle.expansion.specs.declared.refusal.Refusal.{Refusal}
-use Rattle.expansion.specs.Refusals.{no}
+use Rattle.numerals.specs.declared.refusal.Refusal.{Refusal}
+use Rattle.numerals.specs.Refusals.{no}
 use Rattle.expansion.specs.declared.call.Checked.{Checked}
 use Rattle.expansion.specs.declared.call.Checked.the-variants.{Sound as Passed, Refused as Turned}
 use Rattle.expansion.specs.declared.call.Expanded.{Expanded}

@@ -10,7 +10,7 @@ use Rattle.numerals.specs.Pick.{pick, both}
 use Rattle.expansion.specs.FirstMatch.{share}
 use Rattle.expansion.specs.Answer.{andThen, orElse, inLimits}
 use Rattle.expansion.specs.declared.rule.Rule.{Rule}
-use Rattle.expansion.specs.Refusals.{no}
+use Rattle.numerals.specs.Refusals.{no}
 use Rattle.expansion.specs.declared.call.Checked.{Checked}
 use Rattle.expansion.specs.declared.call.Checked.the-variants.{Sound as Passed, Refused as Turned}
 use Rattle.expansion.specs.declared.shares.Counted.{Counted}

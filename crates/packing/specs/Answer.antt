@@ -7,7 +7,7 @@ use lib.Seq.{sets}
 use Rattle.numerals.specs.Pick.{pick}
 use Rattle.expansion.specs.Answer.{unit, andThen, orElse, inLimits, checkWeights}
 use Rattle.expansion.specs.Steps.{endOf}
-use Rattle.expansion.specs.Refusals.{no}
+use Rattle.numerals.specs.Refusals.{no}
 use Rattle.expansion.specs.declared.rule.Ended.{Ended}
 use Rattle.expansion.specs.declared.rule.Ended.the-variants.{Within, NoGain, Budget}
 use Rattle.expansion.specs.declared.call.Checked.{Checked}

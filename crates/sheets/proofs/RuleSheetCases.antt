@@ -11,7 +11,7 @@ use Rattle.numerals.specs.Percentage.{fraction, atMostAll, percentOf, percentag
 use Rattle.numerals.specs.Suffix.{suffix}
 use Rattle.numerals.specs.Text.{onto, split}
 use Rattle.expansion.specs.Answer.{unit}
-use Rattle.expansion.specs.Refusals.{no}
+use Rattle.numerals.specs.Refusals.{no}
 use Rattle.expansion.specs.FirstMatch.{matches}
 use Rattle.expansion.specs.Sums.{sumTo, countTo}
 use Rattle.packing.specs.Cases.{line}

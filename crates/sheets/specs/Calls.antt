@@ -8,8 +8,8 @@ use lib.Seq.{sets}
 use Rattle.numerals.specs.Pick.{pick, both}
 use Rattle.expansion.specs.Sums.{countTo}
 use Rattle.expansion.specs.Answer.{unit}
-use Rattle.expansion.specs.declared.refusal.Refusal.{Refusal}
-use Rattle.expansion.specs.Refusals.{no}
+use Rattle.numerals.specs.declared.refusal.Refusal.{Refusal}
+use Rattle.numerals.specs.Refusals.{no}
 use Rattle.packing.specs.Grants.{total}
 use Rattle.packing.specs.Count.{Line, Services, services, matchesLine}
 use Rattle.packing.specs.Table.{problem, granted}

@@ -4,7 +4,7 @@ use Prim.Native.Char.{code}
 use Prim.Native.String as string
 use mathlib.Core.Path.{_≡_}
 use mathlib.Core.List.{List, [], _∷_}
-use Rattle.expansion.specs.Refusals.{no}
+use Rattle.numerals.specs.Refusals.{no}
 use Rattle.sheets.specs.Reading.{Reading, got, turned}
 use Rattle.sheets.specs.PercentageSheet.{Sheet, readSheet}
 

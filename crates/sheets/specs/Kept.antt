@@ -8,7 +8,7 @@ use lib.Seq.{slice}
 use Rattle.numerals.specs.Pick.{pick}
 use Rattle.numerals.specs.Text.{split}
 use Rattle.expansion.specs.Answer.{unit}
-use Rattle.expansion.specs.Refusals.{no}
+use Rattle.numerals.specs.Refusals.{no}
 use Rattle.sheets.specs.Reading.{Reading, got, turned, then, unless}
 use Rattle.sheets.specs.PercentageSheet.{Sheet, Service, headFields, weightFields, serviceFields, serviceLines, sum}
 use Rattle.sheets.specs.PercentageSheet as sheet

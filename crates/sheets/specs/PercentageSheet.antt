@@ -8,7 +8,7 @@ use Rattle.numerals.specs.Decimal.{number}
 use Rattle.numerals.specs.Percentage.{percentage}
 use Rattle.numerals.specs.Text.{split}
 use Rattle.expansion.specs.Answer.{unit}
-use Rattle.expansion.specs.Refusals.{no}
+use Rattle.numerals.specs.Refusals.{no}
 use Rattle.sheets.specs.Reading.{Reading, got, turned, then, unless, onField, same, field}
 
 -- what a percentage sheet says

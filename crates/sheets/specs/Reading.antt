@@ -7,8 +7,8 @@ use lib.ListN.{getD}
 use Rattle.numerals.specs.Pick.{both}
 use Rattle.numerals.specs.declared.digits.Number.{Number}
 use Rattle.numerals.specs.declared.digits.Number.the-variants.{Value, Bad}
-use Rattle.expansion.specs.declared.refusal.Refusal.{Refusal}
-use Rattle.expansion.specs.Refusals.{no}
+use Rattle.numerals.specs.declared.refusal.Refusal.{Refusal}
+use Rattle.numerals.specs.Refusals.{no}
 
 pub data Reading (A : Type 0) : Type 0 where
   got : A → Reading A

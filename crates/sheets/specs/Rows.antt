@@ -7,7 +7,7 @@ use lib.Dec.{ltb, eqb}
 use lib.ListN.{length, getD, take}
 use Rattle.numerals.specs.Pick.{pick}
 use Rattle.expansion.specs.Sums.{countTo}
-use Rattle.expansion.specs.Refusals.{no}
+use Rattle.numerals.specs.Refusals.{no}
 use Rattle.packing.specs.Count.{Line}
 use Rattle.packing.specs.Answer.{cells}
 use Rattle.sheets.specs.Reading.{Reading, got, turned, then}

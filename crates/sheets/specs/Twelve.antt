@@ -7,7 +7,7 @@ use Rattle.numerals.specs.Percentage.{percentage}
 use Rattle.numerals.specs.Suffix.{suffix, place}
 use Rattle.expansion.specs.Cases.{Worked, Shows, p1, p2, p3, p4, p5, p6}
 use Rattle.expansion.specs.Imbalance.{largestExcess, largestShortfall}
-use Rattle.expansion.specs.Refusals.{no}
+use Rattle.numerals.specs.Refusals.{no}
 use Rattle.packing.specs.Cases.{P7}
 use Rattle.sheets.specs.Reading.{Reading, got, turned, onField}
 use Rattle.sheets.specs.RuleSheet.{onSuffix}

@@ -7,7 +7,7 @@ use lib.Seq.{sets, slice}
 use Rattle.numerals.specs.Decimal.{width, decimal}
 use Rattle.numerals.specs.declared.digits.Written.{Written}
 use Rattle.numerals.specs.declared.digits.Written.the-variants.{End, Short}
-use Rattle.expansion.specs.Refusals.{no}
+use Rattle.numerals.specs.Refusals.{no}
 use Rattle.expansion.specs.declared.call.Checked.{Checked}
 use Rattle.expansion.specs.declared.call.Checked.the-variants.{Sound, Refused}
 use Rattle.packing.specs.Count.{Line}
