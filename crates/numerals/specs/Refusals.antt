@@ -1,5 +1,5 @@
 -- Turned-back work (document 01, under that heading): the number of each refusal.
-use Prim.Native.Nat.{ℕ, zero, suc}
+use Prim.Native.Nat.{ℕ}
 use Rattle.numerals.specs.declared.refusal.Refusal.{Refusal}
 use Rattle.numerals.specs.declared.refusal.Refusal.the-variants.{Malformed, BadField, Unbalanced, TooMany, NoService, TableShort, ShortLoan, UnknownService, Order, Miscount, TooLong, Depth}
 
@@ -17,19 +17,39 @@ numberOf Miscount = 10
 numberOf TooLong = 11
 numberOf Depth = 12
 
--- the refusal with this number; there is none with number 0 or above 12, and no definition asks for one
-abbrev pub no : ℕ → Refusal
-no zero = Malformed
-no (suc zero) = Malformed
-no (suc (suc zero)) = BadField
-no (suc (suc (suc zero))) = Unbalanced
-no (suc (suc (suc (suc zero)))) = TooMany
-no (suc (suc (suc (suc (suc zero))))) = NoService
-no (suc (suc (suc (suc (suc (suc zero)))))) = TableShort
-no (suc (suc (suc (suc (suc (suc (suc zero))))))) = ShortLoan
-no (suc (suc (suc (suc (suc (suc (suc (suc zero)))))))) = UnknownService
-no (suc (suc (suc (suc (suc (suc (suc (suc (suc zero))))))))) = Order
-no (suc (suc (suc (suc (suc (suc (suc (suc (suc (suc zero)))))))))) = Miscount
-no (suc (suc (suc (suc (suc (suc (suc (suc (suc (suc (suc zero))))))))))) = TooLong
-no (suc (suc (suc (suc (suc (suc (suc (suc (suc (suc (suc (suc zero)))))))))))) = Depth
-no (suc (suc (suc (suc (suc (suc (suc (suc (suc (suc (suc (suc (suc n))))))))))))) = Depth
+-- each by its number there, the column "no."
+abbrev pub no1 : Refusal
+no1 = Malformed
+
+abbrev pub no2 : Refusal
+no2 = BadField
+
+abbrev pub no3 : Refusal
+no3 = Unbalanced
+
+abbrev pub no4 : Refusal
+no4 = TooMany
+
+abbrev pub no5 : Refusal
+no5 = NoService
+
+abbrev pub no6 : Refusal
+no6 = TableShort
+
+abbrev pub no7 : Refusal
+no7 = ShortLoan
+
+abbrev pub no8 : Refusal
+no8 = UnknownService
+
+abbrev pub no9 : Refusal
+no9 = Order
+
+abbrev pub no10 : Refusal
+no10 = Miscount
+
+abbrev pub no11 : Refusal
+no11 = TooLong
+
+abbrev pub no12 : Refusal
+no12 = Depth
