@@ -19,7 +19,8 @@ use Rattle.numerals.specs.declared.digits.Number.{Number}
 use Rattle.numerals.specs.declared.digits.Number.the-variants.{Value, Bad}
 use Rattle.numerals.proofs.Choice.{by-less, both-left, both-right, both-false}
 use Rattle.numerals.proofs.Base.{picked, value-below, digit-at, digit-low}
-use Rattle.numerals.proofs.Fields.{split-some, free-before, free-whole, index-byte, cut-list, cut, cut-last, cut-part}
+use Rattle.numerals.proofs.Slice.{slice-length}
+use Rattle.numerals.proofs.Fields.{split-some, one-field, free-before, free-whole, index-byte, cut-list, cut, cut-last, cut-part}
 
 pub fraction-none : (d : ℕ) → fraction d [] ≡ Bad
 unfolding fraction
@@ -80,10 +81,17 @@ unfolding onValue
 onValue-bad (Value v) r f h = rw h
 onValue-bad Bad r f h = refl
 
-percent-dots : (d : ℕ) (w f : List ℕ) (ls : List (List ℕ)) → 1 ≤ length ls → percentOf d (w ∷ f ∷ ls) ≡ Bad
+-- more than one dot
+percent-dots : (d : ℕ) (ps : List (List ℕ)) → 2 < length ps → percentOf d ps ≡ Bad
 unfolding percentOf
-percent-dots d w f [] h = absurd (omega arith)
-percent-dots d w f (g ∷ gs) h = refl
+percent-dots d [] h = refl
+percent-dots d (w ∷ []) h = absurd (omega arith)
+percent-dots d (w ∷ f ∷ []) h = absurd (omega arith)
+percent-dots d (w ∷ f ∷ g ∷ gs) h = refl
+
+pub percent-many : (d : ℕ) (bs : List ℕ) → 2 < length (split 46 bs) → percentage d bs ≡ Bad
+unfolding percentage
+percent-many d bs h = percent-dots d (split 46 bs) h
 
 -- what stands after the first dot, read as a fraction
 percent-parts :
@@ -94,7 +102,7 @@ percent-parts d w bs =
     by-less (indexOf 46 bs) (length bs)
     (λ h.
     ap (λ ls. percentOf d (w ∷ ls)) (cut-list 46 bs h)
-    ∙ percent-dots d w (take (indexOf 46 bs) bs) (split 46 (drop (suc (indexOf 46 bs)) bs)) (split-some 46 (drop (suc (indexOf 46 bs)) bs))
+    ∙ percent-dots d (w ∷ take (indexOf 46 bs) bs ∷ split 46 (drop (suc (indexOf 46 bs)) bs)) (omega (arith, split-some 46 (drop (suc (indexOf 46 bs)) bs)))
     ∙ sym (onValue-bad (number 0 999 w) (fraction d bs) (λ v u. atMostAll d (v * 10 ^ d + u)) (fraction-dot d bs h)))
     (λ h.
     ap (λ ls. percentOf d (w ∷ ls)) (free-whole 46 bs (rw (take-all (indexOf 46 bs) bs h) at (free-before 46 bs))))
@@ -113,6 +121,14 @@ module _ (d from to e : ℕ) (s : List ℕ) (k : to ≤ length s) (is : e ≡ fr
       ≡ onValue (number 0 999 (slice from e s)) (λ v. onValue (fraction d (slice (e + 1) to s)) (λ u. atMostAll d (v * 10 ^ d + u)))
   unfolding percentage
   percent-cut h = ap (percentOf d) (cut 46 from to e s k is h) ∙ percent-parts d (slice from e s) (slice (e + 1) to s)
+
+  -- where there is one dot at most, the next search ends with the text
+  pub next-dot : (n : ℕ) → e < to → length (split 46 (slice from to s)) ≤ 2 → n ≡ e + 1 + indexOf 46 (slice (e + 1) to s)
+      → slice (e + 1) n s ≡ slice (e + 1) to s
+  next-dot n h few found =
+      let rest = slice (e + 1) to s in
+      let one : length (split 46 rest) ≤ 1 = omega (arith, ap length (cut 46 from to e s k is h)) in
+      cut-part 46 (e + 1) to n s k found (omega (arith, one-field 46 rest one, slice-length (e + 1) to s))
 
   pub percent-bad : number 0 999 (slice from e s) ≡ Bad → percentage d (slice from to s) ≡ Bad
   unfolding onValue
