@@ -1,6 +1,6 @@
 -- Suffixes and tree places (document 01, "Suffixes and tree places"). A suffix is its number of bits and their value: the bits as a number, the last bit lowest.
 use Prim.Native.Nat.{ℕ, _^_, _<_}
-use mathlib.Core.Bool.{Bool, true, false}
+use mathlib.Core.Bool.{Bool}
 use mathlib.Core.List.{List, [], _∷_, reverse}
 use mathlib.Core.Path.{_≡_}
 use lib.Dec.{leb, ltb, eqb}

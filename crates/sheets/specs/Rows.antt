@@ -33,11 +33,12 @@ use Rattle.sheets.specs.declared.rule_sheet.SheetLines.the-variants.{Tab
 abbrev pub lineAt : List ℕ → ℕ → Line
 lineAt table i = line (getD table (4 * i) 0) (getD table (4 * i + 1) 0) (getD table (4 * i + 2) 0) (getD table (4 * i + 3) 0)
 
--- there are n lines, with services, lengths and backends in their limits
+-- there are n lines, with services, suffixes and backends in their limits
 pub record Limited (table : List ℕ) (n : ℕ) : Type 0 where
   pub room : 4 * n ≤ length table
   pub service : (i : ℕ) → i < n → getD table (4 * i) 0 < 64
   pub short : (i : ℕ) → i < n → getD table (4 * i + 1) 0 ≤ 12
+  pub bits : (i : ℕ) → i < n → getD table (4 * i + 2) 0 < 2 ^ (getD table (4 * i + 1) 0)
   pub backend : (i : ℕ) → i < n → getD table (4 * i + 3) 0 < 32
 
 -- the number from 1 of the backend that the service with this number from 1 has for a suffix, 0 where there is none

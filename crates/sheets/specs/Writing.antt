@@ -6,7 +6,7 @@ use lib.ListN.{length}
 use lib.Seq.{sets, slice}
 use Rattle.numerals.specs.Decimal.{width, decimal}
 use Rattle.numerals.specs.declared.digits.Written.{Written}
-use Rattle.numerals.specs.declared.digits.Written.the-variants.{End, Short}
+use Rattle.numerals.specs.declared.digits.Written.the-variants.{End, Refused as NotWritten}
 use Rattle.numerals.specs.Refusals.{no9}
 use Rattle.expansion.specs.declared.call.Checked.{Checked}
 use Rattle.expansion.specs.declared.call.Checked.the-variants.{Sound, Refused}
@@ -26,11 +26,11 @@ pub record Wrote (before after : List ℕ) (at next : ℕ) (bytes : List ℕ) : 
 -- a text was written, and ends before position n
 abbrev pub Before : Written → ℕ → Type 0
 Before (End e) n = e < n
-Before Short n = ⊥
+Before (NotWritten why) n = ⊥
 
 abbrev pub endAt : Written → ℕ
 endAt (End e) = e
-endAt Short = 0
+endAt (NotWritten why) = 0
 
 -- line 1
 unfoldable pub headText : ℕ → ℕ → ℕ → List ℕ

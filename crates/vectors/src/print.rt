@@ -38,7 +38,7 @@ pub fn suffix(len: usize, value: usize) {
     let text: &mut [u8] = &mut array;
     match numerals::write_suffix(text, 0, len, value) {
         Written::End(end) => bytes(walk::start(text, end)),
-        Written::Short => bytes(b"short"),
+        Written::Refused(why) => refused(why),
     }
 }
 

@@ -1,18 +1,20 @@
 -- `percentages::read_percentage` meets its contract: the number before the dot, and the fraction between it and the end, since there is no second dot.
 -- Assumes nothing.
-use Prim.Native.Nat.{_+_, _*_}
+use Prim.Native.Nat.{_+_, _*_, _≤_}
 use native.Mathlib.Omega.{arith}
 use mathlib.Core.Path.{_≡_, sym, ap, _∙_}
+use lib.ListN.{length}
 use lib.Seq.{slice}
 use borrow.Author.Needs.{needs}
 use Rattle.numerals.specs.Digits.{onValue}
 use Rattle.numerals.specs.Decimal.{number}
+use Rattle.numerals.specs.Text.{split}
 use Rattle.numerals.specs.Percentage.{fraction, atMostAll, percentage}
 use Rattle.numerals.specs.declared.digits.Number.the-variants.{Value}
 use Rattle.numerals.proofs.Slice.{slice-end}
 use Rattle.numerals.proofs.Decimal.{only-text}
 use Rattle.numerals.proofs.Fields.{cut-le}
-use Rattle.numerals.proofs.Percent.{fraction-below, percent-last, percent-cut, percent-many, next-dot, percent-bad}
+use Rattle.numerals.proofs.Percent.{fraction-below, percent-last, percent-cut, percent-many, percent-bad}
 use Rattle.numerals.proofs.percentages.read_percentage.Statement.{statement}
 use Rattle.numerals.proofs.percentages.read_percentage.Tie as tie
 
@@ -56,6 +58,14 @@ returns c =
     let a = l .before .before .args in
     sym (part l ∙ percent-many 4 (slice (a .from) (l .least .result) (a .s .now)) (omega (arith, c .before .count-fields .ensures)))
 
+-- one dot at most
+few :
+    (c : tie.Else1)
+    → let l = c .before .before in
+    let a = l .before .before .args in
+    length (split 46 (slice (a .from) (l .least .result) (a .s .now))) ≤ 2
+few c = omega (arith, c .if1 .left, c .before .count-fields .ensures)
+
 returns-2 : tie.Need-returns-2
 returns-2 c =
     let f = c .before .before .before in
@@ -63,7 +73,7 @@ returns-2 c =
     let a = l .before .before .args in
     sym
     (part l
-    ∙ percent-bad 4 (a .from) (l .least .result) (f .find .result) (a .s .now) (omega arith) (f .find .ensures)
+    ∙ percent-bad 4 (a .from) (l .least .result) (f .find .result) (a .s .now) (omega arith) (f .find .ensures) (few (f .before))
     (sym (c .before .before .read-number .ensures) ∙ c .enum-told .given .1))
 
 mul-at-most-all : tie.Need-mul-at-most-all
@@ -86,21 +96,6 @@ no-dot c =
     ∙ percent-last 4 (a .from) (l .least .result) (f .find .result) (a .s .now) (omega arith) (f .find .ensures) (c .if2 .taken)
     ∙ rw (before-dot (c .before))
 
--- the fraction ends with the text, since no dot comes after the first
-to-end :
-    (c : tie.After-find2)
-    → let l = c .before .before .before .before .before .before .before .before .before in
-    let a = l .before .before .args in
-    let dot = c .before .before .before .before .before .before .find .result in
-    slice (dot + 1) (c .find2 .result) (a .s .now) ≡ slice (dot + 1) (l .least .result) (a .s .now)
-to-end c =
-    let f = c .before .before .before .before .before .before in
-    let l = f .before .before .before in
-    let a = l .before .before .args in
-    next-dot 4 (a .from) (l .least .result) (f .find .result) (a .s .now) (omega arith) (f .find .ensures) (c .find2 .result) (c .before .if2 .left)
-    (omega (arith, f .before .if1 .left, f .before .before .count-fields .ensures))
-    (c .find2 .ensures)
-
 dot :
     (c : tie.After-read-fraction)
     → let a = c .before .before .before .before .before .before .before .before .before .before .before .before .args in
@@ -112,8 +107,9 @@ dot c =
     let l = f .before .before .before in
     let a = l .before .before .args in
     part l
-    ∙ percent-cut 4 (a .from) (l .least .result) (f .find .result) (a .s .now) (omega arith) (f .find .ensures) (c .before .before .if2 .left)
-    ∙ rw (before-dot (c .before .before .before), c .read-fraction .ensures, to-end (c .before))
+    ∙ percent-cut 4 (a .from) (l .least .result) (f .find .result) (a .s .now) (omega arith) (f .find .ensures) (few (f .before))
+    (c .before .find2 .result) (c .before .before .if2 .left) (c .before .find2 .ensures)
+    ∙ rw (before-dot (c .before .before .before), c .read-fraction .ensures)
 
 returns-3 : tie.Need-returns-3
 returns-3 c = c .at-most-all .ensures ∙ sym (no-dot (c .before))

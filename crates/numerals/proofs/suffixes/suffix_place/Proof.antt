@@ -3,11 +3,10 @@ use mathlib.Core.Path.{_≡_, sym, ap, _∙_}
 use mathlib.Core.Bool.{true}
 use Prim.Native.Nat.{ℕ, _-_, _/_, _^_}
 use native.Mathlib.Nat.{lt-of-lt-of-le}
-use native.Mathlib.Omega.{arith}
 use lib.Pow.{pow-mono}
 use borrow.Author.Needs.{needs}
 use borrow.Author.Tests.{not-true, not-false}
-use Rattle.numerals.specs.Suffix.{mostBits, isSuffix, place, suffixPlace}
+use Rattle.numerals.specs.Suffix.{mostBits, isSuffix, suffixPlace}
 use Rattle.numerals.specs.declared.digits.Number.the-variants.{Value}
 use Rattle.numerals.proofs.Place.{place-first}
 use Rattle.numerals.proofs.Suffix.{Limits, suffix-limits}
