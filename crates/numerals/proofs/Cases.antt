@@ -1,13 +1,17 @@
--- Document 01's figures on percentages: P9 to P12, and the further texts beside them, each read as it says.
+-- Document 01's figures on percentages: P9 to P12, and the further texts beside them, each read as it says. And suffixes out of their limits, each turned back.
 use Prim.Native.Nat.{ℕ}
 use mathlib.Core.Path.{_≡_, refl}
 use mathlib.Core.List.{List, [], _∷_}
-use Rattle.numerals.specs.Digits.{isDigit, allDigits, value, valueFrom, onValue}
+use Rattle.numerals.specs.Digits.{isDigit, allDigits, value, valueFrom, onValue, lowest, putEnd}
 use Rattle.numerals.specs.Decimal.{noLeadingZero, isNumeral, number}
 use Rattle.numerals.specs.Text.{onto, split}
+use Rattle.numerals.specs.Refusals.{no2, no7}
+use Rattle.numerals.specs.Suffix.{isSuffix, suffix, suffixText, putSuffixEnd, suffixPlace}
 use Rattle.numerals.specs.Percentage.{fraction, atMostAll, percentOf, percentage}
 use Rattle.numerals.specs.declared.digits.Number.{Number}
 use Rattle.numerals.specs.declared.digits.Number.the-variants.{Value, Bad}
+use Rattle.numerals.specs.declared.digits.Written.the-variants.{Refused}
+use Rattle.numerals.specs.declared.suffixes.SuffixRead.the-variants as read
 
 pub record Case : Type 0 where
   pub text : List ℕ
@@ -45,3 +49,17 @@ AllRight (c ∷ cs) = (percentage 4 (c .text) ≡ c .is) × AllRight cs
 pub right : AllRight cases
 unfolding cases percentage percentOf split onto number isNumeral noLeadingZero allDigits isDigit value valueFrom onValue fraction atMostAll
 right = (refl, (refl, (refl, (refl, (refl, (refl, (refl, (refl, (refl, tt)))))))))
+
+-- a k of 0 or 13, a suffix of 13 bits, and one of 2 bits whose value has 3: refusal 2, which comes before 7
+pub record OutOfLimits : Type 0 where
+  pub none : suffix 0 (42 ∷ []) ≡ read.Bad
+  pub deep : suffix 13 (42 ∷ []) ≡ read.Bad
+  pub long : putSuffixEnd [] 0 13 0 ≡ Refused no2
+  pub large : putSuffixEnd [] 0 2 4 ≡ Refused no2
+  pub short : putSuffixEnd [] 0 2 3 ≡ Refused no7
+  pub long-place : suffixPlace 13 0 ≡ Bad
+  pub large-place : suffixPlace 2 4 ≡ Bad
+
+pub out-of-limits : OutOfLimits
+unfolding suffix isSuffix putSuffixEnd putEnd suffixPlace suffixText lowest
+out-of-limits = record { none = refl; deep = refl; long = refl; large = refl; short = refl; long-place = refl; large-place = refl }

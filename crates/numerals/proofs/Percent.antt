@@ -1,13 +1,13 @@
--- Percentages: what the digits after the dot are read as, and that a second dot is never a digit.
-use Prim.Native.Nat.{ℕ, suc, _+_, _-_, _*_, _^_, _≤_, _<_}
+-- Percentages: what the digits after the dot are read as, and where they end.
+use Prim.Native.Nat.{ℕ, _+_, _-_, _*_, _^_, _≤_, _<_}
 use native.Mathlib.Nat.{one-le-pow, pow-le-pow-right, mul-lt-mul-of-pos-right}
 use native.Mathlib.Omega.{arith}
 use mathlib.Core.Path.{_≡_, refl, sym, ap, _∙_}
 use mathlib.Core.Bool.{Bool, true, false}
 use mathlib.Core.List.{List, [], _∷_}
 use lib.Dec.{leb, ltb}
-use lib.ListN.{length, getD, take, drop}
-use lib.Seq.{slice, take-all}
+use lib.ListN.{length}
+use lib.Seq.{slice}
 use lib.Pow.{pow-add}
 use borrow.Author.Tests.{le-leb, lt-leb, lt-ltb, leb-true}
 use Rattle.numerals.specs.Pick.{pick, both}
@@ -15,11 +15,11 @@ use Rattle.numerals.specs.Digits.{allDigits, value, readDigits, onValue}
 use Rattle.numerals.specs.Decimal.{number}
 use Rattle.numerals.specs.Text.{split, indexOf}
 use Rattle.numerals.specs.Percentage.{fraction, atMostAll, percentOf, percentage}
-use Rattle.numerals.specs.declared.digits.Number.{Number}
 use Rattle.numerals.specs.declared.digits.Number.the-variants.{Value, Bad}
 use Rattle.numerals.proofs.Choice.{by-less, both-left, both-right, both-false}
-use Rattle.numerals.proofs.Base.{picked, value-below, digit-at, digit-low}
-use Rattle.numerals.proofs.Fields.{split-some, free-before, free-whole, index-byte, cut-list, cut, cut-last, cut-part}
+use Rattle.numerals.proofs.Base.{picked, value-below}
+use Rattle.numerals.proofs.Slice.{slice-length}
+use Rattle.numerals.proofs.Fields.{one-field, cut, cut-last, cut-part}
 
 pub fraction-none : (d : ℕ) → fraction d [] ≡ Bad
 unfolding fraction
@@ -61,43 +61,17 @@ fraction-below d u bs h =
     let whole : 10 ^ d ≡ 10 ^ n * 10 ^ (d - n) = ap (λ k. 10 ^ k) all ∙ pow-add 10 n (d - n) in
     omega (arith, p .1, whole, mul-lt-mul-of-pos-right below (one-le-pow (d - n) 10 (omega arith)))
 
--- a dot is no digit
-dot-digits : (bs : List ℕ) → indexOf 46 bs < length bs → allDigits 10 bs ≡ false
-dot-digits bs h = tests (allDigits 10 bs) refl
-  where
-    tests : (t : Bool) → allDigits 10 bs ≡ t → t ≡ false
-    tests false e = refl
-    tests true e =
-        let low : 48 ≤ getD bs (indexOf 46 bs) 0 = digit-low 10 _ (digit-at 10 bs (indexOf 46 bs) e h) in
-        absurd (omega (arith, index-byte 46 bs h))
-
-fraction-dot : (d : ℕ) (bs : List ℕ) → indexOf 46 bs < length bs → fraction d bs ≡ Bad
-unfolding fraction
-fraction-dot d bs h = simp (dot-digits bs h, both-false)
-
-onValue-bad : (n r : Number) (f : ℕ → ℕ → Number) → r ≡ Bad → onValue n (λ v. onValue r (f v)) ≡ Bad
-unfolding onValue
-onValue-bad (Value v) r f h = rw h
-onValue-bad Bad r f h = refl
-
-percent-dots : (d : ℕ) (w f : List ℕ) (ls : List (List ℕ)) → 1 ≤ length ls → percentOf d (w ∷ f ∷ ls) ≡ Bad
+-- more than one dot
+percent-dots : (d : ℕ) (ps : List (List ℕ)) → 2 < length ps → percentOf d ps ≡ Bad
 unfolding percentOf
-percent-dots d w f [] h = absurd (omega arith)
-percent-dots d w f (g ∷ gs) h = refl
+percent-dots d [] h = refl
+percent-dots d (w ∷ []) h = absurd (omega arith)
+percent-dots d (w ∷ f ∷ []) h = absurd (omega arith)
+percent-dots d (w ∷ f ∷ g ∷ gs) h = refl
 
--- what stands after the first dot, read as a fraction
-percent-parts :
-    (d : ℕ) (w bs : List ℕ)
-    → percentOf d (w ∷ split 46 bs) ≡ onValue (number 0 999 w) (λ v. onValue (fraction d bs) (λ u. atMostAll d (v * 10 ^ d + u)))
-unfolding percentOf
-percent-parts d w bs =
-    by-less (indexOf 46 bs) (length bs)
-    (λ h.
-    ap (λ ls. percentOf d (w ∷ ls)) (cut-list 46 bs h)
-    ∙ percent-dots d w (take (indexOf 46 bs) bs) (split 46 (drop (suc (indexOf 46 bs)) bs)) (split-some 46 (drop (suc (indexOf 46 bs)) bs))
-    ∙ sym (onValue-bad (number 0 999 w) (fraction d bs) (λ v u. atMostAll d (v * 10 ^ d + u)) (fraction-dot d bs h)))
-    (λ h.
-    ap (λ ls. percentOf d (w ∷ ls)) (free-whole 46 bs (rw (take-all (indexOf 46 bs) bs h) at (free-before 46 bs))))
+pub percent-many : (d : ℕ) (bs : List ℕ) → 2 < length (split 46 bs) → percentage d bs ≡ Bad
+unfolding percentage
+percent-many d bs h = percent-dots d (split 46 bs) h
 
 -- a percentage between two positions, by the position e at which the search for a dot ends
 module _ (d from to e : ℕ) (s : List ℕ) (k : to ≤ length s) (is : e ≡ from + indexOf 46 (slice from to s)) where
@@ -107,13 +81,23 @@ module _ (d from to e : ℕ) (s : List ℕ) (k : to ≤ length s) (is : e ≡ fr
       ap (percentOf d) (cut-last 46 from to e s k is h)
       ∙ ap (λ p. onValue (number 0 999 p) (λ v. atMostAll d (v * 10 ^ d))) (sym (cut-part 46 from to e s k is h))
 
-  pub percent-cut :
-      e < to
-      → percentage d (slice from to s)
-      ≡ onValue (number 0 999 (slice from e s)) (λ v. onValue (fraction d (slice (e + 1) to s)) (λ u. atMostAll d (v * 10 ^ d + u)))
-  unfolding percentage
-  percent-cut h = ap (percentOf d) (cut 46 from to e s k is h) ∙ percent-parts d (slice from e s) (slice (e + 1) to s)
+  -- where there is one dot at most, the next search ends with the text
+  module _ (few : length (split 46 (slice from to s)) ≤ 2) where
+    pub percent-cut :
+        (n : ℕ)
+        → e < to
+        → n ≡ e + 1 + indexOf 46 (slice (e + 1) to s)
+        → percentage d (slice from to s)
+        ≡ onValue (number 0 999 (slice from e s)) (λ v. onValue (fraction d (slice (e + 1) n s)) (λ u. atMostAll d (v * 10 ^ d + u)))
+    unfolding percentage percentOf
+    percent-cut n h next =
+        let rest = slice (e + 1) to s in
+        let parts : split 46 (slice from to s) ≡ slice from e s ∷ split 46 rest = cut 46 from to e s k is h in
+        let last : to ≤ n = omega (arith, one-field 46 rest (omega (arith, ap length parts)), slice-length (e + 1) to s) in
+        ap (percentOf d) (parts ∙ ap (λ ls. slice from e s ∷ ls) (cut-last 46 (e + 1) to n s k next last))
+        ∙ ap (λ p. onValue (number 0 999 (slice from e s)) (λ v. onValue (fraction d p) (λ u. atMostAll d (v * 10 ^ d + u))))
+        (sym (cut-part 46 (e + 1) to n s k next last))
 
-  pub percent-bad : number 0 999 (slice from e s) ≡ Bad → percentage d (slice from to s) ≡ Bad
-  unfolding onValue
-  percent-bad h = by-less e to (λ l. percent-cut l ∙ rw h) (λ l. percent-last l ∙ rw h)
+    pub percent-bad : number 0 999 (slice from e s) ≡ Bad → percentage d (slice from to s) ≡ Bad
+    unfolding onValue
+    percent-bad h = by-less e to (λ l. percent-cut (e + 1 + indexOf 46 (slice (e + 1) to s)) l refl ∙ rw h) (λ l. percent-last l ∙ rw h)

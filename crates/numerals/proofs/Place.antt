@@ -97,9 +97,11 @@ place-shorter l m v h k =
     let sum : l + j ≡ m = omega arith in
     rw (← sum) (rw (add-sub-cancel-left l j) (place-add l j v ∙ rw (div-eq-of-lt k, place-nought j, add-zero)))
 
+pub place-first : (l m v : ℕ) → l ≤ m → v < 2 ^ l → place m v / 2 ^ (m - l) ≡ place l v
+place-first l m v h k = rw (place-shorter l m v h k, shl-shr (place l v) (m - l))
+
 pub place-read : (l m v : ℕ) → l ≤ m → place m (v % 2 ^ l) / 2 ^ (m - l) ≡ place l v
-place-read l m v h =
-    rw (place-shorter l m (v % 2 ^ l) h (mod-lt v (pow-pos l)), shl-shr (place l (v % 2 ^ l)) (m - l)) (place-mod l v)
+place-read l m v h = place-first l m (v % 2 ^ l) h (mod-lt v (pow-pos l)) ∙ place-mod l v
 
 -- the places of the suffixes that end in the l lowest bits of v are one run of 2 ^ j
 pub place-high : (l j v : ℕ) → place (l + j) v / 2 ^ j ≡ place l v

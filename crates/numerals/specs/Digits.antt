@@ -6,10 +6,11 @@ use lib.Dec.{leb, ltb}
 use lib.ListN.{length}
 use lib.Seq.{sets}
 use Rattle.numerals.specs.Pick.{pick, both}
+use Rattle.numerals.specs.Refusals.{no7}
 use Rattle.numerals.specs.declared.digits.Number.{Number}
 use Rattle.numerals.specs.declared.digits.Number.the-variants.{Value, Bad}
 use Rattle.numerals.specs.declared.digits.Written.{Written}
-use Rattle.numerals.specs.declared.digits.Written.the-variants.{End, Short}
+use Rattle.numerals.specs.declared.digits.Written.the-variants.{End, Refused}
 
 -- the byte b is a digit of the base: 48 is '0'
 unfoldable pub isDigit : ℕ → ℕ → Bool
@@ -47,6 +48,6 @@ onValue Bad f = Bad
 unfoldable pub put : List ℕ → ℕ → List ℕ → List ℕ
 put out at bs = pick (leb (at + length bs) (length out)) (sets out at bs) out
 
--- the answer of that
+-- the answer of that: the position behind the text, or refusal 7
 unfoldable pub putEnd : List ℕ → ℕ → List ℕ → Written
-putEnd out at bs = pick (leb (at + length bs) (length out)) (End (at + length bs)) Short
+putEnd out at bs = pick (leb (at + length bs) (length out)) (End (at + length bs)) (Refused no7)

@@ -1,4 +1,5 @@
 // Digits of a base up to ten, read and written: the loops below numbers, percentages and suffixes.
+use crate::refusal::Refusal;
 ghost use mathlib.Core.Path.{_≡_};
 ghost use Prim.Native.Nat.{_+_, _≤_, min};
 ghost use lib.ListN.{length};
@@ -11,10 +12,10 @@ pub enum Number {
     Bad,
 }
 
-// What writing into a lent buffer comes to: the position after the last byte written, or a buffer that is too short.
+// What writing into a lent buffer comes to: the position after the last byte written, or why nothing was written.
 pub enum Written {
     End(usize),
-    Short,
+    Refused(Refusal),
 }
 
 pub fn wide(b: u8) -> u64

@@ -1,6 +1,7 @@
 // Decimal numbers without leading zeros, read and written.
 use crate::digits::Number;
 use crate::digits::Written;
+use crate::refusal::Refusal;
 ghost use mathlib.Core.Path.{_≡_};
 ghost use lib.Seq.{slice};
 ghost use Rattle.numerals.specs.Decimal.{number, width, decimal};
@@ -49,10 +50,10 @@ pub fn write_number(out: &mut [u8], at: usize, n: u64) -> Written
 {
     let w = decimal_width(n);
     if out.len() < at {
-        return Written::Short;
+        return Written::Refused(Refusal::ShortLoan);
     }
     if out.len() - at < w {
-        return Written::Short;
+        return Written::Refused(Refusal::ShortLoan);
     }
     crate::digits::write_digits(out, at, w, 10, n);
     Written::End(at + w)

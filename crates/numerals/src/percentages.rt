@@ -2,20 +2,20 @@
 use crate::digits::Number;
 ghost use mathlib.Core.Path.{_≡_};
 ghost use lib.Seq.{slice};
-ghost use Prim.Native.Nat.{_^_, _≤_, min};
+ghost use Prim.Native.Nat.{_-_, _^_, _≤_};
 ghost use lib.ListN.{length};
 ghost use Rattle.numerals.specs.Percentage.{percentage, fraction, atMostAll};
 
-// Ten to the power of n, for n up to 4: the worth of a decimal place.
-fn scale(n: usize) -> u64
-    ensures { λ r. ⌜ r ≡ 10 ^ min n 4 ⌝ }
+// The worth of the last of n digits after the dot, in millionths.
+fn worth(n: usize) -> u64
+    ensures { λ r. ⌜ r ≡ 10 ^ (4 - n) ⌝ }
 {
     match n {
-        0 => 1,
-        1 => 10,
+        0 => 10000,
+        1 => 1000,
         2 => 100,
-        3 => 1000,
-        _ => 10000,
+        3 => 10,
+        _ => 1,
     }
 }
 
@@ -34,14 +34,19 @@ fn read_fraction(s: &[u8], from: usize, to: usize) -> Number
     let Number::Value(v) = read else {
         return Number::Bad;
     };
-    Number::Value(v * scale(4 - (to - from)))
+    Number::Value(v * worth(to - from))
 }
 
-// The percentage that stands between two positions.
+// The percentage that stands between two positions: what stands before the dot, and from there to the next, where there is
+// one dot at most.
 pub fn read_percentage(s: &[u8], from: usize, to: usize) -> Number
     ensures { λ r. ⌜ r ≡ percentage 4 (slice from to (now (s .entry))) ⌝ }
 {
     let end = crate::digits::least(to, s.len());
+    let parts = crate::text::count_fields(s, from, end, 46);
+    if 2 < parts {
+        return Number::Bad;
+    }
     let dot = crate::text::find(s, from, end, 46);
     let whole = crate::numbers::read_number(s, from, dot, 0, 999);
     let Number::Value(w) = whole else {
@@ -50,7 +55,8 @@ pub fn read_percentage(s: &[u8], from: usize, to: usize) -> Number
     if end <= dot {
         return at_most_all(w * 10000);
     }
-    let fraction = read_fraction(s, dot + 1, end);
+    let next = crate::text::find(s, dot + 1, end, 46);
+    let fraction = read_fraction(s, dot + 1, next);
     let Number::Value(f) = fraction else {
         return Number::Bad;
     };

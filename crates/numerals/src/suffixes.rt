@@ -1,11 +1,13 @@
 // Suffixes and their tree places.
 use crate::digits::Number;
 use crate::digits::Written;
+use crate::refusal::Refusal;
 ghost use mathlib.Core.Path.{_≡_};
-ghost use Prim.Native.Nat.{min};
 ghost use lib.Seq.{slice};
-ghost use Rattle.numerals.specs.Digits.{put, putEnd};
-ghost use Rattle.numerals.specs.Suffix.{suffix, suffixText, place};
+ghost use Rattle.numerals.specs.Suffix.{isSuffix, suffix, putSuffix, putSuffixEnd, suffixPlace};
+
+// The most bits that a suffix has.
+const MOST_BITS: usize = 12;
 
 // What reading a suffix finds: its number of bits and the bits as a number, the last bit lowest.
 pub enum SuffixRead {
@@ -13,10 +15,27 @@ pub enum SuffixRead {
     Bad,
 }
 
-// The suffix of at most k bits, and never more than 12, that stands between two positions.
+// The length and the value are those of a suffix.
+fn is_suffix(len: usize, value: usize) -> bool
+    ensures { λ r. ⌜ r ≡ isSuffix len value ⌝ }
+{
+    if MOST_BITS < len {
+        return false;
+    }
+    let all: usize = 1 << len;
+    value < all
+}
+
+// The suffix of at most k bits that stands between two positions; k is from 1 to 12.
 pub fn read_suffix(s: &[u8], from: usize, to: usize, k: usize) -> SuffixRead
     ensures { λ r. ⌜ r ≡ suffix k (slice from to (now (s .entry))) ⌝ }
 {
+    if k < 1 {
+        return SuffixRead::Bad;
+    }
+    if MOST_BITS < k {
+        return SuffixRead::Bad;
+    }
     let end = crate::digits::least(to, s.len());
     if end <= from {
         return SuffixRead::Bad;
@@ -25,7 +44,7 @@ pub fn read_suffix(s: &[u8], from: usize, to: usize, k: usize) -> SuffixRead
         return SuffixRead::Bad;
     }
     let len = end - from - 1;
-    if crate::digits::least(k, 12) < len {
+    if k < len {
         return SuffixRead::Bad;
     }
     let read = crate::digits::read_digits(s, from + 1, end, 2, 4095);
@@ -38,31 +57,35 @@ pub fn read_suffix(s: &[u8], from: usize, to: usize, k: usize) -> SuffixRead
     }
 }
 
-// The text of a suffix of len bits, at most 12, written into a lent buffer at a position.
+// The text of a suffix of len bits, written into a lent buffer at a position.
 pub fn write_suffix(out: &mut [u8], at: usize, len: usize, value: usize) -> Written
-    ensures answer { λ r. ⌜ r ≡ putEnd (now (out .entry)) at (suffixText (min len 12) value) ⌝ }
-    ensures buffer { λ _. ⌜ now (out .exit) ≡ put (now (out .entry)) at (suffixText (min len 12) value) ⌝ }
+    ensures answer { λ r. ⌜ r ≡ putSuffixEnd (now (out .entry)) at len value ⌝ }
+    ensures buffer { λ _. ⌜ now (out .exit) ≡ putSuffix (now (out .entry)) at len value ⌝ }
 {
-    let l = crate::digits::least(len, 12);
+    if !is_suffix(len, value) {
+        return Written::Refused(Refusal::BadField);
+    }
     let room = out.len();
     if room <= at {
-        return Written::Short;
+        return Written::Refused(Refusal::ShortLoan);
     }
-    if room - at - 1 < l {
-        return Written::Short;
+    if room - at - 1 < len {
+        return Written::Refused(Refusal::ShortLoan);
     }
     out[at] = 42;
     let bits = at + 1;
-    crate::digits::write_digits(out, bits, l, 2, value as u64);
-    let end = bits + l;
+    crate::digits::write_digits(out, bits, len, 2, value as u64);
+    let end = bits + len;
     Written::End(end)
 }
 
-// The tree place of the suffix that the len lowest bits of value make; a length above 12 counts as 12.
-pub fn suffix_place(len: usize, value: usize) -> usize
-    ensures { λ r. ⌜ r ≡ place (min len 12) value ⌝ }
+// The tree place of a suffix, read from that of twelve bits.
+pub fn suffix_place(len: usize, value: usize) -> Number
+    ensures { λ r. ⌜ r ≡ suffixPlace len value ⌝ }
 {
-    let l = crate::digits::least(len, 12);
-    let whole: usize = 1 << l;
-    crate::places::place_of_twelve(value % whole) >> (12 - l)
+    if !is_suffix(len, value) {
+        return Number::Bad;
+    }
+    let place = crate::places::place_of_twelve(value) >> (MOST_BITS - len);
+    Number::Value(place as u64)
 }

@@ -59,6 +59,7 @@ module _ (table : List ℕ) (n : ℕ) (room : 4 * n ≤ length table) where
         room = room;
         service = λ j h. at j h .service;
         short = λ j h. omega (arith, at j h .short);
+        bits = λ j h. at j h .bits;
         backend = λ j h. at j h .backend;
       }
 

@@ -114,7 +114,7 @@ only text t e =
 
 -- From the table to the text and back: what was written passes.
 
-module _ (k : ℕ) (few : k ≤ 12) where
+module _ (k : ℕ) (some : 1 ≤ k) (few : k ≤ 12) where
   line-back : (before : List Line) (at : ℕ) (l : Line) → Follows k before l → ruleFields k before at (lineRow l) ≡ got l
   unfolding ruleFields placed unless onField onSuffix
   line-back before at l f =
@@ -123,7 +123,7 @@ module _ (k : ℕ) (few : k ≤ 12) where
       let backend : l .rule .backend + 1 - 1 ≡ l .rule .backend = omega arith in
       rw (
         reads-back 1 64 (l .service + 1) (omega arith) (omega (arith, limits .service)),
-        suffix-back k (l .rule .len) (l .rule .value) (omega (arith, limits .short)) (limits .short) (limits .bits),
+        suffix-back k (l .rule .len) (l .rule .value) some few (limits .short) (limits .bits),
         reads-back 1 32 (l .rule .backend + 1) (omega arith) (omega (arith, limits .backend)),
         service,
         backend,
@@ -181,7 +181,7 @@ table-back t p =
     ∙ rw (
       head-split (t .k) n (t .total),
       head-back t p,
-      rows-back (t .k) (p .few-bits) [] (t .lines) (p .sorted),
+      rows-back (t .k) (p .bits) (p .few-bits) [] (t .lines) (p .sorted),
       length-reverse (t .lines),
       lt-ltb 0 n (p .some),
       eq-eqb n n refl,
@@ -198,7 +198,7 @@ table-short t p =
       width-least 1 (t .k) (omega (arith, p .few-bits)),
       width-least 3 (length (t .lines)) (omega (arith, p .few)),
       width-least 15 (t .total) (omega (arith, p .small)),
-      lines-short (t .k) (p .few-bits) [] (t .lines) (p .sorted),
+      lines-short (t .k) (p .bits) (p .few-bits) [] (t .lines) (p .sorted),
       p .few,
     )
 

@@ -7,7 +7,7 @@ use lib.Dec.{ltb, eqb}
 use lib.ListN.{length, getD, take}
 use Rattle.numerals.specs.Pick.{pick}
 use Rattle.expansion.specs.Sums.{countTo}
-use Rattle.expansion.specs.Refusals.{no}
+use Rattle.numerals.specs.Refusals.{no8, no12}
 use Rattle.packing.specs.Count.{Line}
 use Rattle.packing.specs.Answer.{cells}
 use Rattle.sheets.specs.Reading.{Reading, got, turned, then}
@@ -33,11 +33,12 @@ use Rattle.sheets.specs.declared.rule_sheet.SheetLines.the-variants.{Tab
 abbrev pub lineAt : List ℕ → ℕ → Line
 lineAt table i = line (getD table (4 * i) 0) (getD table (4 * i + 1) 0) (getD table (4 * i + 2) 0) (getD table (4 * i + 3) 0)
 
--- there are n lines, with services, lengths and backends in their limits
+-- there are n lines, with services, suffixes and backends in their limits
 pub record Limited (table : List ℕ) (n : ℕ) : Type 0 where
   pub room : 4 * n ≤ length table
   pub service : (i : ℕ) → i < n → getD table (4 * i) 0 < 64
   pub short : (i : ℕ) → i < n → getD table (4 * i + 1) 0 ≤ 12
+  pub bits : (i : ℕ) → i < n → getD table (4 * i + 2) 0 < 2 ^ (getD table (4 * i + 1) 0)
   pub backend : (i : ℕ) → i < n → getD table (4 * i + 3) 0 < 32
 
 -- the number from 1 of the backend that the service with this number from 1 has for a suffix, 0 where there is none
@@ -54,9 +55,9 @@ comparedOf k old k′ new n =
     pick (ltb 0 (firstOf old n 0))
     (pick (ltb 0 (firstOf new n 0))
     (pick (eqb k k′) (churned-variants.Moved (movedOf k old new n))
-    (churned-variants.Refused (refusedAt (no 12) 0) 0))
-    (churned-variants.Refused (refusedAt (no 8) 0) 2))
-    (churned-variants.Refused (refusedAt (no 8) 0) 1)
+    (churned-variants.Refused (refusedAt no12 0) 0))
+    (churned-variants.Refused (refusedAt no8 0) 2))
+    (churned-variants.Refused (refusedAt no8 0) 1)
 
 -- what reading a rule sheet answers
 unfoldable pub sheetAnswer : Reading Table → sheet-lines.SheetLines

@@ -4,11 +4,11 @@ use crate::answer::Refused;
 use crate::order::Last;
 use crate::order::Placed;
 use expansion::Checked;
-use expansion::Refusal;
+use numerals::Refusal;
 use numerals::Written;
 ghost use mathlib.Core.Path.{_≡_};
 ghost use mathlib.Core.List.{List, [], _∷_, _++_};
-ghost use Prim.Native.Nat.{_+_, _*_, _≤_, _<_};
+ghost use Prim.Native.Nat.{_+_, _*_, _^_, _≤_, _<_};
 ghost use lib.ListN.{length};
 ghost use Rattle.numerals.specs.Decimal.{decimal};
 ghost use Rattle.numerals.specs.Suffix.{suffixText};
@@ -58,7 +58,7 @@ fn separate(out: &mut [u8], written: Written, separator: u8) -> usize
             out[end] = separator;
             end + 1
         }
-        Written::Short => 0,
+        Written::Refused(_) => 0,
     }
 }
 
@@ -73,7 +73,7 @@ fn put_number(out: &mut [u8], at: usize, n: u64, separator: u8) -> usize
 
 // A suffix and a space behind it; the position after them.
 fn put_suffix(out: &mut [u8], at: usize, len: usize, value: usize) -> usize
-    requires { ⌜ (len ≤ 12) × (at + (len + 1) < length (now out)) ⌝ }
+    requires { ⌜ ((len ≤ 12) × (value < 2 ^ len)) × (at + (len + 1) < length (now out)) ⌝ }
     ensures { λ r. ⌜ Wrote (now (out .entry)) (now (out .exit)) at r (suffixText len value ++ 32 ∷ []) ⌝ }
 {
     let written = numerals::write_suffix(out, at, len, value);
@@ -105,7 +105,7 @@ fn put_line(
     value: usize,
     backend: usize,
 ) -> usize
-    requires { ⌜ ((service < 64) × ((len ≤ 12) × (backend < 32))) × (at + lineWidth service len backend ≤ length (now out)) ⌝ }
+    requires { ⌜ (((service < 64) × ((len ≤ 12) × (backend < 32))) × (value < 2 ^ len)) × (at + lineWidth service len backend ≤ length (now out)) ⌝ }
     ensures { λ r. ⌜ Wrote (now (out .entry)) (now (out .exit)) at r (lineText (line service len value backend)) ⌝ }
 {
     let a = put_number(out, at, service as u64 + 1, 32);

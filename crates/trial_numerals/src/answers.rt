@@ -1,5 +1,6 @@
 // The answers to vectors of numbers, percentages, suffixes, places, lines and fields.
 use numerals::Number;
+use numerals::Refusal;
 use numerals::SuffixRead;
 use numerals::Written;
 use vectors::header;
@@ -17,6 +18,15 @@ fn value(read: Number) {
     }
 }
 
+// Why a writer wrote nothing.
+fn refused(why: Refusal) {
+    match why {
+        Refusal::BadField => print::bytes(b"bad"),
+        Refusal::ShortLoan => print::bytes(b"short"),
+        _ => print::refused(why),
+    }
+}
+
 // What a writer answered, and the buffer afterwards.
 fn written(answer: Written, buffer: &[u8]) {
     match answer {
@@ -24,7 +34,7 @@ fn written(answer: Written, buffer: &[u8]) {
             print::bytes(b"end");
             print::field(end as u64);
         }
-        Written::Short => print::bytes(b"short"),
+        Written::Refused(why) => refused(why),
     }
     print::bytes(b" ");
     print::bytes(buffer);
@@ -61,14 +71,22 @@ fn read_suffix(text: &[u8], k: usize) {
             print::bytes(b"suffix");
             print::field(len as u64);
             print::field(value as u64);
-            place(len, value);
+            if let Number::Value(place) = numerals::suffix_place(len, value) {
+                print::field(place);
+            }
         }
         SuffixRead::Bad => print::bytes(b"bad"),
     }
 }
 
-fn place(len: usize, value: usize) {
-    print::field(numerals::suffix_place(len, value) as u64);
+fn place(h: Header) {
+    match numerals::suffix_place(h.first as usize, h.second as usize) {
+        Number::Value(place) => {
+            print::bytes(b"place");
+            print::field(place);
+        }
+        Number::Bad => print::bytes(b"bad"),
+    }
 }
 
 fn next_line_feed(payload: &[u8], from: usize) {
@@ -117,10 +135,7 @@ pub fn answer(s: &[u8]) {
         b'W' => write_number(h),
         b'S' => read_suffix(text, h.first as usize),
         b'T' => write_suffix(h),
-        b'X' => {
-            print::bytes(b"place");
-            place(h.first as usize, h.second as usize);
-        }
+        b'X' => place(h),
         b'L' => next_line_feed(text, h.first as usize),
         b'F' => fields(text),
         _ => print::bytes(b"unknown vector"),

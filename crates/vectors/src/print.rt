@@ -1,7 +1,7 @@
 // Parts of an answer, on standard output.
 use crate::walk;
-use expansion::Refusal;
 use libc::STDOUT_FILENO;
+use numerals::Refusal;
 use numerals::Written;
 
 pub fn bytes(s: &[u8]) {
@@ -38,14 +38,14 @@ pub fn suffix(len: usize, value: usize) {
     let text: &mut [u8] = &mut array;
     match numerals::write_suffix(text, 0, len, value) {
         Written::End(end) => bytes(walk::start(text, end)),
-        Written::Short => bytes(b"short"),
+        Written::Refused(why) => refused(why),
     }
 }
 
 // The answer to numbers that are turned back.
 pub fn refused(why: Refusal) {
     bytes(b"refused");
-    field(expansion::refusal_number(why));
+    field(numerals::refusal_number(why));
 }
 
 // A number that counts from 1, by its place from 0.

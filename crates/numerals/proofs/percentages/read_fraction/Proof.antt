@@ -1,6 +1,6 @@
 -- `percentages::read_fraction` meets its contract: one to four digits, times the worth of the last of them.
 -- Assumes nothing.
-use Prim.Native.Nat.{_-_, _*_, _^_, _≤_, min}
+use Prim.Native.Nat.{_-_, _*_, _^_, _≤_}
 use native.Mathlib.Nat.{le-trans, le-of-eq, pow-le-pow-right, mul-le-mul}
 use native.Mathlib.Omega.{arith}
 use mathlib.Core.Path.{_≡_, sym, ap, _∙_}
@@ -54,35 +54,23 @@ returns-3 : tie.Need-returns-3
 unfolding onValue
 returns-3 c = sym (whole (c .before .before) ∙ rw (c .enum-told .given .1))
 
-sub-scale : tie.Need-sub-scale
-sub-scale c = search needs
+sub-worth : tie.Need-sub-worth
+sub-worth c = search needs
 
-sub-scale-2 : tie.Need-sub-scale-2
-sub-scale-2 c = search needs
+worth-requires : tie.Need-worth-requires
+worth-requires c κs = search needs
 
-scale-requires : tie.Need-scale-requires
-scale-requires c κs = search needs
-
--- the worth of the last digit
-worth :
-    (c : tie.After-scale)
-    → let a = c .before .before .before .before .before .before .before .before .args in c .scale .result ≡ 10 ^ (4 - (a .to - a .from))
-worth c =
-    let a = c .before .before .before .before .before .before .before .before .args in
-    let few : min (4 - (a .to - a .from)) 4 ≡ 4 - (a .to - a .from) = omega arith in
-    c .scale .ensures ∙ ap (λ k. 10 ^ k) few
-
-mul-t10 : tie.Need-mul-t10
-mul-t10 c =
+mul-t9 : tie.Need-mul-t9
+mul-t9 c =
     let a = c .before .before .before .before .before .before .before .before .args in
     let r = c .before .before .before .before in
     let v : c .before .before .read .given .0 .0 ≤ 9999 = read-limit 10 9999 _ (slice (a .from) (a .to) (a .s .now)) (sym (r .read-digits .ensures) ∙ c .before .before .read .given .1) in
-    let w : c .scale .result ≤ 10000 = le-trans (le-of-eq (worth c)) (pow-le-pow-right {n = 10} (omega arith) {j = 4} (omega arith)) in
+    let w : c .worth .result ≤ 10000 = le-trans (le-of-eq (c .worth .ensures)) (pow-le-pow-right {n = 10} (omega arith) {j = 4} (omega arith)) in
     omega (arith, mul-le-mul v w)
 
 returns-4 : tie.Need-returns-4
 unfolding onValue
-returns-4 c = sym (whole (c .before .before .before .before) ∙ rw (c .before .before .read .given .1, worth c))
+returns-4 c = sym (whole (c .before .before .before .before) ∙ rw (c .before .before .read .given .1, c .worth .ensures))
 
 pub read-fraction-spec : {M : Type 1} → statement M
 read-fraction-spec =
@@ -95,8 +83,7 @@ read-fraction-spec =
     enum-known-read
     enum-told
     returns-3
-    sub-scale
-    sub-scale-2
-    scale-requires
-    mul-t10
+    sub-worth
+    worth-requires
+    mul-t9
     returns-4)

@@ -33,7 +33,7 @@ put-suffix-requires : tie.Need-put-suffix-requires
 put-suffix-requires c κs =
     let s = c .before .before .before .before .before .before in
     let w = c .before .before .before .put-number .ensures in (
-      s .pre .0 .1 .0,
+      (s .pre .0 .0 .1 .0, s .pre .0 .1),
       omega (
         arith,
         s .pre .1,
@@ -45,7 +45,7 @@ put-suffix-requires c κs =
     )
 
 add-put-number-2 : tie.Need-add-put-number-2
-add-put-number-2 c = omega (arith, c .before .before .before .before .before .before .before .before .before .before .pre .0 .1 .1)
+add-put-number-2 c = omega (arith, c .before .before .before .before .before .before .before .before .before .before .pre .0 .0 .1 .1)
 
 put-number-requires-2 : tie.Need-put-number-requires-2
 put-number-requires-2 c κs =

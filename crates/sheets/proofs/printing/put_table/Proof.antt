@@ -97,7 +97,7 @@ put-line-requires c κs =
     let l = c .before .before .before .before .before .before .loop in
     let i = s .args .n - l .left in
     let h : i < s .args .n = omega (arith, c .before .before .before .before .before .loop-test .taken, l .inv .0) in (
-      (L .service i h, (L .short i h, L .backend i h)),
+      ((L .service i h, (L .short i h, L .backend i h)), L .bits i h),
       omega (arith, l .inv .1 .room, width-more (s .args .table .now) (s .args .n) L i h),
     )
 
