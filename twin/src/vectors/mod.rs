@@ -80,6 +80,28 @@ pub fn write(name: &str, folder: &Path) -> Result<usize, String> {
 mod tests {
     use super::*;
 
+    /// The answer to one record.
+    fn said(name: &str, header: &str, payload: &str) -> String {
+        let mut records = Records::default();
+        records.add(header, payload.as_bytes());
+        answer(name, records.bytes()).unwrap()
+    }
+
+    #[test]
+    fn what_makes_no_suffix_is_bad() {
+        let said = |header, payload| said("numerals", header, payload);
+        assert_eq!(said("S 1", "*0"), "suffix 1 0 0\n");
+        assert_eq!(said("S 0", "*"), "bad\n");
+        assert_eq!(said("S 13", "*"), "bad\n");
+        assert_eq!(said("X 12 4095", ""), "place 4095\n");
+        assert_eq!(said("X 12 4096", ""), "bad\n");
+        assert_eq!(said("X 13 0", ""), "bad\n");
+        assert_eq!(said("T 2 3 1 5", ""), "end 4 .*11.\n");
+        assert_eq!(said("T 2 3 1 3", ""), "short ...\n");
+        assert_eq!(said("T 2 4 1 3", ""), "bad ...\n");
+        assert_eq!(said("T 18446744073709551615 0 0 0", ""), "bad \n");
+    }
+
     #[test]
     fn each_record_has_one_answer_line_and_the_bytes_never_change() {
         for kind in &KINDS {
