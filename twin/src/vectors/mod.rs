@@ -1,5 +1,6 @@
 //! Test vectors: the files `stdin` (the vectors) and `stdout` (the answers).
 
+mod counts;
 pub mod expansion;
 pub mod numerals;
 pub mod packing;
@@ -100,6 +101,17 @@ mod tests {
         assert_eq!(said("T 2 3 1 3", ""), "short ...\n");
         assert_eq!(said("T 2 4 1 3", ""), "bad ...\n");
         assert_eq!(said("T 18446744073709551615 0 0 0", ""), "bad \n");
+    }
+
+    #[test]
+    fn a_count_shows_its_whole_buffer() {
+        let said = |header| said("sheets", header, "TABLE 2 2 0\n1 *1 32\n1 * 3\n");
+        let (none, behind) = (" 0".repeat(28), " 9999".repeat(4));
+        let counts = format!(" counts 0 0 2{none} 2");
+        assert_eq!(said("C 1 32"), format!("shares 2{counts}{behind}\n"));
+        assert_eq!(said("C 1 33"), format!("shares 2{counts} 9999{behind}\n"));
+        assert_eq!(said("C 2 0"), format!("REFUSED 8 0 counts{behind}\n"));
+        assert_eq!(said("C 1 1"), format!("REFUSED 7 0 counts 9999{behind}\n"));
     }
 
     #[test]
