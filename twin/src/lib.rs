@@ -14,6 +14,7 @@ pub mod percentage_sheet;
 pub mod plan;
 pub mod random;
 pub mod refusal;
+pub mod rows;
 pub mod rule_sheet;
 pub mod sheet_lines;
 pub mod suffix;

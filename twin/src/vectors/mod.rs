@@ -7,6 +7,7 @@ pub mod packing;
 pub mod percentage_sheets;
 mod plans;
 pub mod records;
+mod rows;
 mod rule_sheets;
 pub mod shapes;
 pub mod sheets;
@@ -126,6 +127,15 @@ mod tests {
         assert_eq!(said("W 0 0 2", "0 0 0 1 1"), "REFUSED 2 0 ......\n");
         assert_eq!(said("W 0 0 2", "0 65536 0 1"), "REFUSED 11 0 ......\n");
         assert_eq!(said("W 5 0 0", ""), "REFUSED 2 0 ....\n");
+    }
+
+    #[test]
+    fn rows_are_answered_as_lines_are() {
+        let said = |header, payload| said("packing", header, payload);
+        let packed = said("K 1 0 9", "7 500000 500000\n8 1000000\n");
+        assert_eq!(said("Q 1 0 9", "7 8\n2 1\n500000 500000 1000000\n"), packed);
+        assert_eq!(said("Q 1 0 9", "\n\n\n"), "refused 5\n");
+        assert_eq!(said("Q 1 0 9", "\n\n1\n"), "refused 1\n");
     }
 
     #[test]
