@@ -30,11 +30,16 @@ pub fn program(sheet: &[u8]) -> Vec<u8> {
     }
 }
 
-/// Lookup: the backend of the first matching line of a service.
-pub fn lookup(rules: &[u8], service: u64, address: u32) -> Result<u8, Refusal> {
+/// Lookup: the backend of the first matching line of a service for an address,
+/// which has 32 bits.
+pub fn lookup(rules: &[u8], service: u64, address: u64) -> Result<u8, Refusal> {
     let table = rule_sheet::read(rules)?;
+    if table.lines_of(service).is_empty() {
+        return Err(Reason::UnknownService.at(0));
+    }
+    let address = u32::try_from(address).map_err(|_| Reason::BadField.at(0))?;
     let backend = table.backend(service, address);
-    backend.ok_or(Reason::UnknownService.at(0))
+    Ok(backend.expect("a service ends in its `*`, which matches every address"))
 }
 
 /// A refusal of a call on two sheets, with the sheet that it is about: 1 or 2,
@@ -122,11 +127,20 @@ mod tests {
     #[test]
     fn lookup_takes_the_first_matching_line() {
         assert_eq!(lookup(RULES, 1, 0), Ok(2));
-        assert_eq!(lookup(RULES, 1, u32::MAX), Ok(3));
+        assert_eq!(lookup(RULES, 1, u64::from(u32::MAX)), Ok(3));
         assert_eq!(lookup(RULES, 2, 4), Ok(2));
         assert_eq!(lookup(RULES, 2, 2), Ok(1));
         for service in [0, 3, 65, u64::MAX] {
             assert_eq!(lookup(RULES, service, 0), Err(Reason::UnknownService.at(0)));
+        }
+    }
+
+    #[test]
+    fn an_address_of_more_than_32_bits_comes_after_an_unknown_service() {
+        for address in [1 << 32, u64::MAX] {
+            assert_eq!(lookup(RULES, 1, address), Err(Reason::BadField.at(0)));
+            assert_eq!(lookup(RULES, 3, address), Err(Reason::UnknownService.at(0)));
+            assert_eq!(lookup(b"", 1, address), Err(Reason::Malformed.at(1)));
         }
     }
 

@@ -1,6 +1,7 @@
 //! The Rust twin: document 01 written once more, to be tried against.
 
 pub mod calls;
+pub mod commands;
 pub mod count;
 pub mod expansion;
 pub mod handed;

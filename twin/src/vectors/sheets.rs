@@ -20,7 +20,7 @@ pub fn answer(record: &Record) -> Option<String> {
         }
         ("U", &[]) => Some(shown(read(text).map(|_| "ok"))),
         ("L", &[service, address]) => {
-            let backend = lookup(text, service, u32::try_from(address).ok()?);
+            let backend = lookup(text, service, address);
             Some(shown(backend.map(|backend| format!("backend {backend}"))))
         }
         ("H", &[service, length]) => {
