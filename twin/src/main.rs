@@ -7,7 +7,8 @@ use std::path::Path;
 use std::process::ExitCode;
 use twin::commands::{read_file, Command, USAGE};
 
-const TOOLS: &str = "tools: twin vectors KIND OUTDIR | twin answer KIND | twin hostile SEED COUNT";
+const TOOLS: &str = "tools: twin vectors KIND OUTDIR | twin answer KIND
+       twin hostile SEED COUNT | twin cases SEED COUNT OUTDIR";
 
 fn main() -> ExitCode {
     let words: Vec<OsString> = std::env::args_os().skip(1).collect();
@@ -50,13 +51,22 @@ fn tool(words: &[&str]) -> Result<Vec<u8>, String> {
             Ok(answers.into_bytes())
         }
         ["hostile", seed, count] => {
-            let seed = seed.parse().map_err(|_| usage())?;
-            let count = count.parse().map_err(|_| usage())?;
+            let (seed, count) = numbers(seed, count).ok_or_else(usage)?;
             let records = twin::vectors::percentage_sheets::hostile(seed, count);
             Ok(records.bytes().to_vec())
         }
+        ["cases", seed, count, folder] => {
+            let (seed, count) = numbers(seed, count).ok_or_else(usage)?;
+            let written = twin::vectors::cases::write(seed, count, Path::new(folder));
+            written.map_err(|error| error.to_string())?;
+            Ok(Vec::new())
+        }
         _ => Err(usage()),
     }
+}
+
+fn numbers(seed: &str, count: &str) -> Option<(u64, usize)> {
+    Some((seed.parse().ok()?, count.parse().ok()?))
 }
 
 /// All of standard input.

@@ -1,5 +1,6 @@
 //! Test vectors: the files `stdin` (the vectors) and `stdout` (the answers).
 
+pub mod cases;
 mod counts;
 pub mod expansion;
 pub mod numerals;
