@@ -1,10 +1,11 @@
-//! The calls on texts: the one call, lookup and churn.
+//! The calls on texts: the one call, lookup, churn and the count.
 
+use crate::limits::MOST_BACKENDS;
 use crate::packing::{pack_checked, Packing};
 use crate::refusal::{Reason, Refusal};
 use crate::rule_sheet::{lend, text_of};
 use crate::table::Table;
-use crate::{percentage_sheet, rule_sheet};
+use crate::{count, percentage_sheet, rule_sheet};
 use std::fmt;
 
 /// The one call: a percentage sheet in, its table and its figures out.
@@ -29,11 +30,16 @@ pub fn program(sheet: &[u8]) -> Vec<u8> {
     }
 }
 
-/// Lookup: the backend of the first matching line of a service.
-pub fn lookup(rules: &[u8], service: u64, address: u32) -> Result<u8, Refusal> {
+/// Lookup: the backend of the first matching line of a service for an address,
+/// which has 32 bits.
+pub fn lookup(rules: &[u8], service: u64, address: u64) -> Result<u8, Refusal> {
     let table = rule_sheet::read(rules)?;
+    if table.lines_of(service).is_empty() {
+        return Err(Reason::UnknownService.at(0));
+    }
+    let address = u32::try_from(address).map_err(|_| Reason::BadField.at(0))?;
     let backend = table.backend(service, address);
-    backend.ok_or(Reason::UnknownService.at(0))
+    Ok(backend.expect("a service ends in its `*`, which matches every address"))
 }
 
 /// A refusal of a call on two sheets, with the sheet that it is about: 1 or 2,
@@ -73,6 +79,24 @@ fn unlike(old: &Table, new: &Table, service: u64) -> u64 {
     old.iter().zip(&new).filter(|(a, b)| a != b).count() as u64
 }
 
+/// The count by first match over a sheet's lines: writes how many of the 2^k
+/// suffixes of a service each of 32 backends is given, and returns k; nothing
+/// is written if the call is refused.
+pub fn count_shares(rules: &[u8], service: u64, counts: &mut [u64]) -> Result<u8, Refusal> {
+    let table = rule_sheet::read(rules)?;
+    let lines = table.lines_of(service);
+    if lines.is_empty() {
+        return Err(Reason::UnknownService.at(0));
+    }
+    let own = lines.iter().map(|line| &line.rule);
+    let shares = count::shares(table.k, MOST_BACKENDS as usize, own);
+    let front = counts.get_mut(..shares.len());
+    front
+        .ok_or(Reason::ShortLoan.at(0))?
+        .copy_from_slice(&shares);
+    Ok(table.k)
+}
+
 #[cfg(test)]
 mod tests {
     use super::*;
@@ -103,11 +127,20 @@ mod tests {
     #[test]
     fn lookup_takes_the_first_matching_line() {
         assert_eq!(lookup(RULES, 1, 0), Ok(2));
-        assert_eq!(lookup(RULES, 1, u32::MAX), Ok(3));
+        assert_eq!(lookup(RULES, 1, u64::from(u32::MAX)), Ok(3));
         assert_eq!(lookup(RULES, 2, 4), Ok(2));
         assert_eq!(lookup(RULES, 2, 2), Ok(1));
         for service in [0, 3, 65, u64::MAX] {
             assert_eq!(lookup(RULES, service, 0), Err(Reason::UnknownService.at(0)));
+        }
+    }
+
+    #[test]
+    fn an_address_of_more_than_32_bits_comes_after_an_unknown_service() {
+        for address in [1 << 32, u64::MAX] {
+            assert_eq!(lookup(RULES, 1, address), Err(Reason::BadField.at(0)));
+            assert_eq!(lookup(RULES, 3, address), Err(Reason::UnknownService.at(0)));
+            assert_eq!(lookup(b"", 1, address), Err(Reason::Malformed.at(1)));
         }
     }
 
@@ -148,6 +181,41 @@ mod tests {
                 assert_eq!(churn(&text_of(&old), &text_of(&new), service), Ok(expected));
             }
         }
+    }
+
+    #[test]
+    fn the_count_is_of_what_lookup_answers() {
+        let mut random = Random::new(37);
+        for turn in 0..120 {
+            let table = rule_table(&mut random, 1 + turn % 12, 3);
+            let text = text_of(&table);
+            let service = u64::from(random.pick(&table.lines).service);
+            let mut counts = [99; 33];
+            assert_eq!(count_shares(&text, service, &mut counts), Ok(table.k));
+            for s in 0..1 << table.k {
+                let backend = table.backend(service, s).unwrap();
+                counts[usize::from(backend) - 1] -= 1;
+            }
+            assert_eq!(counts[..32], [0; 32]);
+            assert_eq!(counts[32], 99);
+        }
+    }
+
+    #[test]
+    fn a_refused_count_writes_nothing() {
+        let mut counts = [99; 32];
+        for (text, service, room, expected) in [
+            (RULES, 1, 31, Reason::ShortLoan.at(0)),
+            (RULES, 0, 32, Reason::UnknownService.at(0)),
+            (RULES, 65, 0, Reason::UnknownService.at(0)),
+            (RULES, u64::MAX, 31, Reason::UnknownService.at(0)),
+            (b"TABLE 5 1 0\n1 *0 1\n", 2, 0, Reason::Order.at(2)),
+            (b"", 1, 32, Reason::Malformed.at(1)),
+        ] {
+            let answer = count_shares(text, service, &mut counts[..room]);
+            assert_eq!(answer, Err(expected));
+        }
+        assert_eq!(counts, [99; 32]);
     }
 
     #[test]

@@ -3,7 +3,10 @@
 //! services and backends count from 0.
 
 use crate::expansion::Rule;
-use crate::limits::{MOST_BACKENDS, MOST_BITS, MOST_CAPACITY, MOST_SERVICES, MOST_TOTAL};
+use crate::limits::{
+    MOST_BACKENDS, MOST_BITS, MOST_BYTES, MOST_CAPACITY, MOST_SERVICES, MOST_TOTAL,
+};
+use crate::numerals::number_width;
 use crate::refusal::{Reason, Refusal};
 use crate::rule_sheet::{lend, text_of};
 use crate::suffix::Suffix;
@@ -22,16 +25,17 @@ pub fn numbers_of(lines: &[RuleLine]) -> Vec<u64> {
     numbers
 }
 
-/// The table that is handed over, checked as its sheet would be; numbers that
-/// don't make whole lines are no table.
+/// The table that is handed over, checked as its sheet would be; numbers left
+/// over are a last line of too few fields.
 pub fn table_of(k: u64, total: u64, numbers: &[u64]) -> Result<Table, Reason> {
     let (lines, rest) = numbers.as_chunks::<4>();
-    if !rest.is_empty() {
-        return Err(Reason::Malformed);
+    let n = lines.len() as u64 + u64::from(!rest.is_empty());
+    if text_length([k, n, total], lines, rest) > MOST_BYTES as u128 {
+        return Err(Reason::TooLong);
     }
     let head = [
         (k, 1, MOST_BITS),
-        (lines.len() as u64, 1, MOST_CAPACITY),
+        (n, 1, MOST_CAPACITY),
         (total, 0, MOST_TOTAL),
     ];
     if head
@@ -51,11 +55,27 @@ pub fn table_of(k: u64, total: u64, numbers: &[u64]) -> Result<Table, Reason> {
         order.admit(&line)?;
         table.lines.push(line);
     }
-    if order.complete() {
-        Ok(table)
-    } else {
+    if !rest.is_empty() {
+        Err(Reason::Malformed)
+    } else if !order.complete() {
         Err(Reason::Order)
+    } else {
+        Ok(table)
     }
+}
+
+/// The length of the text that the numbers make, whatever they are: line 1,
+/// the whole lines, and a last line of the first number left over.
+fn text_length(head: [u64; 3], lines: &[[u64; 4]], rest: &[u64]) -> u128 {
+    let numeral = |number: u64| number_width(number) as u128;
+    // 2^64 has as many digits as the number before it.
+    let from_one = |number: u64| numeral(number.saturating_add(1));
+    let head = head.iter().map(|&number| 1 + numeral(number));
+    let line = |&[service, length, _, backend]: &[u64; 4]| {
+        from_one(service) + 2 + u128::from(length) + 1 + from_one(backend) + 1
+    };
+    let last = rest.first().map(|&number| from_one(number) + 1);
+    "TABLE\n".len() as u128 + head.chain(lines.iter().map(line)).chain(last).sum::<u128>()
 }
 
 /// One line, if each of its numbers is within its limits.
@@ -112,36 +132,72 @@ mod tests {
     }
 
     #[test]
-    fn numbers_that_make_no_table_come_before_everything() {
+    fn numbers_left_over_are_a_last_line_of_too_few_fields() {
         for length in [1, 2, 3, 5, 18, 19] {
-            for k in [0, 5, 13] {
-                let refusal = refused(k, MOST_TOTAL + 1, &NUMBERS[..length]);
-                assert_eq!(refusal, Reason::Malformed.at(0));
-            }
+            let numbers = &NUMBERS[..length];
+            assert_eq!(refused(5, TOTAL, numbers), Reason::Malformed.at(0));
+            assert_eq!(refused(13, TOTAL, numbers), Reason::BadField.at(0));
+            assert_eq!(refused(5, u64::MAX, numbers), Reason::BadField.at(0));
+        }
+        let behind = |line: [u64; 4]| refused(5, 0, &[&line[..], &[0, 0, 0]].concat());
+        assert_eq!(behind([0, 5, 0, 0]), Reason::Malformed.at(0));
+        assert_eq!(behind([0, 6, 0, 0]), Reason::BadField.at(0));
+        let stars = [0, 0, 0, 0, 0, 0, 0, 0, 0];
+        assert_eq!(refused(5, 0, &stars), Reason::Order.at(0));
+    }
+
+    #[test]
+    fn a_text_over_its_limit_comes_before_everything() {
+        for (length, reason) in [
+            (65_511, Reason::BadField),
+            (65_512, Reason::TooLong),
+            (1_000_000, Reason::TooLong),
+            (u64::MAX - 20, Reason::TooLong),
+            (u64::MAX, Reason::TooLong),
+        ] {
+            let numbers = [0, length, 0, 0, 0, 0, 0, 0, 0, 0];
+            assert_eq!(refused(13, 1, &numbers[..8]), reason.at(0));
+            assert_eq!(refused(13, 1_234_567, &numbers), Reason::TooLong.at(0));
+        }
+        let halves = [0, 1 << 63, 0, 0].repeat(2);
+        assert_eq!(refused(5, 0, &halves), Reason::TooLong.at(0));
+        for (lines, reason) in [(10_920, Reason::BadField), (10_921, Reason::TooLong)] {
+            assert_eq!(refused(5, 0, &[0, 0, 0, 0].repeat(lines)), reason.at(0));
         }
     }
 
     #[test]
     fn the_number_of_lines_comes_before_them() {
-        for lines in [0, 2_049, 20_000] {
+        for lines in [0, 2_049, 10_000] {
             let refusal = refused(5, 0, &[0, 0, 0, 0].repeat(lines));
             assert_eq!(refusal, Reason::BadField.at(0));
         }
         assert_eq!(refused(5, 0, &[0; 4 * 2_048]), Reason::Order.at(0));
     }
 
-    /// The sheet that numbers would have; what is no suffix is a `-`.
+    /// The sheet that numbers would have, where a value that its length can't
+    /// hold is as many signs that are no bits.
     fn sheet(k: u64, total: u64, numbers: &[u64]) -> String {
-        let mut text = format!("TABLE {k} {} {total}\n", numbers.len() / 4);
+        let mut text = format!("TABLE {k} {} {total}\n", numbers.len().div_ceil(4));
         for line in numbers.chunks(4) {
-            let (service, backend) = (u128::from(line[0]) + 1, u128::from(line[3]) + 1);
-            let suffix = match (line[1], line[2]) {
-                (0, 0) => "*".to_string(),
-                (length @ 1..=99, value) if u128::from(value) >> length == 0 => {
-                    format!("*{value:0width$b}", width = length as usize)
-                }
-                _ => "-".to_string(),
+            let from_one = |number: u64| (u128::from(number) + 1).to_string();
+            let &[service, length, value, backend] = line else {
+                text += &(from_one(line[0]) + "\n");
+                continue;
             };
+            let bit = |i: u64| {
+                if i < 64 && value >> i & 1 == 1 {
+                    '1'
+                } else {
+                    '0'
+                }
+            };
+            let mut suffix: String = (0..length.min(70_000)).rev().map(bit).collect();
+            suffix.insert(0, '*');
+            if length < 64 && value >> length != 0 {
+                suffix = "-".repeat(suffix.len());
+            }
+            let (service, backend) = (from_one(service), from_one(backend));
             text += &format!("{service} {suffix} {backend}\n");
         }
         text
@@ -159,9 +215,6 @@ mod tests {
                 0 => k = random.within(0, 14),
                 1 => total = random.any_size(),
                 _ => spoil_numbers(&mut random, &mut numbers),
-            }
-            if !numbers.len().is_multiple_of(4) {
-                continue;
             }
             let read = read(sheet(k, total, &numbers).as_bytes());
             let expected = read.map_err(|refusal| refusal.reason);

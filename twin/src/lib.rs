@@ -1,6 +1,7 @@
 //! The Rust twin: document 01 written once more, to be tried against.
 
 pub mod calls;
+pub mod commands;
 pub mod count;
 pub mod expansion;
 pub mod handed;
@@ -14,6 +15,7 @@ pub mod percentage_sheet;
 pub mod plan;
 pub mod random;
 pub mod refusal;
+pub mod rows;
 pub mod rule_sheet;
 pub mod sheet_lines;
 pub mod suffix;

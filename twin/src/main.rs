@@ -1,20 +1,24 @@
 //! The command `twin`.
 
+use std::ffi::OsString;
 use std::io::{Read, Write};
+use std::os::unix::ffi::OsStrExt;
 use std::path::Path;
 use std::process::ExitCode;
+use twin::commands::{read_file, Command, USAGE};
 
-const USAGE: &str =
-    "twin split | twin vectors KIND OUTDIR | twin answer KIND | twin hostile SEED COUNT";
+const TOOLS: &str = "tools: twin vectors KIND OUTDIR | twin answer KIND
+       twin hostile SEED COUNT | twin cases SEED COUNT OUTDIR";
 
 fn main() -> ExitCode {
-    let words: Vec<String> = std::env::args().skip(1).collect();
-    let words: Vec<&str> = words.iter().map(String::as_str).collect();
-    match run(&words) {
-        Ok(text) => match std::io::stdout().write_all(&text) {
-            Ok(()) => ExitCode::SUCCESS,
-            Err(_) => ExitCode::FAILURE,
-        },
+    let words: Vec<OsString> = std::env::args_os().skip(1).collect();
+    let words: Vec<&[u8]> = words.iter().map(|word| word.as_bytes()).collect();
+    let printed = run(&words).and_then(|text| {
+        let written = std::io::stdout().write_all(&text);
+        written.map_err(|error| error.to_string())
+    });
+    match printed {
+        Ok(()) => ExitCode::SUCCESS,
         Err(error) => {
             eprintln!("{error}");
             ExitCode::FAILURE
@@ -22,10 +26,22 @@ fn main() -> ExitCode {
     }
 }
 
-/// Does what the words ask and returns what is to be printed.
-fn run(words: &[&str]) -> Result<Vec<u8>, String> {
+/// Does what the words ask and returns what is to be printed: a command of the
+/// program, or a tool for the vectors.
+fn run(words: &[&[u8]]) -> Result<Vec<u8>, String> {
+    if let Some(command) = Command::of(words) {
+        return command.run(read_file);
+    }
+    let texts: Option<Vec<&str>> = words
+        .iter()
+        .map(|word| std::str::from_utf8(word).ok())
+        .collect();
+    tool(&texts.unwrap_or_default())
+}
+
+fn tool(words: &[&str]) -> Result<Vec<u8>, String> {
+    let usage = || format!("{USAGE}\n{TOOLS}");
     match words {
-        ["split"] => Ok(twin::calls::program(&standard_input()?)),
         ["vectors", kind, folder] => {
             let count = twin::vectors::write(kind, Path::new(folder))?;
             Ok(format!("{count} {kind} vectors\n").into_bytes())
@@ -35,13 +51,22 @@ fn run(words: &[&str]) -> Result<Vec<u8>, String> {
             Ok(answers.into_bytes())
         }
         ["hostile", seed, count] => {
-            let seed = seed.parse().map_err(|_| USAGE.to_string())?;
-            let count = count.parse().map_err(|_| USAGE.to_string())?;
+            let (seed, count) = numbers(seed, count).ok_or_else(usage)?;
             let records = twin::vectors::percentage_sheets::hostile(seed, count);
             Ok(records.bytes().to_vec())
         }
-        _ => Err(USAGE.to_string()),
+        ["cases", seed, count, folder] => {
+            let (seed, count) = numbers(seed, count).ok_or_else(usage)?;
+            let written = twin::vectors::cases::write(seed, count, Path::new(folder));
+            written.map_err(|error| error.to_string())?;
+            Ok(Vec::new())
+        }
+        _ => Err(usage()),
     }
+}
+
+fn numbers(seed: &str, count: &str) -> Option<(u64, usize)> {
+    Some((seed.parse().ok()?, count.parse().ok()?))
 }
 
 /// All of standard input.

@@ -8,10 +8,27 @@ fn digit(byte: u8) -> Option<u64> {
     byte.is_ascii_digit().then(|| u64::from(byte - b'0'))
 }
 
-/// Reads the whole text as a decimal number within `lo..=hi`:
-/// digits only and no leading zero, where a lone 0 is allowed.
+/// Whether a numeral may begin so: no leading zero, where a lone 0 is allowed.
+fn well_begun(text: &[u8]) -> bool {
+    matches!(text, [b'0'] | [b'1'..=b'9', ..])
+}
+
+/// Reads the whole text as a decimal number of any length; one that 64 bits
+/// can't hold counts as the greatest that they can.
+pub fn read_numeral(text: &[u8]) -> Option<u64> {
+    if !well_begun(text) {
+        return None;
+    }
+    let mut value = 0u64;
+    for &byte in text {
+        value = value.saturating_mul(10).saturating_add(digit(byte)?);
+    }
+    Some(value)
+}
+
+/// Reads the whole text as a decimal number within `lo..=hi`.
 pub fn read_number(text: &[u8], lo: u64, hi: u64) -> Option<u64> {
-    if text.is_empty() || (text.len() > 1 && text[0] == b'0') {
+    if !well_begun(text) {
         return None;
     }
     let mut value = 0u64;
@@ -103,6 +120,19 @@ mod tests {
         assert_eq!(read_number(top, 0, u64::MAX), Some(u64::MAX));
         assert_eq!(read_number(b"18446744073709551616", 0, u64::MAX), None);
         assert_eq!(read_number(&[b'9'; 60_000], 0, u64::MAX), None);
+    }
+
+    #[test]
+    fn numerals_of_any_length_are_numerals() {
+        for (text, value) in [("0", 0), ("10", 10), ("18446744073709551615", u64::MAX)] {
+            assert_eq!(read_numeral(text.as_bytes()), Some(value));
+        }
+        assert_eq!(read_numeral(b"18446744073709551617"), Some(u64::MAX));
+        assert_eq!(read_numeral(&[b'1'; 100_000]), Some(u64::MAX));
+        let long = "9".repeat(99) + "x";
+        for text in ["", "00", "01", "+1", "-0", "1 ", "1x", "x", &long] {
+            assert_eq!(read_numeral(text.as_bytes()), None);
+        }
     }
 
     #[test]

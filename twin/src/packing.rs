@@ -42,11 +42,19 @@ pub fn pack(order: &Order) -> Result<Packing, Refusal> {
 
 /// The checks of the percentage sheet in the order of its lines.
 fn check(order: &Order) -> Result<(), Reason> {
-    let (k, capacity) = (order.k, order.capacity);
+    check_head(order)?;
+    for (index, service) in order.services.iter().enumerate() {
+        check_service(index, service)?;
+    }
+    check_size(order)
+}
+
+/// The checks of line 1.
+pub fn check_head(order: &Order) -> Result<(), Reason> {
     let limits = [
-        (k, 1, MOST_BITS),
+        (order.k, 1, MOST_BITS),
         (order.tolerance, 0, WHOLE),
-        (capacity, 1, MOST_CAPACITY),
+        (order.capacity, 1, MOST_CAPACITY),
     ];
     if limits
         .iter()
@@ -54,10 +62,7 @@ fn check(order: &Order) -> Result<(), Reason> {
     {
         return Err(Reason::BadField);
     }
-    for (index, service) in order.services.iter().enumerate() {
-        check_service(index, service)?;
-    }
-    check_size(order)
+    Ok(())
 }
 
 /// The checks of one SERVICE line.
@@ -66,11 +71,17 @@ fn check_service(index: usize, service: &Service) -> Result<(), Reason> {
         Err(Reason::TooMany)
     } else if service.weights.is_empty() {
         Err(Reason::Malformed)
-    } else if service.volume > MOST_VOLUME {
-        Err(Reason::BadField)
     } else {
-        check_weights(&service.weights)
+        check_numbers(service)
     }
+}
+
+/// The checks of a SERVICE line's fields: the volume, the weights, their sum.
+pub fn check_numbers(service: &Service) -> Result<(), Reason> {
+    if service.volume > MOST_VOLUME {
+        return Err(Reason::BadField);
+    }
+    check_weights(&service.weights)
 }
 
 /// The checks after the lines: no service, then a capacity below the services.

@@ -45,7 +45,7 @@ fn read_line(line: &[u8], k: u8, lines: &SheetLines) -> Result<RuleLine, Refusal
     let three = exactly_three(fields(line)).ok_or(lines.refusal(Reason::Malformed));
     let [service, suffix, backend] = three?;
     let service = lines.field(read_number(service, 1, MOST_SERVICES))? as u8;
-    let suffix = lines.field(Suffix::read(suffix, k))?;
+    let suffix = lines.field(Suffix::read(suffix, u64::from(k)))?;
     let backend = lines.field(read_number(backend, 1, MOST_BACKENDS))? as u8;
     let rule = Rule { suffix, backend };
     Ok(RuleLine { service, rule })

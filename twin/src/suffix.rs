@@ -1,5 +1,7 @@
 //! Suffixes and tree places (document 01, "Suffixes and tree places").
 
+use crate::refusal::Reason;
+
 /// The most suffix bits.
 pub const MOST_BITS: u8 = 12;
 
@@ -68,10 +70,10 @@ impl Suffix {
         address & ((1 << self.length) - 1) == u32::from(self.value)
     }
 
-    /// Reads the text of a suffix of at most `k` bits.
-    pub fn read(text: &[u8], k: u8) -> Option<Suffix> {
+    /// Reads the text of a suffix of at most `k` bits, where k is 1 to 12.
+    pub fn read(text: &[u8], k: u64) -> Option<Suffix> {
         let (&star, bits) = text.split_first()?;
-        if star != b'*' || bits.len() > usize::from(k.min(MOST_BITS)) {
+        if !(1..=u64::from(MOST_BITS)).contains(&k) || star != b'*' || bits.len() as u64 > k {
             return None;
         }
         let mut value = 0;
@@ -103,6 +105,18 @@ impl Suffix {
         text.resize(at + 1 + usize::from(self.length), b'*');
         self.write(at, text);
     }
+}
+
+/// Writes the suffix of a length and a value that are handed over as `write`
+/// does, unless they make no suffix, which is found first.
+pub fn write_handed(
+    length: u64,
+    value: u64,
+    at: usize,
+    buffer: &mut [u8],
+) -> Result<usize, Reason> {
+    let suffix = Suffix::new(length, value).ok_or(Reason::BadField)?;
+    suffix.write(at, buffer).ok_or(Reason::ShortLoan)
 }
 
 /// `length` bits in the other order, from the twelve-bit listing.
@@ -144,8 +158,9 @@ mod tests {
                 let suffix = Suffix::new(u64::from(length), value).unwrap();
                 let mut text = Vec::new();
                 suffix.push(&mut text);
-                assert_eq!(Suffix::read(&text, length), Some(suffix));
-                assert!(length == 0 || Suffix::read(&text, length - 1).is_none());
+                let k = u64::from(length);
+                assert_eq!(Suffix::read(&text, k.max(1)), Some(suffix));
+                assert!(length == 0 || Suffix::read(&text, k - 1).is_none());
             }
         }
     }
@@ -167,6 +182,34 @@ mod tests {
         assert_eq!(Suffix::new(13, 0), None);
         assert_eq!(Suffix::new(3, 8), None);
         assert_eq!(Suffix::new(u64::MAX, 0), None);
+        assert_eq!(Suffix::new(0, u64::MAX), None);
+    }
+
+    #[test]
+    fn k_is_within_its_limits() {
+        for k in [0, 13, 256, 257, 1 << 32, u64::MAX] {
+            assert_eq!(Suffix::read(b"*", k), None);
+        }
+        assert_eq!(Suffix::read(b"*", 1), Some(Suffix::STAR));
+        assert!(Suffix::read(b"*000000000000", 12).is_some());
+    }
+
+    #[test]
+    fn what_makes_no_suffix_is_found_before_a_short_buffer() {
+        let mut buffer = *b".....";
+        for (length, value) in [(13, 0), (3, 8), (0, 1), (64, 0), (u64::MAX, u64::MAX)] {
+            for at in [0, 5, usize::MAX] {
+                let answer = write_handed(length, value, at, &mut buffer);
+                assert_eq!(answer, Err(Reason::BadField));
+            }
+        }
+        for at in [2, 5, usize::MAX] {
+            let answer = write_handed(3, 7, at, &mut buffer);
+            assert_eq!(answer, Err(Reason::ShortLoan));
+        }
+        assert_eq!(&buffer, b".....");
+        assert_eq!(write_handed(3, 6, 1, &mut buffer), Ok(5));
+        assert_eq!(&buffer, b".*110");
     }
 
     #[test]

@@ -1,33 +1,23 @@
-//! Vectors for the expansion of one service and the count by first match.
+//! Vectors for the expansion of one service.
 
 use super::records::{Record, Records};
 use super::shapes::{tolerance, weights};
 use crate::count;
-use crate::expansion::{expand, Ending, Expansion, Rule};
+use crate::expansion::{expand, Ending, Expansion};
 use crate::numerals::WHOLE;
 use crate::random::Random;
 use crate::suffix::Suffix;
 
 /// What the twin says to one record; nothing if the record is not of a kind.
 pub fn answer(record: &Record) -> Option<String> {
-    let text = std::str::from_utf8(record.payload).ok()?;
-    match (record.op, record.numbers.as_slice()) {
-        ("E", &[k, tolerance, budget]) => {
-            let weights = numbers(text)?;
-            let list = expand(k, tolerance, budget, &weights);
-            Some(match list {
-                Ok(list) => list_text(&list),
-                Err(refusal) => format!("refused {}", refusal.number()),
-            })
-        }
-        ("C", &[k, backends]) => {
-            let rules: Option<Vec<Rule>> = text.split('\n').map(read_rule).collect();
-            let shares = count::shares(k as u8, backends as usize, rules?.iter());
-            let shares: Vec<String> = shares.iter().map(u64::to_string).collect();
-            Some(format!("shares {}", shares.join(" ")))
-        }
-        _ => None,
-    }
+    let ("E", &[k, tolerance, budget]) = (record.op, record.numbers.as_slice()) else {
+        return None;
+    };
+    let weights = numbers(std::str::from_utf8(record.payload).ok()?)?;
+    Some(match expand(k, tolerance, budget, &weights) {
+        Ok(list) => list_text(&list),
+        Err(refusal) => format!("refused {}", refusal.number()),
+    })
 }
 
 /// Numbers between single spaces; an empty text has none.
@@ -58,15 +48,6 @@ fn list_text(list: &Expansion) -> String {
     text
 }
 
-/// Reads `suffix backend`.
-fn read_rule(line: &str) -> Option<Rule> {
-    let (suffix, backend) = line.split_once(' ')?;
-    Some(Rule {
-        suffix: Suffix::read(suffix.as_bytes(), 12)?,
-        backend: backend.parse().ok()?,
-    })
-}
-
 /// All records of this kind.
 pub fn records() -> Records {
     let mut records = Records::default();
@@ -76,8 +57,6 @@ pub fn records() -> Records {
     at_limits(&mut records, &mut random);
     refused(&mut records);
     refused_at_random(&mut records, &mut random);
-    counts_of_lists(&mut records, &mut random);
-    counts_at_random(&mut records, &mut random);
     records
 }
 
@@ -207,46 +186,5 @@ fn refused_at_random(records: &mut Records, random: &mut Random) {
             }
         }
         add_list(records, numbers, &weights);
-    }
-}
-
-fn add_count(records: &mut Records, k: u64, backends: usize, rules: &[Rule]) {
-    let line = |rule: &Rule| format!("{} {}", suffix_text(rule.suffix), rule.backend);
-    let lines: Vec<String> = rules.iter().map(line).collect();
-    records.add(&format!("C {k} {backends}"), lines.join("\n").as_bytes());
-}
-
-/// The rules of made lists, whole and cut.
-fn counts_of_lists(records: &mut Records, random: &mut Random) {
-    for turn in 0..100 {
-        let k = 1 + turn % 12;
-        let count = random.within(1, 32) as usize;
-        let weights = weights(random, count);
-        if let Ok(mut list) = expand(k, 0, random.within(1, 32), &weights) {
-            list.rules.reverse();
-            add_count(records, k, count, &list.rules);
-        }
-    }
-}
-
-/// Any suffixes in any order, some more than once, and `*` last.
-fn counts_at_random(records: &mut Records, random: &mut Random) {
-    for turn in 0..100 {
-        let k = 1 + turn % 12;
-        let backends = random.within(1, 32);
-        let mut rules = Vec::new();
-        for _ in 0..random.below(32) {
-            let most = k.min(*random.pick(&[3, 12]));
-            let length = random.within(0, most) as u8;
-            let suffix = Suffix::at_place(length, random.below(1 << length) as u16);
-            let backend = random.within(1, backends) as u8;
-            rules.push(Rule { suffix, backend });
-        }
-        let backend = random.within(1, backends) as u8;
-        rules.push(Rule {
-            suffix: Suffix::STAR,
-            backend,
-        });
-        add_count(records, k, backends as usize, &rules);
     }
 }

@@ -1,11 +1,14 @@
 //! Test vectors: the files `stdin` (the vectors) and `stdout` (the answers).
 
+pub mod cases;
+mod counts;
 pub mod expansion;
 pub mod numerals;
 pub mod packing;
 pub mod percentage_sheets;
 mod plans;
 pub mod records;
+mod rows;
 mod rule_sheets;
 pub mod shapes;
 pub mod sheets;
@@ -79,6 +82,62 @@ pub fn write(name: &str, folder: &Path) -> Result<usize, String> {
 #[cfg(test)]
 mod tests {
     use super::*;
+
+    /// The answer to one record.
+    fn said(name: &str, header: &str, payload: &str) -> String {
+        let mut records = Records::default();
+        records.add(header, payload.as_bytes());
+        answer(name, records.bytes()).unwrap()
+    }
+
+    #[test]
+    fn what_makes_no_suffix_is_bad() {
+        let said = |header, payload| said("numerals", header, payload);
+        assert_eq!(said("S 1", "*0"), "suffix 1 0 0\n");
+        assert_eq!(said("S 0", "*"), "bad\n");
+        assert_eq!(said("S 13", "*"), "bad\n");
+        assert_eq!(said("X 12 4095", ""), "place 4095\n");
+        assert_eq!(said("X 12 4096", ""), "bad\n");
+        assert_eq!(said("X 13 0", ""), "bad\n");
+        assert_eq!(said("T 2 3 1 5", ""), "end 4 .*11.\n");
+        assert_eq!(said("T 2 3 1 3", ""), "short ...\n");
+        assert_eq!(said("T 2 4 1 3", ""), "bad ...\n");
+        assert_eq!(said("T 18446744073709551615 0 0 0", ""), "bad \n");
+    }
+
+    #[test]
+    fn a_count_shows_its_whole_buffer() {
+        let said = |header| said("sheets", header, "TABLE 2 2 0\n1 *1 32\n1 * 3\n");
+        let (none, behind) = (" 0".repeat(28), " 9999".repeat(4));
+        let counts = format!(" counts 0 0 2{none} 2");
+        assert_eq!(said("C 1 32"), format!("shares 2{counts}{behind}\n"));
+        assert_eq!(said("C 1 33"), format!("shares 2{counts} 9999{behind}\n"));
+        assert_eq!(said("C 2 0"), format!("REFUSED 8 0 counts{behind}\n"));
+        assert_eq!(said("C 1 1"), format!("REFUSED 7 0 counts 9999{behind}\n"));
+    }
+
+    #[test]
+    fn a_table_in_numbers_shows_its_whole_buffer() {
+        let said = |header, payload| said("sheets", header, payload);
+        assert_eq!(
+            said("W 5 0 20", "0 0 0 1"),
+            "end 18 TABLE 5 1 0/1 * 2/......\n"
+        );
+        assert_eq!(said("W 5 0 2", "0 0 0 1"), "REFUSED 7 0 ......\n");
+        assert_eq!(said("W 5 0 2", "0 0 0 1 1"), "REFUSED 1 0 ......\n");
+        assert_eq!(said("W 0 0 2", "0 0 0 1 1"), "REFUSED 2 0 ......\n");
+        assert_eq!(said("W 0 0 2", "0 65536 0 1"), "REFUSED 11 0 ......\n");
+        assert_eq!(said("W 5 0 0", ""), "REFUSED 2 0 ....\n");
+    }
+
+    #[test]
+    fn rows_are_answered_as_lines_are() {
+        let said = |header, payload| said("packing", header, payload);
+        let packed = said("K 1 0 9", "7 500000 500000\n8 1000000\n");
+        assert_eq!(said("Q 1 0 9", "7 8\n2 1\n500000 500000 1000000\n"), packed);
+        assert_eq!(said("Q 1 0 9", "\n\n\n"), "refused 5\n");
+        assert_eq!(said("Q 1 0 9", "\n\n1\n"), "refused 1\n");
+    }
 
     #[test]
     fn each_record_has_one_answer_line_and_the_bytes_never_change() {

@@ -4,7 +4,8 @@ use super::records::{Record, Records};
 use crate::lines::{field_ends, find_lf};
 use crate::numerals::{read_number, read_percentage, write_number};
 use crate::random::Random;
-use crate::suffix::{Suffix, MOST_BITS};
+use crate::refusal::Reason;
+use crate::suffix::{write_handed, Suffix, MOST_BITS};
 
 /// What the twin says to one record; nothing if the record is not of a kind.
 pub fn answer(record: &Record) -> Option<String> {
@@ -12,17 +13,18 @@ pub fn answer(record: &Record) -> Option<String> {
     Some(match (record.op, record.numbers.as_slice()) {
         ("N", &[lo, hi]) => value_text(read_number(payload, lo, hi)),
         ("P", &[]) => value_text(read_percentage(payload)),
-        ("W", &[number, at, length]) => written_text(length, |buffer| {
-            write_number(number, usize::try_from(at).ok()?, buffer)
-        }),
-        ("S", &[k]) => suffix_text(Suffix::read(payload, u8::try_from(k).ok()?)),
-        ("T", &[bits, value, at, length]) => {
-            let suffix = Suffix::new(bits, value)?;
+        ("W", &[number, at, length]) => {
+            let at = usize::try_from(at).ok()?;
             written_text(length, |buffer| {
-                suffix.write(usize::try_from(at).ok()?, buffer)
+                write_number(number, at, buffer).ok_or(Reason::ShortLoan)
             })
         }
-        ("X", &[bits, value]) => format!("place {}", Suffix::new(bits, value)?.place()),
+        ("S", &[k]) => suffix_text(Suffix::read(payload, k)),
+        ("T", &[bits, value, at, length]) => {
+            let at = usize::try_from(at).ok()?;
+            written_text(length, |buffer| write_handed(bits, value, at, buffer))
+        }
+        ("X", &[bits, value]) => place_text(Suffix::new(bits, value)),
         ("L", &[from]) => match usize::try_from(from)
             .ok()
             .and_then(|at| find_lf(payload, at))
@@ -46,6 +48,12 @@ fn suffix_text(suffix: Option<Suffix>) -> String {
     })
 }
 
+fn place_text(suffix: Option<Suffix>) -> String {
+    suffix.map_or("bad".to_string(), |suffix| {
+        format!("place {}", suffix.place())
+    })
+}
+
 fn fields_text(line: &[u8]) -> String {
     let ends = field_ends(line);
     let mut text = format!("fields {}", ends.len());
@@ -56,13 +64,14 @@ fn fields_text(line: &[u8]) -> String {
 }
 
 /// Shows a buffer of `length` dots after a call that writes into it.
-fn written_text(length: u64, write: impl Fn(&mut [u8]) -> Option<usize>) -> String {
+fn written_text(length: u64, write: impl Fn(&mut [u8]) -> Result<usize, Reason>) -> String {
     let mut buffer = vec![b'.'; length as usize];
     let end = write(&mut buffer);
     let text = String::from_utf8_lossy(&buffer);
     match end {
-        Some(end) => format!("end {end} {text}"),
-        None => format!("short {text}"),
+        Ok(end) => format!("end {end} {text}"),
+        Err(Reason::ShortLoan) => format!("short {text}"),
+        Err(_) => format!("bad {text}"),
     }
 }
 
@@ -76,7 +85,9 @@ pub fn records() -> Records {
     percentages_at_random(&mut records, &mut random);
     numbers_written(&mut records, &mut random);
     suffixes_read(&mut records, &mut random);
+    suffixes_of_any_k(&mut records);
     suffixes_written(&mut records, &mut random);
+    no_suffixes(&mut records, &mut random);
     places(&mut records, &mut random);
     line_ends(&mut records, &mut random);
     field_lists(&mut records, &mut random);
@@ -266,6 +277,23 @@ fn suffixes_read(records: &mut Records, random: &mut Random) {
     records.add("S 12", &[b"*", &long[..]].concat());
 }
 
+/// Every k near its limits and far above them; no text is a suffix there.
+fn suffixes_of_any_k(records: &mut Records) {
+    for k in [0, 1, 12, 13, 14, 63, 64, 255, 256, 257, 268] {
+        suffixes_of(records, k);
+    }
+    for k in [1 << 32, (1 << 32) + 5, 1 << 63, (1 << 63) + 12, u64::MAX] {
+        suffixes_of(records, k);
+    }
+}
+
+fn suffixes_of(records: &mut Records, k: u64) {
+    for bits in ["", "0", "01", "111111111111", "0000000000000", "2"] {
+        records.add(&format!("S {k}"), format!("*{bits}").as_bytes());
+    }
+    records.add(&format!("S {k}"), b"");
+}
+
 fn suffixes_written(records: &mut Records, random: &mut Random) {
     for bits in 0..=u64::from(MOST_BITS) {
         let top = (1 << bits) - 1;
@@ -280,6 +308,35 @@ fn suffixes_written(records: &mut Records, random: &mut Random) {
         let value = random.below(1 << bits);
         let length = random.below(41);
         let at = position(random, length);
+        records.add(&format!("T {bits} {value} {at} {length}"), b"");
+    }
+}
+
+/// Lengths and values that make no suffix, next to those that just do, with
+/// room and without.
+fn no_suffixes(records: &mut Records, random: &mut Random) {
+    let mut pairs = Vec::new();
+    for bits in 0..=14 {
+        let values = [(1 << bits) - 1, 1 << bits, (1 << bits) + 1, u64::MAX];
+        pairs.extend(values.map(|value| (bits, value)));
+    }
+    for bits in [13, 16, 31, 32, 63, 64, 65, 76, 256, 1 << 32, u64::MAX] {
+        pairs.extend([0, 1, 4_095, u64::MAX].map(|value| (bits, value)));
+    }
+    for (bits, value) in pairs {
+        records.add(&format!("X {bits} {value}"), b"");
+        for (at, length) in [(0, 15), (3, 8), (0, 0), (u64::MAX, 2)] {
+            records.add(&format!("T {bits} {value} {at} {length}"), b"");
+        }
+    }
+    for _ in 0..80 {
+        let bits = match random.below(3) {
+            0 => random.any_size(),
+            _ => random.below(15),
+        };
+        let (value, length) = (random.any_size(), random.below(20));
+        let at = position(random, length);
+        records.add(&format!("X {bits} {value}"), b"");
         records.add(&format!("T {bits} {value} {at} {length}"), b"");
     }
 }

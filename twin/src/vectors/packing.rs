@@ -2,28 +2,37 @@
 
 use super::expansion::{numbers, suffix_text};
 use super::records::{Record, Records};
+use super::rows;
 use super::shapes::{order, service, OrderShape};
 use crate::numerals::WHOLE;
 use crate::packing::{pack, Order, Packing, Service};
 use crate::random::Random;
+use crate::refusal::Refusal;
 
 /// What the twin says to one record; nothing if the record is not of a kind.
 pub fn answer(record: &Record) -> Option<String> {
-    let ("K", &[k, tolerance, capacity]) = (record.op, record.numbers.as_slice()) else {
-        return None;
-    };
     let text = std::str::from_utf8(record.payload).ok()?;
-    let services: Option<Vec<Service>> = text.lines().map(read_service).collect();
-    let packing = pack(&Order {
-        k,
-        tolerance,
-        capacity,
-        services: services?,
-    });
-    Some(match packing {
+    match (record.op, record.numbers.as_slice()) {
+        ("K", &[k, tolerance, capacity]) => {
+            let services: Option<Vec<Service>> = text.lines().map(read_service).collect();
+            Some(shown(pack(&Order {
+                k,
+                tolerance,
+                capacity,
+                services: services?,
+            })))
+        }
+        ("Q", &[k, tolerance, capacity]) => rows::answer(k, tolerance, capacity, text),
+        _ => None,
+    }
+}
+
+/// The packing, or the number of the refusal.
+pub(super) fn shown(packing: Result<Packing, Refusal>) -> String {
+    match packing {
         Ok(packing) => packing_text(&packing),
         Err(refusal) => format!("refused {}", refusal.number()),
-    })
+    }
 }
 
 /// Reads `volume w1 w2 ..`.
@@ -57,6 +66,7 @@ pub fn records() -> Records {
     large(&mut records, &mut random);
     refused(&mut records);
     refused_at_random(&mut records, &mut random);
+    rows::add_all(&mut records);
     records
 }
 

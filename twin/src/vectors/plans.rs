@@ -9,11 +9,11 @@ use crate::packing::Packing;
 use crate::plan::plan;
 use crate::random::Random;
 
-/// What a buffer is filled with: a number that no figure and no cell can be.
-const MARK: u64 = 9_999;
+/// What a buffer is filled with: a number that no figure, cell or count can be.
+pub(super) const MARK: u64 = 9_999;
 
 /// How many numbers behind each buffer are shown, although they aren't lent.
-const BEHIND: usize = 4;
+pub(super) const BEHIND: usize = 4;
 
 /// The answer, and all of both buffers afterwards.
 pub fn answer(sheet: &[u8], figures_room: u64, table_room: u64) -> Option<String> {
@@ -39,7 +39,7 @@ fn measures(packing: &Packing) -> String {
     format!("made {k} {services} {rules} {total}")
 }
 
-fn row_text(numbers: &[u64]) -> String {
+pub(super) fn row_text(numbers: &[u64]) -> String {
     numbers.iter().map(|number| format!(" {number}")).collect()
 }
 

@@ -128,7 +128,7 @@ fn at_limits(records: &mut Records) {
 }
 
 /// A table: packed from an order, or of any suffixes; most are small.
-fn table(random: &mut Random) -> Table {
+pub(super) fn table(random: &mut Random) -> Table {
     if random.once_in(2) {
         let k = random.within(1, 12);
         let services = *random.pick(&[1, 2, 3, 5]);
@@ -160,7 +160,7 @@ fn read_at_random(records: &mut Records, random: &mut Random) {
 }
 
 /// A service of the table, or now and then one that isn't there.
-fn some_service(random: &mut Random, table: &Table) -> u64 {
+pub(super) fn some_service(random: &mut Random, table: &Table) -> u64 {
     match random.below(12) {
         0 => random.below(67),
         1 => *random.pick(&[0, 1, 64, 65, 256, 257, u64::MAX]),

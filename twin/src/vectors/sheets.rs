@@ -1,7 +1,8 @@
-//! Vectors for the sheets: readers, writers, the one call, lookup and churn.
+//! Vectors for the sheets: readers, writers, the one call, lookup,
+//! churn and the count.
 
 use super::records::{Record, Records};
-use super::{percentage_sheets, plans, rule_sheets, writes};
+use super::{counts, percentage_sheets, plans, rule_sheets, writes};
 use crate::calls::{churn, lookup, split, split_into};
 use crate::rule_sheet::{read, text_of};
 
@@ -19,7 +20,7 @@ pub fn answer(record: &Record) -> Option<String> {
         }
         ("U", &[]) => Some(shown(read(text).map(|_| "ok"))),
         ("L", &[service, address]) => {
-            let backend = lookup(text, service, u32::try_from(address).ok()?);
+            let backend = lookup(text, service, address);
             Some(shown(backend.map(|backend| format!("backend {backend}"))))
         }
         ("H", &[service, length]) => {
@@ -27,6 +28,7 @@ pub fn answer(record: &Record) -> Option<String> {
             let count = churn(first, second, service);
             Some(shown(count.map(|count| format!("churn {count}"))))
         }
+        ("C", &[service, room]) => counts::answer(text, service, room),
         ("P", &[figures, table]) => plans::answer(text, figures, table),
         ("W", &[k, total, room]) => writes::answer(k, total, room, text),
         _ => None,
@@ -34,7 +36,7 @@ pub fn answer(record: &Record) -> Option<String> {
 }
 
 /// The answer, or the refusal as text.
-fn shown<T: ToString, E: ToString>(answer: Result<T, E>) -> String {
+pub(super) fn shown<T: ToString, E: ToString>(answer: Result<T, E>) -> String {
     answer.map_or_else(|refusal| refusal.to_string(), |text| text.to_string())
 }
 
@@ -48,6 +50,7 @@ pub fn records() -> Records {
     let mut records = Records::default();
     percentage_sheets::add_all(&mut records);
     rule_sheets::add_all(&mut records);
+    counts::add_all(&mut records);
     plans::add_all(&mut records);
     writes::add_all(&mut records);
     records

@@ -37,6 +37,9 @@ pub fn add_all(records: &mut Records) {
     orders(records);
     thirty_third_rules(records);
     at_limits(records);
+    left_over(records);
+    too_long(records);
+    many_and_wide(records);
     proper(records, &mut random);
     spoilt(records, &mut random);
 }
@@ -57,8 +60,8 @@ fn sample() -> Vec<u64> {
     numbers_of(&table.lines)
 }
 
-/// The sample with rooms around what it needs, and its first 0, 1, .. numbers:
-/// those that don't make whole lines come before a wrong k, total or service.
+/// The sample with rooms around what it needs, and its first 0, 1, .. numbers,
+/// of which some don't make whole lines, with good and bad numbers beside them.
 fn listed(records: &mut Records) {
     let mut sample = sample();
     for room in [0, 1, 5, 20, 53, 54, 55, 70] {
@@ -191,6 +194,113 @@ fn at_limits(records: &mut Records) {
     let wide = lines([12, 2_730, 31]);
     let room = needed(12, MOST_TOTAL, &wide);
     add(records, 12, MOST_TOTAL, room, &wide);
+}
+
+/// Numbers left over, of any size: alone, and behind lines that are right, have
+/// no `*` yet, are bad, are one too many or out of order.
+fn left_over(records: &mut Records) {
+    let thirty_three = [0, 1, 0, 1].repeat(33);
+    let fronts: [&[u64]; 10] = [
+        &[],
+        &[0, 0, 0, 0],
+        &[0, 1, 0, 0],
+        &[0, 0, 0, 0, 1, 5, 31, 31],
+        &[64, 0, 0, 0],
+        &[0, 6, 0, 0],
+        &[0, 0, 1, 0],
+        &[0, 0, 0, 32, 0, 0, 0, 0],
+        &[0, 0, 0, 0, 0, 0, 0, 0],
+        &thirty_three,
+    ];
+    let rests: [&[u64]; 5] = [&[0], &[1, 0], &[1, 0, 0], &[64, 13, 9], &[u64::MAX]];
+    for front in fronts {
+        for rest in rests {
+            add(records, 5, 0, 20, &[front, rest].concat());
+        }
+        for (k, total) in [(0, 0), (13, 0), (12, MOST_TOTAL + 1)] {
+            add(records, k, total, 9, &[front, &[0, 0]].concat());
+        }
+    }
+}
+
+/// The text of so many bytes that a long suffix makes; its line comes first or
+/// behind others, and numbers may be left over behind it.
+fn add_long(records: &mut Records, k: u64, bytes: u64, others: &[u64], rest: &[u64]) {
+    let lines = 1 + (others.len() + rest.len()).div_ceil(4) as u64;
+    let line = "1 * 1\n".len() as u64;
+    let head = format!("TABLE {k} {lines} 7\n").len() as u64;
+    let broken = if rest.is_empty() {
+        0
+    } else {
+        "1\n".len() as u64
+    };
+    let bits = bytes - head - broken - line * (1 + others.len() as u64 / 4);
+    let long = [0, bits, 0, 0];
+    add(records, k, 7, 20, &[others, &long, rest].concat());
+    add(records, k, 7, 20, &[&long, others, rest].concat());
+}
+
+/// Suffixes so long that the text is at its limit of 65,536 bytes or above, by
+/// one byte or by more than 64 bits can count.
+fn too_long(records: &mut Records) {
+    for bytes in [65_535, 65_536, 65_537, 70_000, 1 << 32] {
+        add_long(records, 5, bytes, &[], &[]);
+        add_long(records, 5, bytes, &[0, 0, 0, 0], &[]);
+        add_long(records, 13, bytes, &[0, 0, 0, 0, 0, 0, 0, 0], &[0]);
+        add_long(records, 5, bytes, &[8, 0, 0, 8], &[8, 70_000, 0]);
+    }
+    for length in [65_530, 1_000_000, 1 << 32, 1 << 63, u64::MAX] {
+        for k in [0, 12, u64::MAX] {
+            add(records, k, 0, 9, &[0, length, 0, 0]);
+        }
+        add(
+            records,
+            5,
+            u64::MAX,
+            9,
+            &[length, length, length, length, 0],
+        );
+        add(
+            records,
+            5,
+            0,
+            9,
+            &[0, 0, length, 0, length, 0, length, length],
+        );
+    }
+    for small in 0..24 {
+        add(records, 5, 0, 9, &[0, u64::MAX - small, 0, 0]);
+    }
+    for (times, length) in [(2, 1 << 63), (4, 1 << 62), (8, 1 << 61), (256, 1 << 56)] {
+        add(records, 5, 0, 9, &[0, length, 0, 0].repeat(times));
+    }
+    add(records, 5, 0, 9, &[0, u64::MAX, 0, 0, 0, 1, 0, 0]);
+    add(records, 5, 0, 9, &[0, u64::MAX - 40, 0, 0].repeat(3));
+}
+
+/// 2,047 to 2,049 lines, with the broken one, and as many wide lines around
+/// 65,536 bytes.
+fn many_and_wide(records: &mut Records) {
+    let own = |service| [[service, 1, 0, 0].repeat(31), vec![service, 0, 0, 0]].concat();
+    let mut full: Vec<u64> = (0..64).flat_map(own).collect();
+    for length in [8_189, 8_191] {
+        add(records, 1, 0, 9, &full[..length]);
+    }
+    full.extend([63, 0, 0]);
+    for length in [8_193, 8_195] {
+        add(records, 1, 0, 9, &full[..length]);
+    }
+    for (k, total) in [(1, 0), (13, 0), (1, u64::MAX)] {
+        add(records, k, total, 9, &[0, 0, 0, 0].repeat(2_049));
+    }
+    // Lines of 32 bytes, line 1 of 16, then `10 *.. 10` and `10`, around 65,536.
+    for (lines, bits) in [(2_046, 37), (2_047, 5)] {
+        for more in 0..3 {
+            let mut wide = [9_999_999_998, 7, 0, 9_999_999_999].repeat(lines);
+            wide.extend([9, bits - 1 + more, 0, 9, 9]);
+            add(records, 12, 0, 9, &wide);
+        }
+    }
 }
 
 /// Tables that keep the order, with rooms around what they need.

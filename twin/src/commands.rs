@@ -1,0 +1,217 @@
+//! The commands of the program: what its words ask for, and what it prints for
+//! the texts of its files.
+
+use crate::calls::{churn, lookup, program};
+use crate::limits::MOST_BYTES;
+use crate::numerals::{read_number, read_numeral};
+use std::ffi::OsStr;
+use std::fmt::Display;
+use std::fs::File;
+use std::io::{self, Read};
+use std::os::unix::ffi::OsStrExt;
+
+/// What is told for words that are no command.
+pub const USAGE: &str = "usage: twin [split [SHEET]]
+       twin lookup TABLE SERVICE ADDRESS
+       twin churn OLD NEW SERVICE
+SHEET, TABLE, OLD and NEW are files, - is standard input (once); SERVICE is a
+number, ADDRESS a number or a dotted quad.";
+
+/// The file name that stands for standard input.
+const INPUT: &[u8] = b"-";
+
+/// A command with its files and numbers.
+#[derive(Clone, Copy, PartialEq, Eq, Debug)]
+pub enum Command<'a> {
+    Split {
+        sheet: &'a [u8],
+    },
+    Lookup {
+        table: &'a [u8],
+        service: u64,
+        address: u64,
+    },
+    Churn {
+        old: &'a [u8],
+        new: &'a [u8],
+        service: u64,
+    },
+}
+
+impl<'a> Command<'a> {
+    /// What the words ask for; nothing if they are no command, if a number is
+    /// no numeral, or if standard input is named twice.
+    pub fn of(words: &[&'a [u8]]) -> Option<Command<'a>> {
+        match *words {
+            [] | [b"split"] => Some(Command::Split { sheet: INPUT }),
+            [b"split", sheet] => Some(Command::Split { sheet }),
+            [b"lookup", table, service, address] => Some(Command::Lookup {
+                table,
+                service: read_numeral(service)?,
+                address: read_address(address)?,
+            }),
+            [b"churn", old, new, service] if old != INPUT || new != INPUT => {
+                let service = read_numeral(service)?;
+                Some(Command::Churn { old, new, service })
+            }
+            _ => None,
+        }
+    }
+
+    /// What is printed; all files are read before any is looked at.
+    pub fn run(self, read: impl Fn(&[u8]) -> Result<Vec<u8>, String>) -> Result<Vec<u8>, String> {
+        Ok(match self {
+            Command::Split { sheet } => program(&read(sheet)?),
+            Command::Lookup {
+                table,
+                service,
+                address,
+            } => line_of(lookup(&read(table)?, service, address)),
+            Command::Churn { old, new, service } => {
+                let (old, new) = (read(old)?, read(new)?);
+                line_of(churn(&old, &new, service))
+            }
+        })
+    }
+}
+
+/// The answer or the refusal on a line.
+fn line_of<T: Display, E: Display>(answer: Result<T, E>) -> Vec<u8> {
+    match answer {
+        Ok(answer) => format!("{answer}\n"),
+        Err(refusal) => format!("{refusal}\n"),
+    }
+    .into_bytes()
+}
+
+/// An address: a number, or a dotted quad, which begins with the highest byte.
+fn read_address(word: &[u8]) -> Option<u64> {
+    read_numeral(word).or_else(|| {
+        let bytes: Option<Vec<u64>> = word
+            .split(|&byte| byte == b'.')
+            .map(|part| read_number(part, 0, 255))
+            .collect();
+        let quad = <[u64; 4]>::try_from(bytes?).ok()?;
+        Some(quad.iter().fold(0, |address, byte| 256 * address + byte))
+    })
+}
+
+/// The text of a file, or why there is none; of a text over its limit one byte
+/// more than that.
+pub fn read_file(name: &[u8]) -> Result<Vec<u8>, String> {
+    let read = |file: &mut dyn Read| -> io::Result<Vec<u8>> {
+        let mut text = Vec::new();
+        file.take(MOST_BYTES as u64 + 1).read_to_end(&mut text)?;
+        Ok(text)
+    };
+    let text = match name {
+        INPUT => read(&mut io::stdin()),
+        _ => File::open(OsStr::from_bytes(name)).and_then(|mut file| read(&mut file)),
+    };
+    text.map_err(|error| format!("{}: {error}", String::from_utf8_lossy(name)))
+}
+
+#[cfg(test)]
+mod tests {
+    use super::*;
+
+    const RULES: &str = "TABLE 5 5 293333920\n1 *0 2\n1 * 3\n2 *00 2\n2 *0 1\n2 * 3\n";
+
+    fn command(words: &str) -> Option<Command<'_>> {
+        let words: Vec<&[u8]> = words.split(' ').map(str::as_bytes).collect();
+        Command::of(&words)
+    }
+
+    /// What is printed where the file `-` is the sample's rule sheet, `x` has
+    /// nothing in it, and no other file is there.
+    fn said(words: &str) -> Result<String, String> {
+        let read = |name: &[u8]| match name {
+            b"-" => Ok(RULES.as_bytes().to_vec()),
+            b"x" => Ok(Vec::new()),
+            _ => Err("no file".to_string()),
+        };
+        let printed = command(words).ok_or("usage")?.run(read)?;
+        Ok(String::from_utf8(printed).unwrap())
+    }
+
+    #[test]
+    fn what_is_printed() {
+        assert_eq!(said("lookup - 1 0").unwrap(), "2\n");
+        assert_eq!(said("lookup - 2 0.0.0.2").unwrap(), "1\n");
+        assert_eq!(said("lookup - 3 4294967296").unwrap(), "REFUSED 8 0\n");
+        assert_eq!(said("lookup - 2 4294967296").unwrap(), "REFUSED 2 0\n");
+        assert_eq!(said("lookup x 2 4294967296").unwrap(), "REFUSED 1 1\n");
+        assert_eq!(said("churn - x 1").unwrap(), "REFUSED 1 1 2\n");
+        assert_eq!(said("split x").unwrap(), "REFUSED 1 1\n");
+        assert_eq!(said("split -").unwrap(), "REFUSED 1 1\n");
+        for service in ["0", "65", "18446744073709551617", &"7".repeat(99)] {
+            let words = format!("lookup - {service} 1.2.3.4");
+            assert_eq!(said(&words).unwrap(), "REFUSED 8 0\n");
+        }
+    }
+
+    #[test]
+    fn a_file_that_is_not_there_comes_before_a_refused_sheet() {
+        for words in ["churn x y 1", "churn y x 1", "lookup y 1 1", "split y"] {
+            assert_eq!(said(words), Err("no file".to_string()));
+        }
+    }
+
+    #[test]
+    fn words_that_are_no_command() {
+        for words in [
+            "",
+            "spli",
+            "split x x",
+            "lookup",
+            "lookup x 1",
+            "lookup x 1 1 1",
+            "lookup x 01 1",
+            "lookup x 1 ",
+            "lookup x +1 1",
+            "churn x 1",
+            "churn x x 1 1",
+            "churn x x 1.0",
+            "churn - - 1",
+        ] {
+            assert_eq!(command(words), None, "{words:?}");
+        }
+        assert_eq!(Command::of(&[]), command("split -"));
+        assert_eq!(command("split"), command("split -"));
+    }
+
+    #[test]
+    fn addresses() {
+        for (word, address) in [
+            ("0", 0),
+            ("4294967296", 1 << 32),
+            ("0.0.0.0", 0),
+            ("1.2.3.4", 0x0102_0304),
+            ("255.255.255.255", 0xffff_ffff),
+        ] {
+            assert_eq!(read_address(word.as_bytes()), Some(address));
+        }
+        assert_eq!(read_address(&[b'9'; 70]), Some(u64::MAX));
+        for word in [
+            "",
+            ".",
+            "...",
+            "1.2.3",
+            "1.2.3.4.5",
+            "1.2.3.",
+            ".1.2.3",
+            "1..2.3",
+            "1.2.3.256",
+            "256.2.3.4",
+            "01.2.3.4",
+            "1.2.3.00",
+            "1.2.3.4 ",
+            "1.2.3.+4",
+            "1.2.3.18446744073709551616",
+            "0x1",
+            "-1",
+        ] {
+            assert_eq!(read_address(word.as_bytes()), None, "{word:?}");
+        }
+    }
+}
