@@ -40,16 +40,14 @@ abbrev pub planMade : Plan → PlanAnswer
 planMade p =
     record { number = 0; line = 0; buffer = 0; k = p .k; services = p .services; rules = p .rules; total = p .total }
 
--- buffer: which lent buffer is too short, figures 1 and table 2
+-- buffer: which lent buffer is too short, figures 1 and table 2, and 0 for none
 abbrev pub planRefused : ℕ → ℕ → ℕ → PlanAnswer
 planRefused number line buffer =
     record { number = number; line = line; buffer = buffer; k = 0; services = 0; rules = 0; total = 0 }
 
 abbrev pub ofPlanned : planned.Planned → PlanAnswer
 ofPlanned (planned-variants.Made p) = planMade p
-ofPlanned (planned-variants.Refused r) = planRefused (numberOf (r .why)) (r .line) 0
-ofPlanned planned-variants.ShortFigures = planRefused 7 0 1
-ofPlanned planned-variants.ShortTable = planRefused 7 0 2
+ofPlanned (planned-variants.Refused r buffer) = planRefused (numberOf (r .why)) (r .line) buffer
 
 -- what the call that prints answers
 abbrev pub splitAnswer : List ℕ → ℕ → printed.Printed

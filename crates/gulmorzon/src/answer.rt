@@ -106,11 +106,9 @@ pub fn of_planned(x: Planned) -> PlanAnswer
             rules: p.rules,
             total: p.total,
         },
-        Planned::Refused(r) => {
+        Planned::Refused(r, buffer) => {
             let why = r.why;
-            plan_refused(refusal_number(why) as usize, r.line, 0)
+            plan_refused(refusal_number(why) as usize, r.line, buffer)
         }
-        Planned::ShortFigures => plan_refused(7, 0, 1),
-        Planned::ShortTable => plan_refused(7, 0, 2),
     }
 }

@@ -1,13 +1,13 @@
 -- The checks of a packing, service by service, and what they leave.
-use Prim.Native.Nat.{ℕ, zero, suc, _+_, _-_, _≤_, _<_}
+use Prim.Native.Nat.{ℕ, zero, suc, _+_, _-_, _≤_, _<_, max}
 use mathlib.Core.List.{List, [], _∷_}
 use mathlib.Core.Path.{_≡_, refl, ap, _∙_}
 use native.Mathlib.Numerals.{add-one}
 use native.Mathlib.Omega.{arith}
 use lib.Dec.{leb, ltb, eqb}
 use lib.ListN.{length, getD, take, drop, length-drop}
-use lib.Seq.{drop-cons, drop-drop, drop-length, length-take-le}
-use borrow.Author.Tests.{lt-ltb, le-ltb, lt-leb, le-leb, eq-eqb, leb-true, ltb-true, eqb-true}
+use lib.Seq.{drop-cons, drop-drop}
+use borrow.Author.Tests.{lt-ltb, le-ltb, le-leb, leb-true, ltb-true}
 use Rattle.expansion.specs.Answer.{unit, andThen, orElse, inLimits, checkWeights}
 use Rattle.numerals.specs.declared.refusal.Refusal.{Refusal}
 use Rattle.numerals.specs.declared.refusal.Refusal.the-variants.{Malformed, BadField, TooMany, NoService, TableShort}
@@ -44,134 +44,164 @@ chunk-at (n ∷ ns) ws zero l = refl
 chunk-at (n ∷ ns) ws (suc s) l =
     chunk-at ns (drop n ws) s (omega arith) ∙ ap (take (getD ns s 0)) (drop-drop (start ns s) n ws)
 
--- the checks from service s on, whose weights begin at `at`
+-- the checks from service s on: its line, one too many, one without a volume or without a size, and none
 
 pub from-step :
-    (volumes sizes ws : List ℕ) (s at : ℕ) → s < length sizes
-    → checkFrom volumes s (drop s sizes) (drop at ws)
+    (volumes sizes ws : List ℕ) (s at : ℕ) → s < length volumes → s < length sizes
+    → checkFrom s (drop s volumes) (drop s sizes) (drop at ws)
     ≡ andThen (orElse (ltb s 64) TooMany)
-    (andThen (orElse (leb (getD sizes s 0) (length ws - at)) Malformed)
-    (andThen (checkService (getD volumes s 0) (take (getD sizes s 0) (drop at ws)))
-    (checkFrom volumes (suc s) (drop (suc s) sizes) (drop (at + getD sizes s 0) ws))))
+    (andThen (checkService (getD volumes s 0) (getD sizes s 0) (drop at ws))
+    (checkFrom (suc s) (drop (suc s) volumes) (drop (suc s) sizes) (drop (at + getD sizes s 0) ws)))
 unfolding checkFrom
-from-step volumes sizes ws s at l =
-    rw (drop-cons sizes s 0 l, checkFrom, length-drop at ws, drop-drop (getD sizes s 0) at ws)
+from-step volumes sizes ws s at l m =
+    rw (drop-cons volumes s 0 l, drop-cons sizes s 0 m, checkFrom, drop-drop (getD sizes s 0) at ws)
 
-pub from-end :
-    (volumes sizes ws : List ℕ) (at : ℕ)
-    → checkFrom volumes (length sizes) (drop (length sizes) sizes) (drop at ws)
-    ≡ orElse (eqb (length ws - at) 0) Malformed
+from-many : (s : ℕ) (vs ns ws : List ℕ) → 64 ≤ s → 0 < max (length vs) (length ns) → checkFrom s vs ns ws ≡ Turned TooMany
 unfolding checkFrom
-from-end volumes sizes ws at = rw (drop-length sizes, checkFrom, length-drop at ws)
+from-many s [] [] ws h l = absurd (omega arith)
+from-many s [] (n ∷ ns) ws h l = simp (le-ltb s 64 h)
+from-many s (v ∷ vs) [] ws h l = simp (le-ltb s 64 h)
+from-many s (v ∷ vs) (n ∷ ns) ws h l = simp (le-ltb s 64 h)
+
+from-no-volume : (s : ℕ) (vs ns ws : List ℕ) → s < 64 → length vs ≡ 0 → 0 < length ns → checkFrom s vs ns ws ≡ Turned Malformed
+unfolding checkFrom
+from-no-volume s [] [] ws h e l = absurd (omega arith)
+from-no-volume s [] (n ∷ ns) ws h e l = simp (lt-ltb s 64 h)
+from-no-volume s (v ∷ vs) ns ws h e l = absurd (omega arith)
+
+from-no-size : (s : ℕ) (vs ns ws : List ℕ) → s < 64 → length ns ≡ 0 → 0 < length vs → checkFrom s vs ns ws ≡ Turned Malformed
+unfolding checkFrom
+from-no-size s [] ns ws h e l = absurd (omega arith)
+from-no-size s (v ∷ vs) [] ws h e l = simp (lt-ltb s 64 h)
+from-no-size s (v ∷ vs) (n ∷ ns) ws h e l = absurd (omega arith)
+
+from-end : (s : ℕ) (vs ns ws : List ℕ) → length vs ≡ 0 → length ns ≡ 0 → checkFrom s vs ns ws ≡ orElse (eqb (length ws) 0) Malformed
+unfolding checkFrom
+from-end s [] [] ws e f = refl
+from-end s [] (n ∷ ns) ws e f = absurd (omega arith)
+from-end s (v ∷ vs) ns ws e f = absurd (omega arith)
 
 -- the checks of all services, where those before service s passed and its weights begin at `at`
-module _ (volumes sizes ws : List ℕ) (s at : ℕ) (same : length volumes ≡ length sizes)
-    (before : checkFrom volumes 0 sizes ws ≡ checkFrom volumes s (drop s sizes) (drop at ws)) where
+module _ (volumes sizes ws : List ℕ) (s at : ℕ)
+    (before : checkFrom 0 volumes sizes ws ≡ checkFrom s (drop s volumes) (drop s sizes) (drop at ws)) where
   services-left :
       checkServices volumes sizes ws
-      ≡ andThen (checkFrom volumes s (drop s sizes) (drop at ws)) (orElse (ltb 0 (length sizes)) NoService)
+      ≡ andThen (checkFrom s (drop s volumes) (drop s sizes) (drop at ws)) (orElse (ltb 0 (length volumes)) NoService)
   unfolding checkServices
-  services-left = simp (eq-eqb (length volumes) (length sizes) same, before)
+  services-left = simp before
 
-  module _ (more : s < length sizes) where
-    pub services-many : 64 ≤ s → checkServices volumes sizes ws ≡ Turned TooMany
-    services-many h = services-left ∙ simp (from-step volumes sizes ws s at more, le-ltb s 64 h)
+  pub services-many : s < max (length volumes) (length sizes) → 64 ≤ s → checkServices volumes sizes ws ≡ Turned TooMany
+  services-many l h =
+      services-left
+      ∙ simp (from-many s (drop s volumes) (drop s sizes) (drop at ws) h (omega (arith, length-drop s volumes, length-drop s sizes)))
 
-    module _ (place : s < 64) where
-      pub services-early : length ws - at < getD sizes s 0 → checkServices volumes sizes ws ≡ Turned Malformed
-      services-early h =
-          services-left
-          ∙ simp (from-step volumes sizes ws s at more, lt-ltb s 64 place, lt-leb (getD sizes s 0) (length ws - at) h)
+  pub services-no-volume : s < 64 → length volumes ≤ s → s < length sizes → checkServices volumes sizes ws ≡ Turned Malformed
+  services-no-volume h l m =
+      services-left
+      ∙ simp (from-no-volume s (drop s volumes) (drop s sizes) (drop at ws) h (omega (arith, length-drop s volumes)) (omega (arith, length-drop s sizes)))
 
-      pub services-next :
-          getD sizes s 0 ≤ length ws - at
-          → checkFrom volumes s (drop s sizes) (drop at ws)
-          ≡ andThen (checkService (getD volumes s 0) (take (getD sizes s 0) (drop at ws)))
-          (checkFrom volumes (suc s) (drop (suc s) sizes) (drop (at + getD sizes s 0) ws))
-      services-next h =
-          simp (from-step volumes sizes ws s at more, lt-ltb s 64 place, le-leb (getD sizes s 0) (length ws - at) h)
+  pub services-no-size : s < 64 → s < length volumes → length sizes ≤ s → checkServices volumes sizes ws ≡ Turned Malformed
+  services-no-size h l m =
+      services-left
+      ∙ simp (from-no-size s (drop s volumes) (drop s sizes) (drop at ws) h (omega (arith, length-drop s sizes)) (omega (arith, length-drop s volumes)))
 
-      pub services-turned :
-          getD sizes s 0 ≤ length ws - at → (why : Refusal)
-          → checkService (getD volumes s 0) (take (getD sizes s 0) (drop at ws)) ≡ Turned why
-          → checkServices volumes sizes ws ≡ Turned why
-      services-turned h why e = services-left ∙ simp (services-next h, e)
+  module _ (place : s < 64) (volume : s < length volumes) (size : s < length sizes) where
+    pub services-turned :
+        (why : Refusal) → checkService (getD volumes s 0) (getD sizes s 0) (drop at ws) ≡ Turned why
+        → checkServices volumes sizes ws ≡ Turned why
+    services-turned why e =
+        services-left ∙ simp (from-step volumes sizes ws s at volume size, lt-ltb s 64 place, e)
 
-      pub services-passed :
-          getD sizes s 0 ≤ length ws - at
-          → checkService (getD volumes s 0) (take (getD sizes s 0) (drop at ws)) ≡ Passed
-          → checkFrom volumes 0 sizes ws ≡ checkFrom volumes (s + 1) (drop (s + 1) sizes) (drop (at + getD sizes s 0) ws)
-      services-passed h e = before ∙ services-next h ∙ rw (e, add-one)
+    pub services-passed :
+        checkService (getD volumes s 0) (getD sizes s 0) (drop at ws) ≡ Passed
+        → checkFrom 0 volumes sizes ws
+        ≡ checkFrom (s + 1) (drop (s + 1) volumes) (drop (s + 1) sizes) (drop (at + getD sizes s 0) ws)
+    services-passed e = before ∙ from-step volumes sizes ws s at volume size ∙ simp (lt-ltb s 64 place, e, add-one)
 
-  module _ (none : s ≡ length sizes) where
-    pub services-end :
-        checkServices volumes sizes ws
-        ≡ andThen (orElse (eqb (length ws - at) 0) Malformed) (orElse (ltb 0 (length sizes)) NoService)
-    services-end = services-left ∙ rw (none, from-end volumes sizes ws at)
+  pub services-end :
+      length volumes ≤ s → length sizes ≤ s
+      → checkServices volumes sizes ws
+      ≡ andThen (orElse (eqb (length ws - at) 0) Malformed) (orElse (ltb 0 (length volumes)) NoService)
+  services-end l m =
+      services-left
+      ∙ rw (from-end s (drop s volumes) (drop s sizes) (drop at ws) (omega (arith, length-drop s volumes)) (omega (arith, length-drop s sizes)), length-drop at ws)
 
 -- what is known of a service that passed: its volume v, its size n and its weights
 pub record Known (v n : ℕ) (ws : List ℕ) : Type 0 where
   pub volume : v ≤ 10000
   pub some : 1 ≤ n
   pub few : n ≤ 32
-  pub size : length ws ≡ n
   pub weighed : checkWeights ws ≡ Passed
 
-service-passed : (v n : ℕ) (ws : List ℕ) → length ws ≡ n → checkService v ws ≡ Passed → Known v n ws
+-- its weights stand in the row too
+pub service-passed : (v n : ℕ) (ws : List ℕ) → checkService v n ws ≡ Passed → (n ≤ length ws) × Known v n (take n ws)
 unfolding checkService
-service-passed v n ws size e =
-    let few = andThen (orElse (leb v 10000) BadField) (checkWeights ws) in
-    let p =
-    both-passed (orElse (ltb 0 (length ws)) Malformed) (andThen (orElse (leb (length ws) 32) TooMany) few) e
-    in
-    let q = both-passed (orElse (leb (length ws) 32) TooMany) few (p .1) in
-    let r = both-passed (orElse (leb v 10000) BadField) (checkWeights ws) (q .1) in
-    record {
-      volume = leb-true v 10000 (test-passed (leb v 10000) BadField (r .0));
-      some = omega (arith, ltb-true 0 (length ws) (test-passed (ltb 0 (length ws)) Malformed (p .0)));
-      few = omega (arith, leb-true (length ws) 32 (test-passed (leb (length ws) 32) TooMany (q .0)));
-      size = size;
-      weighed = r .1;
-    }
+service-passed v n ws e =
+    let low = andThen (orElse (leb v 10000) BadField) (checkWeights (take n ws)) in
+    let long = andThen (orElse (leb n (length ws)) Malformed) low in
+    let p = both-passed (orElse (ltb 0 n) Malformed) (andThen (orElse (leb n 32) TooMany) long) e in
+    let q = both-passed (orElse (leb n 32) TooMany) long (p .1) in
+    let r = both-passed (orElse (leb n (length ws)) Malformed) low (q .1) in
+    let w = both-passed (orElse (leb v 10000) BadField) (checkWeights (take n ws)) (r .1) in (
+      leb-true n (length ws) (test-passed (leb n (length ws)) Malformed (r .0)),
+      record {
+        volume = leb-true v 10000 (test-passed (leb v 10000) BadField (w .0));
+        some = omega (arith, ltb-true 0 n (test-passed (ltb 0 n) Malformed (p .0)));
+        few = leb-true n 32 (test-passed (leb n 32) TooMany (q .0));
+        weighed = w .1;
+      },
+    )
 
 -- service i of those from s on, in all service j: it is none too many, and its weights stand in the row
-pub record Placed (volumes : List ℕ) (j : ℕ) (ns ws : List ℕ) (i : ℕ) : Type 0 where
+pub record Placed (j : ℕ) (vs ns ws : List ℕ) (i : ℕ) : Type 0 where
   pub place : j < 64
   pub inside : start ns i + getD ns i 0 ≤ length ws
-  pub known : Known (getD volumes j 0) (getD ns i 0) (take (getD ns i 0) (drop (start ns i) ws))
+  pub known : Known (getD vs i 0) (getD ns i 0) (take (getD ns i 0) (drop (start ns i) ws))
 
 -- the first of the services and the rest
 from-first :
-    (volumes : List ℕ) (s n : ℕ) (ns ws : List ℕ) → checkFrom volumes s (n ∷ ns) ws ≡ Passed
-    → Placed volumes s (n ∷ ns) ws 0 × (n ≤ length ws) × (checkFrom volumes (suc s) ns (drop n ws) ≡ Passed)
+    (s v n : ℕ) (vs ns ws : List ℕ) → checkFrom s (v ∷ vs) (n ∷ ns) ws ≡ Passed
+    → Placed s (v ∷ vs) (n ∷ ns) ws 0 × (n ≤ length ws) × (checkFrom (suc s) vs ns (drop n ws) ≡ Passed)
 unfolding checkFrom start
-from-first volumes s n ns ws e =
-    let rest = checkFrom volumes (suc s) ns (drop n ws) in
-    let one = checkService (getD volumes s 0) (take n ws) in
-    let p =
-    both-passed (orElse (ltb s 64) TooMany) (andThen (orElse (leb n (length ws)) Malformed) (andThen one rest)) e in
-    let q = both-passed (orElse (leb n (length ws)) Malformed) (andThen one rest) (p .1) in
-    let r = both-passed one rest (q .1) in
-    let long : n ≤ length ws = leb-true n (length ws) (test-passed (leb n (length ws)) Malformed (q .0)) in (
+from-first s v n vs ns ws e =
+    let rest = checkFrom (suc s) vs ns (drop n ws) in
+    let p = both-passed (orElse (ltb s 64) TooMany) (andThen (checkService v n ws) rest) e in
+    let q = both-passed (checkService v n ws) rest (p .1) in
+    let k = service-passed v n ws (q .0) in (
       record {
         place = ltb-true s 64 (test-passed (ltb s 64) TooMany (p .0));
         inside = omega arith;
-        known = service-passed (getD volumes s 0) n (take n ws) (length-take-le n ws long) (r .0);
+        known = k .1;
       },
-      long,
-      r .1,
+      k .0,
+      q .1,
     )
 
+-- a service that lacks its volume or its size doesn't pass
+none-alone : (s : ℕ) → andThen (orElse (ltb s 64) TooMany) (Turned Malformed) ≡ Passed → ⊥
+none-alone s e =
+    let p = both-passed (orElse (ltb s 64) TooMany) (Turned Malformed) e in
+    let z : _≡_ {A = ℕ} 0 1 = cc (p .1) in
+    omega arith
+
+pub from-same : (s : ℕ) (vs ns ws : List ℕ) → checkFrom s vs ns ws ≡ Passed → length vs ≡ length ns
+unfolding checkFrom
+from-same s [] [] ws e = refl
+from-same s [] (n ∷ ns) ws e = absurd (none-alone s e)
+from-same s (v ∷ vs) [] ws e = absurd (none-alone s e)
+from-same s (v ∷ vs) (n ∷ ns) ws e = ap suc (from-same (suc s) vs ns (drop n ws) (from-first s v n vs ns ws e .2))
+
 from-passed :
-    (volumes : List ℕ) (s : ℕ) (ns ws : List ℕ) → checkFrom volumes s ns ws ≡ Passed → (i j : ℕ) → s + i ≡ j
-    → i < length ns → Placed volumes j ns ws i
+    (s : ℕ) (vs ns ws : List ℕ) → checkFrom s vs ns ws ≡ Passed → (i j : ℕ) → s + i ≡ j → i < length ns
+    → Placed j vs ns ws i
 unfolding start
-from-passed volumes s [] ws e i j h l = absurd (omega arith)
-from-passed volumes s (n ∷ ns) ws e zero j h l =
-    let same : j ≡ s = omega arith in rw same (from-first volumes s n ns ws e .0)
-from-passed volumes s (n ∷ ns) ws e (suc i) j h l =
-    let f = from-first volumes s n ns ws e in
-    let next = from-passed volumes (suc s) ns (drop n ws) (f .2) i j (omega arith) (omega arith) in
+from-passed s vs [] ws e i j h l = absurd (omega arith)
+from-passed s [] (n ∷ ns) ws e i j h l = absurd (omega (arith, from-same s [] (n ∷ ns) ws e))
+from-passed s (v ∷ vs) (n ∷ ns) ws e zero j h l =
+    let same : j ≡ s = omega arith in rw same (from-first s v n vs ns ws e .0)
+from-passed s (v ∷ vs) (n ∷ ns) ws e (suc i) j h l =
+    let f = from-first s v n vs ns ws e in
+    let next = from-passed (suc s) vs ns (drop n ws) (f .2) i j (omega arith) (omega arith) in
     record {
       place = next .place;
       inside = omega (arith, next .inside, length-drop n ws, f .1);
@@ -189,14 +219,14 @@ pub record Accepted (k tolerance capacity : ℕ) (volumes sizes ws : List ℕ) :
   pub some : 1 ≤ length sizes
   pub few : length sizes ≤ 64
   pub room : length sizes ≤ capacity
-  pub each : (s : ℕ) → s < length sizes → Placed volumes s sizes ws s
+  pub each : (s : ℕ) → s < length sizes → Placed s volumes sizes ws s
 
 pub all-passed :
     (k tolerance capacity : ℕ) (volumes sizes ws : List ℕ) → checkAll k tolerance capacity volumes sizes ws ≡ Passed
     → Accepted k tolerance capacity volumes sizes ws
 unfolding checkAll checkHead checkServices
 all-passed k tolerance capacity volumes sizes ws e =
-    let short = orElse (leb (length sizes) capacity) TableShort in
+    let short = orElse (leb (length volumes) capacity) TableShort in
     let p = both-passed (checkHead k tolerance capacity) (andThen (checkServices volumes sizes ws) short) e in
     let q = both-passed (checkServices volumes sizes ws) short (p .1) in
     let rooms = orElse (inLimits 1 2048 capacity) BadField in
@@ -204,22 +234,22 @@ all-passed k tolerance capacity volumes sizes ws e =
     let g = both-passed (orElse (leb tolerance unit) BadField) rooms (h .1) in
     let bits = limits 1 12 k (test-passed (inLimits 1 12 k) BadField (h .0)) in
     let cap = limits 1 2048 capacity (test-passed (inLimits 1 2048 capacity) BadField (g .1)) in
-    let any = orElse (ltb 0 (length sizes)) NoService in
-    let u = both-passed (orElse (eqb (length volumes) (length sizes)) Malformed) (andThen (checkFrom volumes 0 sizes ws) any) (q .0) in
-    let v = both-passed (checkFrom volumes 0 sizes ws) any (u .1) in
-    let placed : (s : ℕ) → s < length sizes → Placed volumes s sizes ws s =
-    λ s l. from-passed volumes 0 sizes ws (v .0) s s (omega arith) l in
-    let some : 0 < length sizes = ltb-true 0 (length sizes) (test-passed (ltb 0 (length sizes)) NoService (v .1)) in
+    let v = both-passed (checkFrom 0 volumes sizes ws) (orElse (ltb 0 (length volumes)) NoService) (q .0) in
+    let same : length volumes ≡ length sizes = from-same 0 volumes sizes ws (v .0) in
+    let placed : (s : ℕ) → s < length sizes → Placed s volumes sizes ws s =
+    λ s l. from-passed 0 volumes sizes ws (v .0) s s (omega arith) l in
+    let some : 0 < length volumes = ltb-true 0 (length volumes) (test-passed (ltb 0 (length volumes)) NoService (v .1)) in
+    let room : length volumes ≤ capacity = leb-true (length volumes) capacity (test-passed (leb (length volumes) capacity) TableShort (q .1)) in
     record {
       some-bits = bits .0;
       few-bits = bits .1;
       tolerable = leb-true tolerance unit (test-passed (leb tolerance unit) BadField (g .0));
       some-room = cap .0;
       little-room = cap .1;
-      same = eqb-true (length volumes) (length sizes) (test-passed (eqb (length volumes) (length sizes)) Malformed (u .0));
+      same = same;
       some = omega arith;
       few = omega (arith, placed (length sizes - 1) (omega arith) .place);
-      room = leb-true (length sizes) capacity (test-passed (leb (length sizes) capacity) TableShort (q .1));
+      room = omega arith;
       each = placed;
     }
 

@@ -1,64 +1,86 @@
 -- What the packing answers, where the lists and the grants are those that the program keeps.
-use Prim.Native.Nat.{ℕ, _*_, _≤_, _<_}
+use Prim.Native.Nat.{ℕ, zero, suc, _*_, _≤_}
 use mathlib.Core.Path.{_≡_, refl, sym, ap₂, _∙_}
+use mathlib.Core.Bool.{Bool, true, false}
 use mathlib.Core.List.{List}
 use native.Mathlib.Omega.{arith}
 use lib.ListN.{length}
-use borrow.Author.Tests.{le-leb, lt-leb}
+use lib.Dec.{leb, eqb}
+use borrow.Author.Tests.{eq-eqb, ne-eqb}
+use Rattle.numerals.specs.Pick.{pick}
 use Rattle.expansion.specs.Sums.{sumTo}
 use Rattle.numerals.specs.declared.refusal.Refusal.{Refusal}
+use Rattle.numerals.specs.declared.refusal.Refusal.the-variants.{ShortLoan}
 use Rattle.expansion.specs.declared.call.Checked.the-variants.{Sound as Passed, Refused as Turned}
 use Rattle.packing.specs.Grants.{total}
 use Rattle.packing.specs.Count.{services, volume}
 use Rattle.packing.specs.Table.{problem, granted}
 use Rattle.packing.specs.Demand.{Demand}
-use Rattle.packing.specs.Answer.{servicesOf, checkAll, linesMade, packedOf, figuresMade, cells, answer}
+use Rattle.packing.specs.Answer.{servicesOf, checkAll, linesMade, packedOf, figuresMade, cells, noBuffer, figuresBuffer, tableBuffer, answer}
 use Rattle.packing.specs.Kept.{Listed, Granted}
-use Rattle.packing.specs.Stored.{storedTotal, storedFigures, storedTable, AllPayable, Allotted, Tabled}
+use Rattle.packing.specs.Stored.{storedTotal, storedFigures, storedTable, AllPayable, Allotted, Writable, shortOf, unlessShort}
 use Rattle.packing.specs.declared.call.Packed.{Packed}
-use Rattle.packing.specs.declared.call.Packing.the-variants.{Made, Refused, ShortFigures, ShortTable}
+use Rattle.packing.specs.declared.call.Packing.{Packing}
+use Rattle.packing.specs.declared.call.Packing.the-variants.{Made, Refused}
 use Rattle.packing.proofs.Demand.{granted-fitting, demand}
 use Rattle.packing.proofs.Checks.{Accepted, balanced, volume-le}
 use Rattle.packing.proofs.Meant.{granted-kept, rules-kept, granted-payable, total-meant, all-payable}
 use Rattle.packing.proofs.Written.{table-meant, figures-meant, tabled, rules-made}
 
+-- the refusal names the buffer that is too short
+picks :
+    (t u : Bool) (made : Packing) (b : ℕ) → b ≡ pick t (pick u noBuffer tableBuffer) figuresBuffer
+    → pick t (pick u made (Refused ShortLoan tableBuffer)) (Refused ShortLoan figuresBuffer)
+    ≡ pick (eqb b 0) made (Refused ShortLoan b)
+picks true true made b e = rw e
+picks true false made b e = rw e
+picks false u made b e = rw e
+
+-- a lent buffer that stays as it was
+pub kept-short : (b : ℕ) (out vs : List ℕ) → (b ≡ 0 → ⊥) → unlessShort b out vs ≡ out
+kept-short zero out vs short = absurd (short refl)
+kept-short (suc b) out vs short = refl
+
 -- the answer by what was found on the way
 module _ (k tolerance capacity : ℕ) (volumes sizes ws : List ℕ) (figuresRoom tableRoom : ℕ) where
   pub answer-refused :
       (why : Refusal) → checkAll k tolerance capacity volumes sizes ws ≡ Turned why
-      → answer k tolerance capacity volumes sizes ws figuresRoom tableRoom ≡ Refused why
+      → answer k tolerance capacity volumes sizes ws figuresRoom tableRoom ≡ Refused why noBuffer
   unfolding answer
   answer-refused why e = rw e
 
-  module _ (passed : checkAll k tolerance capacity volumes sizes ws ≡ Passed) where
-    pub answer-figures :
-        figuresRoom < 3 * length volumes
-        → answer k tolerance capacity volumes sizes ws figuresRoom tableRoom ≡ ShortFigures
+  module _ (passed : checkAll k tolerance capacity volumes sizes ws ≡ Passed) (r : ℕ)
+      (rules : r ≡ length (linesMade (servicesOf k volumes sizes ws) tolerance capacity)) where
+    -- the answer, where the checks passed, by the tests of room
+    found :
+        answer k tolerance capacity volumes sizes ws figuresRoom tableRoom
+        ≡ pick (leb (3 * length volumes) figuresRoom)
+        (pick (leb (4 * r) tableRoom) (Made (packedOf (servicesOf k volumes sizes ws) tolerance capacity))
+        (Refused ShortLoan tableBuffer))
+        (Refused ShortLoan figuresBuffer)
     unfolding answer services servicesOf
-    answer-figures h = simp (passed, lt-leb (3 * length volumes) figuresRoom h)
+    found = simp (passed, ← rules)
 
-    module _ (r : ℕ) (rules : r ≡ length (linesMade (servicesOf k volumes sizes ws) tolerance capacity))
-        (enough : 3 * length volumes ≤ figuresRoom) where
-      pub answer-table :
-          tableRoom < 4 * r → answer k tolerance capacity volumes sizes ws figuresRoom tableRoom ≡ ShortTable
-      unfolding answer services servicesOf
-      answer-table h =
-          simp (passed, le-leb (3 * length volumes) figuresRoom enough, ← rules, lt-leb (4 * r) tableRoom h)
+    pub answer-short :
+        (b : ℕ) → b ≡ shortOf (length volumes) r figuresRoom tableRoom → (b ≡ 0 → ⊥)
+        → answer k tolerance capacity volumes sizes ws figuresRoom tableRoom ≡ Refused ShortLoan b
+    unfolding shortOf
+    answer-short b e short =
+        found ∙ picks (leb (3 * length volumes) figuresRoom) (leb (4 * r) tableRoom) _ b e ∙ simp (ne-eqb b 0 short)
 
-      pub answer-made :
-          4 * r ≤ tableRoom
-          → answer k tolerance capacity volumes sizes ws figuresRoom tableRoom
-          ≡ Made (packedOf (servicesOf k volumes sizes ws) tolerance capacity)
-      unfolding answer services servicesOf
-      answer-made h =
-          simp (passed, le-leb (3 * length volumes) figuresRoom enough, ← rules, le-leb (4 * r) tableRoom h)
+    pub answer-made :
+        (b : ℕ) → b ≡ shortOf (length volumes) r figuresRoom tableRoom → b ≡ 0
+        → answer k tolerance capacity volumes sizes ws figuresRoom tableRoom
+        ≡ Made (packedOf (servicesOf k volumes sizes ws) tolerance capacity)
+    unfolding shortOf
+    answer-made b e none =
+        found ∙ picks (leb (3 * length volumes) figuresRoom) (leb (4 * r) tableRoom) _ b e ∙ simp (eq-eqb b 0 none)
 
 -- the lists and grants kept, with r rules in all, come to this
 pub record Settled (k tolerance capacity : ℕ) (volumes sizes ws lens values backends stairs counts ends grants : List ℕ) (r : ℕ) : Type 0 where
   pub rules : r ≡ length (linesMade (servicesOf k volumes sizes ws) tolerance capacity)
-  pub little : r ≤ 2048
   pub payable : AllPayable volumes stairs grants
-  pub room : (n : ℕ) → 4 * r ≤ n → Tabled (length volumes) grants lens values backends n
+  pub writable : Writable (length volumes) r grants counts ends lens values backends
   pub figures :
       storedFigures grants counts ends (length volumes) ≡ figuresMade (servicesOf k volumes sizes ws) tolerance capacity
   pub table :
@@ -82,11 +104,11 @@ module _ (k tolerance capacity : ℕ) (volumes sizes ws lens values backends sta
 
   pub settled :
       (grants : List ℕ) (r : ℕ) → length lens ≡ 2048 → length values ≡ 2048 → length backends ≡ 2048
-      → length stairs ≡ 2048 → length counts ≡ 64 → length grants ≡ 64
+      → length stairs ≡ 2048 → length counts ≡ 64 → length ends ≡ 64 → length grants ≡ 64
       → Allotted capacity volumes stairs counts grants r
       → Settled k tolerance capacity volumes sizes ws lens values backends stairs counts ends grants r
   unfolding servicesOf services packedOf linesMade
-  settled grants r e f g h i j G =
+  settled grants r e f g h i m j G =
       let S = servicesOf k volumes sizes ws in
       let few : length volumes ≤ 64 = omega (arith, A .few, A .same) in
       let room : length volumes ≤ capacity = omega (arith, A .room, A .same) in
@@ -99,9 +121,15 @@ module _ (k tolerance capacity : ℕ) (volumes sizes ws lens values backends sta
       total-meant S tolerance stairs counts (L .stepped) capacity grants room kept in
       record {
         rules = lines;
-        little = omega (arith, granted-fitting S tolerance capacity room .room, A .little-room);
         payable = granted-payable S tolerance stairs counts (L .stepped) capacity grants room kept (omega arith) (ready h i);
-        room = λ n l. tabled S tolerance lens values backends stairs counts ends L capacity grants kept n few (omega arith) e f g (omega arith);
+        writable = record {
+          few = few;
+          little = omega (arith, granted-fitting S tolerance capacity room .room, A .little-room);
+          given = omega arith;
+          counted = omega arith;
+          ended = omega arith;
+          tabled = λ n l. tabled S tolerance lens values backends stairs counts ends L capacity grants kept n few (omega arith) e f g (omega arith);
+        };
         figures = figures-meant S tolerance lens values backends stairs counts ends L capacity grants kept;
         table = table-meant S tolerance lens values backends stairs counts ends L capacity grants kept;
         made = λ t p. ap₂ (λ (r t : ℕ). record { rules = r; total = t }) lines (p ∙ whole);

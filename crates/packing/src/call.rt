@@ -12,12 +12,11 @@ pub struct Packed {
     pub total: u64,
 }
 
-// What the packing answers: the table's measures, why it is turned back, or which lent buffer is too short.
+// What the packing answers: the table's measures, or why it is turned back and the lent buffer that this is about:
+// figures 1, table 2, or 0 for none.
 pub enum Packing {
     Made(Packed),
-    Refused(Refusal),
-    ShortFigures,
-    ShortTable,
+    Refused(Refusal, usize),
 }
 
 // The services' grants and table. `figures` takes three numbers for each service: its grant, the length of its list
@@ -40,7 +39,7 @@ pub fn pack(
 {
     let checked = crate::check::check_all(k, tolerance, capacity, volumes, sizes, weights);
     if let Checked::Refused(why) = checked {
-        return Packing::Refused(why);
+        return Packing::Refused(why, 0);
     }
     let mut lens = [0usize; 2048];
     let mut values = [0usize; 2048];
@@ -63,14 +62,21 @@ pub fn pack(
     let mut grants = [1usize; 64];
     let rules = crate::grants::grant_all(capacity, volumes, &stairs, &counts, &mut grants);
     let n = volumes.len();
-    if figures.len() < 3 * n {
-        return Packing::ShortFigures;
+    let short = crate::output::write_out(
+        figures,
+        table,
+        n,
+        rules,
+        &grants,
+        &counts,
+        &ends,
+        &lens,
+        &values,
+        &backends,
+    );
+    if short != 0 {
+        return Packing::Refused(Refusal::ShortLoan, short);
     }
-    if table.len() < 4 * rules {
-        return Packing::ShortTable;
-    }
-    crate::output::write_figures(figures, n, &grants, &counts, &ends);
-    crate::output::write_table(table, n, &grants, &lens, &values, &backends);
     Packing::Made(Packed {
         rules,
         total: crate::grants::total_cost(volumes, &stairs, &grants),

@@ -2,6 +2,7 @@
 use expansion::Checked;
 use numerals::Refusal;
 ghost use mathlib.Core.Path.{_≡_};
+ghost use Prim.Native.Nat.{max};
 ghost use Rattle.packing.specs.Answer.{checkHead, checkService, checkServices, checkAll};
 
 // k, tolerance and capacity.
@@ -26,41 +27,52 @@ fn check_head(k: usize, tolerance: u64, capacity: usize) -> Checked
     Checked::Sound
 }
 
-// One service: the number of its weights, its volume, its weights and their sum.
-fn check_service(volume: u64, weights: &[u64]) -> Checked
-    ensures { λ r. ⌜ r ≡ checkService volume (now (weights .entry)) ⌝ }
+// The line of one service, whose weights are the first of a row: how many they are, the volume, the weights and their
+// sum.
+fn check_service(volume: u64, size: usize, weights: &[u64]) -> Checked
+    ensures { λ r. ⌜ r ≡ checkService volume size (now (weights .entry)) ⌝ }
 {
-    if weights.len() == 0 {
+    if size < 1 {
         return Checked::Refused(Refusal::Malformed);
     }
-    if 32 < weights.len() {
+    if 32 < size {
         return Checked::Refused(Refusal::TooMany);
+    }
+    if weights.len() < size {
+        return Checked::Refused(Refusal::Malformed);
     }
     if 10000 < volume {
         return Checked::Refused(Refusal::BadField);
     }
-    expansion::check_weights(weights)
+    expansion::check_weights(&weights[..size])
+}
+
+fn longer(a: usize, b: usize) -> usize
+    ensures { λ r. ⌜ r ≡ max a b ⌝ }
+{
+    if a < b { b } else { a }
 }
 
 // Every service in turn; a 65th is one too many. The weights of all services stand in one row, as many of each as
-// `sizes` says; a row that ends early or goes on leaves a service with too few or too many fields.
-pub fn check_services(volumes: &[u64], sizes: &[usize], weights: &[u64]) -> Checked
+// `sizes` says. A service without a volume or a size has too few fields, and what is left of the row is on no line.
+fn check_services(volumes: &[u64], sizes: &[usize], weights: &[u64]) -> Checked
     ensures { λ r. ⌜ r ≡ checkServices (now (volumes .entry)) (now (sizes .entry)) (now (weights .entry)) ⌝ }
 {
-    if volumes.len() != sizes.len() {
-        return Checked::Refused(Refusal::Malformed);
-    }
+    let lines = longer(volumes.len(), sizes.len());
     let mut at = 0;
     let mut s = 0;
-    while s < sizes.len() {
+    while s < lines {
         if 64 <= s {
             return Checked::Refused(Refusal::TooMany);
         }
-        let n = sizes[s];
-        if weights.len() - at < n {
+        if volumes.len() <= s {
             return Checked::Refused(Refusal::Malformed);
         }
-        let checked = check_service(volumes[s], &weights[at..at + n]);
+        if sizes.len() <= s {
+            return Checked::Refused(Refusal::Malformed);
+        }
+        let n = sizes[s];
+        let checked = check_service(volumes[s], n, &weights[at..]);
         if let Checked::Refused(why) = checked {
             return Checked::Refused(why);
         }
@@ -70,7 +82,7 @@ pub fn check_services(volumes: &[u64], sizes: &[usize], weights: &[u64]) -> Chec
     if at < weights.len() {
         return Checked::Refused(Refusal::Malformed);
     }
-    if sizes.len() == 0 {
+    if lines < 1 {
         return Checked::Refused(Refusal::NoService);
     }
     Checked::Sound
@@ -95,7 +107,7 @@ pub fn check_all(
     if let Checked::Refused(why) = services {
         return Checked::Refused(why);
     }
-    if capacity < sizes.len() {
+    if capacity < volumes.len() {
         return Checked::Refused(Refusal::TableShort);
     }
     Checked::Sound

@@ -9,4 +9,3 @@ mod tournament;
 pub use call::Packed;
 pub use call::Packing;
 pub use call::pack;
-pub use check::check_services;

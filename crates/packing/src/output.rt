@@ -4,7 +4,7 @@ ghost use mathlib.Core.List.{[], _∷_};
 ghost use Prim.Native.Nat.{_+_, _*_, _≤_};
 ghost use lib.ListN.{length};
 ghost use lib.Seq.{sets};
-ghost use Rattle.packing.specs.Stored.{storedFigures, storedCells, storedTable, Tabled};
+ghost use Rattle.packing.specs.Stored.{storedFigures, storedCells, storedTable, Tabled, Writable, shortOf, unlessShort};
 
 // Three numbers from position `at` on.
 fn write_three(out: &mut [usize], at: usize, a: usize, b: usize, c: usize)
@@ -17,7 +17,7 @@ fn write_three(out: &mut [usize], at: usize, a: usize, b: usize, c: usize)
 }
 
 // Of each service its grant, the length of its list and how the list ended.
-pub fn write_figures(
+fn write_figures(
     figures: &mut [usize],
     n: usize,
     grants: &[usize],
@@ -59,7 +59,7 @@ fn write_service(
 }
 
 // The lines of all services, ascending.
-pub fn write_table(
+fn write_table(
     table: &mut [usize],
     n: usize,
     grants: &[usize],
@@ -78,4 +78,34 @@ pub fn write_table(
         at += 4 * grant;
         s += 1;
     }
+}
+
+// The figures and the table of n services with so many rules in all, where both lent buffers have room; else nothing is
+// written. The buffer that is too short, figures 1 before table 2, or 0.
+pub fn write_out(
+    figures: &mut [usize],
+    table: &mut [usize],
+    n: usize,
+    rules: usize,
+    grants: &[usize],
+    counts: &[usize],
+    ends: &[usize],
+    lens: &[usize],
+    values: &[usize],
+    backends: &[usize],
+) -> usize
+    requires { ⌜ Writable n rules (now grants) (now counts) (now ends) (now lens) (now values) (now backends) ⌝ }
+    ensures short { λ r. ⌜ r ≡ shortOf n rules (length (now (figures .entry))) (length (now (table .entry))) ⌝ }
+    ensures figures { λ r. ⌜ now (figures .exit) ≡ unlessShort r (now (figures .entry)) (storedFigures (now (grants .entry)) (now (counts .entry)) (now (ends .entry)) n) ⌝ }
+    ensures table { λ r. ⌜ now (table .exit) ≡ unlessShort r (now (table .entry)) (storedTable (now (grants .entry)) (now (lens .entry)) (now (values .entry)) (now (backends .entry)) n) ⌝ }
+{
+    if figures.len() < 3 * n {
+        return 1;
+    }
+    if table.len() < 4 * rules {
+        return 2;
+    }
+    write_figures(figures, n, grants, counts, ends);
+    write_table(table, n, grants, lens, values, backends);
+    0
 }

@@ -3,7 +3,6 @@ use Prim.Native.Nat.{ℕ, _+_, _*_, _≤_}
 use mathlib.Core.Path.{_≡_, refl, sym, ap, _∙_}
 use mathlib.Core.Bool.{Bool, true, false}
 use mathlib.Core.List.{List, []}
-use mathlib.Core.Logic.{_⊎_, inl, inr}
 use native.Mathlib.Omega.{arith}
 use lib.Dec.{leb}
 use lib.ListN.{length, take, drop}
@@ -12,6 +11,7 @@ use borrow.Author.Tests.{le-leb, leb-true}
 use Rattle.numerals.specs.Pick.{pick}
 use Rattle.numerals.specs.declared.refusal.Refusal.{Refusal}
 use Rattle.numerals.specs.declared.refusal.Refusal.the-variants.{ShortLoan}
+use Rattle.packing.specs.Answer.{noBuffer}
 use Rattle.sheets.specs.Reading.{Reading, got, turned}
 use Rattle.sheets.specs.PercentageSheet.{Sheet, readSheet}
 use Rattle.sheets.specs.RuleSheet.{Table, tableText}
@@ -22,7 +22,7 @@ use Rattle.sheets.specs.Writing.{linesIn, tableIn}
 use Rattle.sheets.specs.declared.answer.Plan.{Plan}
 use Rattle.sheets.specs.declared.answer.Refused as refused
 use Rattle.sheets.specs.declared.answer.Planned.{Planned}
-use Rattle.sheets.specs.declared.answer.Planned.the-variants.{Made, Refused, ShortFigures, ShortTable}
+use Rattle.sheets.specs.declared.answer.Planned.the-variants.{Made, Refused}
 use Rattle.sheets.specs.declared.answer.Printed.{Printed}
 use Rattle.sheets.specs.declared.answer.Printed.the-variants as printed
 use Rattle.sheets.proofs.SheetLimits.{Limits, limits}
@@ -55,7 +55,7 @@ module _ (text : List ℕ) where
       let P = table-proper S L in
       rw (e, le-leb (3 * length (S .volumes)) 192 (omega (arith, L .few)), le-leb (4 * length (tableFor S .lines)) 8192 (omega (arith, P .few)))
 
-  turned-back : (why : Refusal) (line : ℕ) → readSheet text ≡ turned why line → planAnswer text 192 8192 ≡ Refused (refusedAt why line)
+  turned-back : (why : Refusal) (line : ℕ) → readSheet text ≡ turned why line → planAnswer text 192 8192 ≡ Refused (refusedAt why line) noBuffer
   unfolding planAnswer
   turned-back why line e = rw e
 
@@ -66,23 +66,15 @@ module _ (text : List ℕ) where
       go (got S) e = record { sheet = S; read = e; is = cc (made S e) }
       go (turned why line) e = absurd (let z : _≡_ {A = ℕ} 0 1 = cc (turned-back why line e) in omega arith)
 
-  pub plan-refused : (r : refused.Refused) → planAnswer text 192 8192 ≡ Refused r → readSheet text ≡ turned (r .why) (r .line)
-  plan-refused r h = go (readSheet text) refl
+  pub plan-refused :
+      (r : refused.Refused) (buffer : ℕ) → planAnswer text 192 8192 ≡ Refused r buffer → readSheet text ≡ turned (r .why) (r .line)
+  plan-refused r buffer h = go (readSheet text) refl
     where
       go : (s : Reading Sheet) → readSheet text ≡ s → readSheet text ≡ turned (r .why) (r .line)
       go (got S) e = absurd (let z : _≡_ {A = ℕ} 0 1 = cc (made S e) in omega arith)
       go (turned why line) e =
           let is : refusedAt why line ≡ r = cc (turned-back why line e) in
           e ∙ rw (← is)
-
-  pub plan-room : (r : Planned) → planAnswer text 192 8192 ≡ r → (r ≡ ShortFigures) ⊎ (r ≡ ShortTable) → ⊥
-  plan-room r h short = go (readSheet text) refl short
-    where
-      go : (s : Reading Sheet) → readSheet text ≡ s → (r ≡ ShortFigures) ⊎ (r ≡ ShortTable) → ⊥
-      go (got S) e (inl x) = let z : _≡_ {A = ℕ} 0 1 = cc (made S e) in omega arith
-      go (got S) e (inr x) = let z : _≡_ {A = ℕ} 0 1 = cc (made S e) in omega arith
-      go (turned why line) e (inl x) = let z : _≡_ {A = ℕ} 0 1 = cc (turned-back why line e) in omega arith
-      go (turned why line) e (inr x) = let z : _≡_ {A = ℕ} 0 1 = cc (turned-back why line e) in omega arith
 
 -- the numbers that the one call leaves are the sheet's table
 module _ (S : Sheet) (L : Limits S) (buffer : List ℕ) (long : length buffer ≡ 8192) where

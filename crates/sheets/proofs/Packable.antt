@@ -3,7 +3,6 @@ use Prim.Native.Nat.{ℕ, suc, _+_, _*_, _<_, _≤_}
 use mathlib.Core.Path.{_≡_, refl, ap, _∙_}
 use mathlib.Core.Bool.{Bool, true, false}
 use mathlib.Core.List.{List, [], _∷_, _++_}
-use native.Mathlib.Nat.{zero-add}
 use native.Mathlib.Omega.{arith}
 use lib.Dec.{leb}
 use lib.ListN.{length, getD, take, length-append}
@@ -11,14 +10,15 @@ use lib.Seq.{take-append-seam, drop-append-seam}
 use borrow.Author.Tests.{lt-ltb, le-leb, eq-eqb}
 use Rattle.numerals.specs.Pick.{pick}
 use Rattle.expansion.specs.Answer.{unit, inLimits, checkWeights}
+use Rattle.numerals.specs.declared.refusal.Refusal.the-variants.{ShortLoan}
 use Rattle.expansion.specs.declared.call.Checked.the-variants.{Sound as Passed}
 use Rattle.expansion.proofs.Checks.{weights-sum}
 use Rattle.expansion.proofs.Searches.{true-all}
 use Rattle.packing.specs.Count.{services}
-use Rattle.packing.specs.Answer.{chunks, servicesOf, checkService, checkFrom, checkServices, checkHead, checkAll, linesMade, packedOf, figuresMade, cells, answer, filled}
+use Rattle.packing.specs.Answer.{chunks, servicesOf, checkService, checkFrom, checkServices, checkHead, checkAll, linesMade, packedOf, figuresMade, cells, figuresBuffer, tableBuffer, answer, filled}
 use Rattle.packing.specs.declared.call.Packed.{Packed}
 use Rattle.packing.specs.declared.call.Packing.{Packing}
-use Rattle.packing.specs.declared.call.Packing.the-variants.{Made, Refused, ShortFigures, ShortTable}
+use Rattle.packing.specs.declared.call.Packing.the-variants.{Made, Refused}
 use Rattle.sheets.specs.PercentageSheet.{Sheet, readSheet}
 use Rattle.sheets.specs.Calls.{refusedAt, servicesIn, tableFor, planOf, planAnswer, fromSheet, planFilled, figuresFor, cellsFor}
 use Rattle.sheets.specs.FromPacking.{planFrom}
@@ -35,44 +35,42 @@ chunks-row [] = refl
 chunks-row (ws ∷ wss) =
     rw (take-append-seam ws (rowOf wss), drop-append-seam ws (rowOf wss)) (ap (λ (l : List (List ℕ)). ws ∷ l) (chunks-row wss))
 
-sizes-length : (wss : List (List ℕ)) → length (sizesOf wss) ≡ length wss
-unfolding sizesOf
-sizes-length [] = refl
-sizes-length (ws ∷ wss) = ap suc (sizes-length wss)
-
 pub same-services : (S : Sheet) → servicesOf (S .k) (S .volumes) (sizesOf (S .weights)) (rowOf (S .weights)) ≡ servicesIn S
 unfolding servicesOf servicesIn
 same-services S = rw (chunks-row (S .weights))
 
 -- one service, and the services from s on
-service-passes : (v : ℕ) (ws : List ℕ) → v ≤ 10000 → Row ws → checkService v ws ≡ Passed
+service-passes : (v : ℕ) (ws rest : List ℕ) → v ≤ 10000 → Row ws → checkService v (length ws) (ws ++ rest) ≡ Passed
 unfolding checkService
-service-passes v ws h r =
+service-passes v ws rest h r =
     let some : 0 < length ws = omega (arith, r .some) in
     let weighs : checkWeights ws ≡ Passed =
     weights-sum ws some (r .few) (true-all (length ws) (λ j. leb (getD ws j 0) unit) (λ j l. le-leb (getD ws j 0) unit (r .small j l)))
     ∙ simp (eq-eqb _ unit (sum-places ws ∙ r .balanced)) in
-    simp (lt-ltb 0 (length ws) some, le-leb (length ws) 32 (r .few), le-leb v 10000 h, weighs)
+    simp (
+      lt-ltb 0 (length ws) some,
+      le-leb (length ws) 32 (r .few),
+      le-leb (length ws) (length (ws ++ rest)) (omega (arith, length-append ws rest)),
+      le-leb v 10000 h,
+      take-append-seam ws rest,
+      weighs,
+    )
 
 from-passes :
-    (volumes : List ℕ) (s : ℕ) (wss : List (List ℕ)) → s + length wss ≤ 64
-    → ((i : ℕ) → i < length wss → getD volumes (s + i) 0 ≤ 10000)
+    (s : ℕ) (volumes : List ℕ) (wss : List (List ℕ)) → length volumes ≡ length wss → s + length wss ≤ 64
+    → ((i : ℕ) → i < length wss → getD volumes i 0 ≤ 10000)
     → ((i : ℕ) → i < length wss → Row (getD wss i []))
-    → checkFrom volumes s (sizesOf wss) (rowOf wss) ≡ Passed
+    → checkFrom s volumes (sizesOf wss) (rowOf wss) ≡ Passed
 unfolding checkFrom sizesOf rowOf
-from-passes volumes s [] few small rows = refl
-from-passes volumes s (ws ∷ wss) few small rows =
-    let here : s + 0 ≡ s = omega arith in
-    let long : length ws ≤ length (ws ++ rowOf wss) = omega (arith, length-append ws (rowOf wss)) in
-    let small-next : (i : ℕ) → i < length wss → getD volumes (suc s + i) 0 ≤ 10000 =
-    λ i l. let next : suc s + i ≡ s + suc i = omega arith in rw next (small (suc i) (omega arith)) in
+from-passes s [] [] same few small rows = refl
+from-passes s [] (ws ∷ wss) same few small rows = absurd (omega arith)
+from-passes s (v ∷ volumes) [] same few small rows = absurd (omega arith)
+from-passes s (v ∷ volumes) (ws ∷ wss) same few small rows =
     simp (
       lt-ltb s 64 (omega arith),
-      le-leb (length ws) (length (ws ++ rowOf wss)) long,
-      take-append-seam ws (rowOf wss),
+      service-passes v ws (rowOf wss) (small 0 (omega arith)) (rows 0 (omega arith)),
       drop-append-seam ws (rowOf wss),
-      service-passes (getD volumes s 0) ws (rw here at (small 0 (omega arith))) (rows 0 (omega arith)),
-      from-passes volumes (suc s) wss (omega arith) small-next (λ i l. rows (suc i) (omega arith)),
+      from-passes (suc s) volumes wss (omega arith) (omega arith) (λ i l. small (suc i) (omega arith)) (λ i l. rows (suc i) (omega arith)),
     )
 
 pub all-pass :
@@ -80,16 +78,13 @@ pub all-pass :
     → checkAll (S .k) (S .tolerance) (S .capacity) (S .volumes) (sizesOf (S .weights)) (rowOf (S .weights)) ≡ Passed
 unfolding checkAll checkHead checkServices inLimits
 all-pass S l =
-    let long : length (sizesOf (S .weights)) ≡ length (S .volumes) = sizes-length (S .weights) ∙ l .rows in
     simp (
       le-leb 1 (S .k) (l .bits),
       le-leb (S .k) 12 (l .few-bits),
       le-leb (S .tolerance) unit (l .tolerant),
       le-leb 1 (S .capacity) (omega (arith, l .some, l .room)),
       le-leb (S .capacity) 2048 (l .small),
-      long,
-      eq-eqb (length (S .volumes)) (length (S .volumes)) refl,
-      from-passes (S .volumes) 0 (S .weights) (omega (arith, l .rows, l .few)) (λ i h. rw zero-add (l .volume i (omega (arith, l .rows)))) (λ i h. l .row i (omega (arith, l .rows))),
+      from-passes 0 (S .volumes) (S .weights) (omega (arith, l .rows)) (omega (arith, l .rows, l .few)) (λ i h. l .volume i (omega (arith, l .rows))) (λ i h. l .row i (omega (arith, l .rows))),
       lt-ltb 0 (length (S .volumes)) (omega (arith, l .some)),
       le-leb (length (S .volumes)) (S .capacity) (l .room),
     )
@@ -97,8 +92,11 @@ all-pass S l =
 -- a choice by two tests, carried through to the one call's answer
 plan-picks :
     (k n : ℕ) (t u : Bool) (p : Packed)
-    → planFrom k n (pick t (pick u (Made p) ShortTable) ShortFigures)
-    ≡ pick t (pick u (planned-variants.Made (record { k = k; services = n; rules = p .rules; total = p .total })) planned-variants.ShortTable) planned-variants.ShortFigures
+    → planFrom k n (pick t (pick u (Made p) (Refused ShortLoan tableBuffer)) (Refused ShortLoan figuresBuffer))
+    ≡ pick t
+    (pick u (planned-variants.Made (record { k = k; services = n; rules = p .rules; total = p .total }))
+    (planned-variants.Refused (refusedAt ShortLoan 0) tableBuffer))
+    (planned-variants.Refused (refusedAt ShortLoan 0) figuresBuffer)
 plan-picks k n true true p = refl
 plan-picks k n true false p = refl
 plan-picks k n false u p = refl
@@ -113,9 +111,7 @@ plan-answer S limits a b = rw (all-pass S limits, same-services S)
 
 fill-same : (k n : ℕ) (p : Packing) (out vs : List ℕ) → filled p out vs ≡ planFilled (planFrom k n p) out vs
 fill-same k n (Made p) out vs = refl
-fill-same k n (Refused why) out vs = refl
-fill-same k n ShortFigures out vs = refl
-fill-same k n ShortTable out vs = refl
+fill-same k n (Refused why buffer) out vs = refl
 
 -- the numbers that the memory holds, packed: the answer and the buffers of the one call
 module _ (text : List ℕ) {vs zs ws : List ℕ} {head : Head} {n row : ℕ} (kept : SheetKept (readSheet text) vs zs ws head n row) where

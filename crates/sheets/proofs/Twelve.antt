@@ -1,5 +1,9 @@
 -- The twelve P cases of document 01 hold of the definitions.
-use mathlib.Core.Path.{refl}
+use Prim.Native.Nat.{ℕ, zero, suc, _<_}
+use mathlib.Core.Path.{_≡_, refl}
+use mathlib.Core.List.{[], _∷_}
+use native.Mathlib.Omega.{arith}
+use lib.ListN.{getD}
 use Rattle.numerals.specs.Digits.{isDigit, allDigits, value, valueFrom, onValue}
 use Rattle.numerals.specs.Decimal.{noLeadingZero, isNumeral, number}
 use Rattle.numerals.specs.Text.{onto, split}
@@ -7,11 +11,29 @@ use Rattle.numerals.specs.Percentage.{fraction, atMostAll, percentOf, percentag
 use Rattle.numerals.specs.Digits.{lowest}
 use Rattle.numerals.specs.Suffix.{suffix, place}
 use Rattle.expansion.proofs.Cases.{worked-show, p6-one-suffix}
+use Rattle.expansion.specs.Answer.{unit}
+use Rattle.packing.specs.Table.{granted}
 use Rattle.packing.proofs.Cases.{p7}
 use Rattle.sheets.specs.Reading.{onField}
 use Rattle.sheets.specs.RuleSheet.{onSuffix}
-use Rattle.sheets.specs.Cases.{bytes}
-use Rattle.sheets.specs.Twelve.{AllOf, twelve}
+use Rattle.sheets.specs.Calls.{servicesIn}
+use Rattle.sheets.specs.Cases.{bytes, cases}
+use Rattle.sheets.specs.Twelve.{Packs, AllOf, twelve}
+use Rattle.sheets.proofs.Cases.{right}
+use Rattle.sheets.proofs.Witnesses.{sample, sample-printed}
+
+-- P7: the sample's text is read as the sample, which is granted 2 and 3
+sample-grant : (s : ℕ) → s < 2 → granted (servicesIn sample) 20000 5 s ≡ getD (2 ∷ 3 ∷ []) s 0
+unfolding servicesIn unit
+sample-grant zero l = p7 .first
+sample-grant (suc zero) l = p7 .second
+sample-grant (suc (suc s)) l = absurd (omega arith)
+
+sample-packs :
+    Packs (bytes "SHEET 5 2 5\nSERVICE 55 16.6667 33.3333 50\nSERVICE 45 25 25 50\n") (2 ∷ 3 ∷ [])
+    (bytes "TABLE 5 5 293333920\n1 *0 2\n1 * 3\n2 *00 2\n2 *0 1\n2 * 3\n")
+unfolding cases
+sample-packs = record { sheet = sample; read = right .0; services = refl; grant = sample-grant; rules = sample-printed }
 
 pub twelve-right : AllOf twelve
 unfolding bytes onField onSuffix suffix place lowest percentage percentOf split onto number isNumeral noLeadingZero allDigits isDigit value valueFrom onValue fraction atMostAll
@@ -27,7 +49,7 @@ twelve-right = (
           worked-show .1 .1 .1 .1 .0,
           (
             (worked-show .1 .1 .1 .1 .1 .0, p6-one-suffix),
-            (p7, (refl, (refl, (refl, (refl, (refl, tt)))))),
+            (sample-packs, (refl, (refl, (refl, (refl, (refl, tt)))))),
           ),
         ),
       ),

@@ -12,6 +12,7 @@ use Rattle.numerals.specs.Pick.{pick}
 use Rattle.numerals.specs.Suffix.{suffix, suffixText, place}
 use Rattle.numerals.specs.Text.{onto, split}
 use Rattle.expansion.specs.Answer.{unit}
+use Rattle.numerals.specs.Refusals.{no7}
 use Rattle.expansion.specs.Sums.{sumTo, countTo, allTo, firstTo, argmax, lastmax}
 use Rattle.expansion.specs.FirstMatch.{matches, gives, share}
 use Rattle.expansion.specs.Imbalance.{backends, weight, has, wants, excess, shortfall, imbalance, giver, receiver, largestExcess, largestShortfall}
@@ -20,13 +21,13 @@ use Rattle.expansion.specs.declared.rule.Ended.the-variants.{NoGain}
 use Rattle.packing.specs.Grants.{Grants, saving, next, rules, total, more, grantStep, grantsAfter, packed}
 use Rattle.packing.specs.Count.{services, volume, weightsOf, matchesLine, givesLine, countedShare, countedExcess, countedShortfall, countedImbalance, counted, countedLargestExcess, countedLargestShortfall, ownRules}
 use Rattle.packing.specs.Table.{ruleBudget, frameOf, listFor, linesOf, tableOf, table, problem, granted}
-use Rattle.packing.specs.Answer.{linesMade, figuresTo, figuresMade}
+use Rattle.packing.specs.Answer.{linesMade, figuresTo, figuresMade, figuresBuffer, tableBuffer}
 use Rattle.packing.specs.Demand.{Fitting}
 use Rattle.packing.specs.Cases.{line}
 use Rattle.sheets.specs.Reading.{Reading, got, turned, then, unless, onField, same}
 use Rattle.sheets.specs.PercentageSheet.{Sheet, headFields, weightFields, sum, serviceFields, serviceLines, volumesOf, weightsOf as rowsOf, whole, sheetLines, textLimit, readSheet}
 use Rattle.sheets.specs.RuleSheet.{Table, totalLimit, lineText, linesText, tableText, tableFields, onSuffix, countOf, inOrder, placed, ruleFields, ruleLines, closed, wholeTable, tableLines, readTable, isLine, checkLines, checkTable}
-use Rattle.sheets.specs.Calls.{servicesIn, tableFor, planOf, planAnswer, figuresFor, sheetText, printText, printRead}
+use Rattle.sheets.specs.Calls.{refusedAt, servicesIn, tableFor, planOf, planAnswer, figuresFor, sheetText, printText, printRead}
 use Rattle.sheets.specs.Demand.{Demand3}
 use Rattle.sheets.specs.Cases.{bytes, cases}
 use Rattle.sheets.specs.declared.answer.Planned.the-variants as planned
@@ -36,7 +37,7 @@ use Rattle.sheets.proofs.Owed.{demand-three}
 
 -- The sample sheet and its rule sheet.
 
-abbrev sample : Sheet
+abbrev pub sample : Sheet
 sample =
     record {
       k = 5;
@@ -140,9 +141,9 @@ sample-figures = refl
 
 pub record OneCall : Type 0 where
   pub made : planAnswer sheetBytes 6 20 ≡ planned.Made (record { k = 5; services = 2; rules = 5; total = 293333920 })
-  pub table-short : planAnswer sheetBytes 6 19 ≡ planned.ShortTable
-  pub figures-short : planAnswer sheetBytes 5 20 ≡ planned.ShortFigures
-  pub both-short : planAnswer sheetBytes 5 19 ≡ planned.ShortFigures
+  pub table-short : planAnswer sheetBytes 6 19 ≡ planned.Refused (refusedAt no7 0) tableBuffer
+  pub figures-short : planAnswer sheetBytes 5 20 ≡ planned.Refused (refusedAt no7 0) figuresBuffer
+  pub both-short : planAnswer sheetBytes 5 19 ≡ planned.Refused (refusedAt no7 0) figuresBuffer
 
 pub one-call : OneCall
 unfolding cases planAnswer planOf

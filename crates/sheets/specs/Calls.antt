@@ -13,7 +13,7 @@ use Rattle.numerals.specs.Refusals.{no1, no7, no8, no12}
 use Rattle.packing.specs.Grants.{total}
 use Rattle.packing.specs.Count.{Line, Services, services, matchesLine}
 use Rattle.packing.specs.Table.{problem, granted}
-use Rattle.packing.specs.Answer.{linesMade, figuresMade, cells}
+use Rattle.packing.specs.Answer.{linesMade, figuresMade, cells, noBuffer, figuresBuffer, tableBuffer}
 use Rattle.sheets.specs.Reading.{Reading, got, turned, then, unless}
 use Rattle.sheets.specs.PercentageSheet.{Sheet, readSheet}
 use Rattle.sheets.specs.RuleSheet.{Table, tableText, countOf, readTable, checkTable}
@@ -47,24 +47,18 @@ tableFor S =
       lines = linesMade (servicesIn S) (S .tolerance) (S .capacity);
     }
 
--- refusal 7 of the one call, by the lent buffer that it names: figures 1, table 2
-abbrev pub shortBuffer : ℕ → planned.Planned
-shortBuffer zero = planned-variants.ShortFigures
-shortBuffer (suc zero) = planned-variants.ShortFigures
-shortBuffer (suc (suc b)) = planned-variants.ShortTable
-
--- the one call: the table and the figures of a percentage sheet's text
+-- the one call: the table and the figures of a percentage sheet's text; 7 names the lent buffer that is too short
 unfoldable pub planOf : Sheet → ℕ → ℕ → planned.Planned
 planOf S figuresRoom tableRoom =
     pick (leb (3 * length (S .volumes)) figuresRoom)
     (pick (leb (4 * length (tableFor S .lines)) tableRoom)
     (planned-variants.Made (record { k = S .k; services = length (S .volumes); rules = length (tableFor S .lines); total = tableFor S .total }))
-    (shortBuffer 2))
-    (shortBuffer 1)
+    (planned-variants.Refused (refusedAt no7 0) tableBuffer))
+    (planned-variants.Refused (refusedAt no7 0) figuresBuffer)
 
 abbrev pub onSheet : Reading Sheet → (Sheet → planned.Planned) → planned.Planned
 onSheet (got S) f = f S
-onSheet (turned why line) f = planned-variants.Refused (refusedAt why line)
+onSheet (turned why line) f = planned-variants.Refused (refusedAt why line) noBuffer
 
 unfoldable pub planAnswer : List ℕ → ℕ → ℕ → planned.Planned
 planAnswer text figuresRoom tableRoom = onSheet (readSheet text) (λ S. planOf S figuresRoom tableRoom)
@@ -76,9 +70,7 @@ fromSheet (turned why line) f = []
 
 abbrev pub planFilled : planned.Planned → List ℕ → List ℕ → List ℕ
 planFilled (planned-variants.Made p) out vs = sets out 0 vs
-planFilled (planned-variants.Refused r) out vs = out
-planFilled planned-variants.ShortFigures out vs = out
-planFilled planned-variants.ShortTable out vs = out
+planFilled (planned-variants.Refused r buffer) out vs = out
 
 unfoldable pub figuresFor : Sheet → List ℕ
 figuresFor S = figuresMade (servicesIn S) (S .tolerance) (S .capacity)

@@ -1,13 +1,11 @@
 -- The packing's answer, as the one call answers it.
 use Prim.Native.Nat.{ℕ}
 use Rattle.packing.specs.declared.call.Packing.{Packing}
-use Rattle.packing.specs.declared.call.Packing.the-variants.{Made, Refused, ShortFigures, ShortTable}
-use Rattle.sheets.specs.Calls.{refusedAt, shortBuffer}
+use Rattle.packing.specs.declared.call.Packing.the-variants.{Made, Refused}
+use Rattle.sheets.specs.Calls.{refusedAt}
 use Rattle.sheets.specs.declared.answer.Planned.{Planned}
 use Rattle.sheets.specs.declared.answer.Planned.the-variants as planned-variants
 
 abbrev pub planFrom : ℕ → ℕ → Packing → Planned
 planFrom k n (Made p) = planned-variants.Made (record { k = k; services = n; rules = p .rules; total = p .total })
-planFrom k n (Refused why) = planned-variants.Refused (refusedAt why 0)
-planFrom k n ShortFigures = shortBuffer 1
-planFrom k n ShortTable = shortBuffer 2
+planFrom k n (Refused why buffer) = planned-variants.Refused (refusedAt why 0) buffer

@@ -1,30 +1,41 @@
 -- The twelve P cases of document 01 ("Figures to try") in one listing.
-use Prim.Native.Nat.{ℕ}
+use Prim.Native.Nat.{ℕ, _<_}
 use Prim.Native.String as string
 use mathlib.Core.Path.{_≡_}
 use mathlib.Core.List.{List, [], _∷_}
+use lib.ListN.{length, getD}
 use Rattle.numerals.specs.Percentage.{percentage}
 use Rattle.numerals.specs.Suffix.{suffix, place}
 use Rattle.expansion.specs.Cases.{Worked, Shows, p1, p2, p3, p4, p5, p6}
 use Rattle.expansion.specs.Imbalance.{largestExcess, largestShortfall}
 use Rattle.numerals.specs.Refusals.{no2}
-use Rattle.packing.specs.Cases.{P7}
+use Rattle.packing.specs.Table.{granted}
 use Rattle.sheets.specs.Reading.{Reading, got, turned, onField}
 use Rattle.sheets.specs.RuleSheet.{onSuffix}
+use Rattle.sheets.specs.PercentageSheet.{Sheet, readSheet}
+use Rattle.sheets.specs.Calls.{servicesIn, sheetText}
 use Rattle.sheets.specs.Cases.{bytes}
 
--- a list of rules with its end and stairs; such a list and what excess and shortfall it leaves; the grants and the table of the sample sheet; the place of a suffix; a percentage, or its refusal in a field of line 1
+-- a list of rules with its end and stairs; such a list and what excess and shortfall it leaves; a percentage sheet, the grants of its services and its rule sheet; the place of a suffix; a percentage, or its refusal in a field of line 1
 pub data Figure : Type 0 where
   makes : Worked → Figure
   leaves : Worked → ℕ → ℕ → Figure
-  packs : Figure
+  packs : string.String → List ℕ → string.String → Figure
   stands : string.String → ℕ → Figure
   reads : string.String → Reading ℕ → Figure
+
+-- a text that is read as a sheet, whose services are granted so many rules each, and whose rule sheet is printed so
+pub record Packs (text grants printed : List ℕ) : Type 0 where
+  pub sheet : Sheet
+  pub read : readSheet text ≡ got sheet
+  pub services : length grants ≡ length (sheet .volumes)
+  pub grant : (s : ℕ) → s < length grants → granted (servicesIn sheet) (sheet .tolerance) (sheet .capacity) s ≡ getD grants s 0
+  pub rules : sheetText sheet ≡ printed
 
 abbrev pub Right : Figure → Type 0
 Right (makes w) = Shows w
 Right (leaves w o u) = Shows w × ((largestExcess (w .given) (w .rules) ≡ o) × (largestShortfall (w .given) (w .rules) ≡ u))
-Right packs = P7
+Right (packs text grants printed) = Packs (bytes text) grants (bytes printed)
 Right (stands text p) = onSuffix (suffix 12 (bytes text)) 1 (λ l v. got (place l v)) ≡ got p
 Right (reads text is) = onField (percentage 4 (bytes text)) 1 got ≡ is
 
@@ -40,7 +51,8 @@ twelve =
     ∷ makes p4
     ∷ makes p5
     ∷ leaves p6 333334 666666
-    ∷ packs
+    ∷ packs "SHEET 5 2 5\nSERVICE 55 16.6667 33.3333 50\nSERVICE 45 25 25 50\n" (2 ∷ 3 ∷ [])
+    "TABLE 5 5 293333920\n1 *0 2\n1 * 3\n2 *00 2\n2 *0 1\n2 * 3\n"
     ∷ stands "*00100" 4
     ∷ reads "18.4.2" (turned no2 1)
     ∷ reads "100.0000" (got 1000000)

@@ -15,12 +15,10 @@ pub struct Plan {
     pub total: u64,
 }
 
-// The one call: the plan, a refusal, or which lent buffer is too short.
+// The one call: the plan, or a refusal and the lent buffer that it is about: figures 1, table 2, or 0 for none.
 pub enum Planned {
     Made(Plan),
-    Refused(Refused),
-    ShortFigures,
-    ShortTable,
+    Refused(Refused, usize),
 }
 
 // A text written into a lent buffer: how many bytes of it.

@@ -4,7 +4,6 @@ use crate::answer::Planned;
 use crate::answer::Printed;
 use crate::answer::Refused;
 use crate::percentage_sheet::SheetRead;
-use numerals::Refusal;
 use packing::Packing;
 ghost use mathlib.Core.Path.{_≡_};
 ghost use lib.ListN.{length};
@@ -25,7 +24,7 @@ pub fn plan(text: &[u8], figures: &mut [usize], table: &mut [usize]) -> Planned
     let mut weights = [0u64; 2048];
     let read = crate::percentage_sheet::read_sheet(text, &mut volumes, &mut sizes, &mut weights);
     match read {
-        SheetRead::Refused(why) => Planned::Refused(why),
+        SheetRead::Refused(why) => Planned::Refused(why, 0),
         SheetRead::Sheet {
             head,
             services,
@@ -58,9 +57,7 @@ fn plan_from(k: usize, services: usize, packed: Packing) -> Planned
             rules: p.rules,
             total: p.total,
         }),
-        Packing::Refused(why) => Planned::Refused(Refused { why, line: 0 }),
-        Packing::ShortFigures => Planned::ShortFigures,
-        Packing::ShortTable => Planned::ShortTable,
+        Packing::Refused(why, buffer) => Planned::Refused(Refused { why, line: 0 }, buffer),
     }
 }
 
@@ -75,14 +72,6 @@ pub fn split_sheet(text: &[u8], out: &mut [u8]) -> Printed
     let planned = plan(text, &mut figures, &mut table);
     match planned {
         Planned::Made(p) => crate::printing::print(p.k, p.total, &table, p.rules, out),
-        Planned::Refused(why) => Printed::Refused(why),
-        Planned::ShortFigures => Printed::Refused(Refused {
-            why: Refusal::ShortLoan,
-            line: 0,
-        }),
-        Planned::ShortTable => Printed::Refused(Refused {
-            why: Refusal::ShortLoan,
-            line: 0,
-        }),
+        Planned::Refused(why, _) => Printed::Refused(why),
     }
 }

@@ -1,4 +1,5 @@
 // The answers to vectors of the packing.
+use numerals::Refusal;
 use packing::Packed;
 use packing::Packing;
 use vectors::header;
@@ -94,10 +95,30 @@ fn show(packed: Packed, n: usize, figures: &[usize; 240], table: &[usize; 8192])
     show_lines(packed.rules, table);
 }
 
-// Packs n services, whose weights stand in a row of this length.
+// A refusal that names a lent buffer, as only 7 does.
+fn short(why: Refusal, buffer: &[u8]) {
+    if numerals::refusal_number(why) == 7 {
+        print::bytes(b"short ");
+        print::bytes(buffer);
+    } else {
+        print::bytes(b"wrong refusal");
+    }
+}
+
+fn turned_back(why: Refusal, buffer: usize) {
+    match buffer {
+        0 => print::refused(why),
+        1 => short(why, b"figures"),
+        2 => short(why, b"table"),
+        _ => print::bytes(b"wrong buffer"),
+    }
+}
+
+// Packs n volumes and m sizes, with the weights in a row of this length.
 fn pack_services(
     h: Header,
     n: usize,
+    m: usize,
     row: usize,
     volumes: &[u64; 80],
     sizes: &[usize; 80],
@@ -110,16 +131,14 @@ fn pack_services(
         h.second,
         h.third as usize,
         walk::first_numbers(volumes, n),
-        walk::first_places(sizes, n),
+        walk::first_places(sizes, m),
         walk::first_numbers(weights, row),
         &mut figures,
         &mut table,
     );
     match packed {
         Packing::Made(made) => show(made, n, &figures, &table),
-        Packing::Refused(why) => print::refused(why),
-        Packing::ShortFigures => print::bytes(b"short figures"),
-        Packing::ShortTable => print::bytes(b"short table"),
+        Packing::Refused(why, buffer) => turned_back(why, buffer),
     }
 }
 
@@ -129,7 +148,29 @@ fn pack(h: Header, text: &[u8]) {
     let mut sizes = [0usize; 80];
     let mut weights = [0u64; 4096];
     let row = read_services(text, n, &mut volumes, &mut sizes, &mut weights);
-    pack_services(h, n, row, &volumes, &sizes, &weights);
+    pack_services(h, n, n, row, &volumes, &sizes, &weights);
+}
+
+fn read_sizes(line: &[u8], sizes: &mut [usize; 80]) -> usize {
+    let mut row = [0u64; 80];
+    let n = walk::numbers(line, &mut row);
+    for i in 0..80 {
+        sizes[i] = row[i] as usize;
+    }
+    n
+}
+
+// Three rows that need not fit together, a line each: the volumes, the sizes and the weights.
+fn pack_rows(h: Header, text: &[u8]) {
+    let mut volumes = [0u64; 80];
+    let mut sizes = [0usize; 80];
+    let mut weights = [0u64; 4096];
+    let second = walk::after(text, 0, 10);
+    let third = walk::after(text, second, 10);
+    let n = walk::numbers(walk::part(text, 0, 10), &mut volumes);
+    let m = read_sizes(walk::part(text, second, 10), &mut sizes);
+    let row = walk::numbers(walk::part(text, third, 10), &mut weights);
+    pack_services(h, n, m, row, &volumes, &sizes, &weights);
 }
 
 // The answer to one vector, as a line.
@@ -140,6 +181,7 @@ pub fn answer(s: &[u8]) {
     let op = s[0];
     match op {
         b'K' => pack(header::read(s), header::payload(s)),
+        b'Q' => pack_rows(header::read(s), header::payload(s)),
         _ => print::bytes(b"unknown vector"),
     }
     print::bytes(b"\n");

@@ -1,7 +1,9 @@
 // The answers to vectors of the one call, with the whole of both lent buffers afterwards.
 use crate::shown;
+use numerals::Refusal;
 use sheets::Plan;
 use sheets::Planned;
+use sheets::Refused;
 use vectors::header::Header;
 use vectors::print;
 use vectors::walk;
@@ -14,12 +16,29 @@ fn made(p: Plan) {
     print::field(p.total);
 }
 
+// A refusal that names a lent buffer, as only 7 does.
+fn short(why: Refusal, buffer: &[u8]) {
+    if numerals::refusal_number(why) == 7 {
+        print::bytes(b"short ");
+        print::bytes(buffer);
+    } else {
+        print::bytes(b"wrong refusal");
+    }
+}
+
+fn turned_back(r: Refused, buffer: usize) {
+    match buffer {
+        0 => shown::refused(r),
+        1 => short(r.why, b"figures"),
+        2 => short(r.why, b"table"),
+        _ => print::bytes(b"wrong buffer"),
+    }
+}
+
 fn plan_into(text: &[u8], figures: &mut [usize], table: &mut [usize]) {
     match sheets::plan(text, figures, table) {
         Planned::Made(p) => made(p),
-        Planned::Refused(r) => shown::refused(r),
-        Planned::ShortFigures => print::bytes(b"short figures"),
-        Planned::ShortTable => print::bytes(b"short table"),
+        Planned::Refused(r, buffer) => turned_back(r, buffer),
     }
 }
 

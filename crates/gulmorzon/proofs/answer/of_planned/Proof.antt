@@ -18,46 +18,16 @@ refusal-number-requires c κs = search needs
 plan-refused-requires : tie.Need-plan-refused-requires
 plan-refused-requires c κs = search needs
 
-enum-told : tie.Need-enum-told
-enum-told c = search needs
-
-plan-refused-requires-2 : tie.Need-plan-refused-requires-2
-plan-refused-requires-2 c κs = search needs
-
-enum-told-2 : tie.Need-enum-told-2
-enum-told-2 c = search needs
-
-plan-refused-requires-3 : tie.Need-plan-refused-requires-3
-plan-refused-requires-3 c κs = search needs
-
 returns : tie.Need-returns
 returns c = ap ofPlanned (sym (c .before .x .given .1))
 
 returns-2 : tie.Need-returns-2
 returns-2 c =
     c .plan-refused .ensures
-    ∙ ap (λ (n : ℕ). planRefused n (c .before .before .before .x2 .given .0 .0 .line) 0) (c .before .refusal-number .ensures)
+    ∙ ap (λ (n : ℕ). planRefused n (c .before .before .before .x2 .given .0 .0 .line) (c .before .before .before .x2 .given .0 .1 .0)) (c .before .refusal-number .ensures)
     ∙ ap ofPlanned (sym (c .before .before .before .x2 .given .1))
-
-returns-3 : tie.Need-returns-3
-returns-3 c = c .plan-refused2 .ensures ∙ ap ofPlanned (sym (c .before .enum-told .given .1))
-
-returns-4 : tie.Need-returns-4
-returns-4 c = c .plan-refused3 .ensures ∙ ap ofPlanned (sym (c .before .enum-told2 .given .1))
 
 pub of-planned-spec : {M : Type 1} → statement M
 of-planned-spec =
     tie.close
-    (tie.spec
-    enum-known-x
-    enum-known-x-2
-    refusal-number-requires
-    plan-refused-requires
-    enum-told
-    plan-refused-requires-2
-    enum-told-2
-    plan-refused-requires-3
-    returns
-    returns-2
-    returns-3
-    returns-4)
+    (tie.spec enum-known-x enum-known-x-2 refusal-number-requires plan-refused-requires returns returns-2)

@@ -1,4 +1,4 @@
--- `call::pack` meets its contract: the checks, the lists, the grants, the two tests of room, and what is written.
+-- `call::pack` meets its contract: the checks, the lists, the grants, and what is written where there is room.
 use mathlib.Core.Path.{_≡_, refl, sym, ap, _∙_}
 use native.Mathlib.Omega.{arith}
 use lib.ListN.{getD-replicate}
@@ -7,7 +7,7 @@ use Rattle.packing.specs.Answer.{servicesOf, checkAll}
 use Rattle.packing.specs.Kept.{Listed}
 use Rattle.packing.specs.declared.call.Packing.the-variants.{Made}
 use Rattle.packing.proofs.Checks.{Accepted, all-passed, sized}
-use Rattle.packing.proofs.Settled.{answer-refused, answer-figures, answer-table, answer-made, Settled, ready, settled}
+use Rattle.packing.proofs.Settled.{kept-short, answer-refused, answer-short, answer-made, Settled, ready, settled}
 use borrow.Author.Needs.{needs}
 use Rattle.packing.proofs.call.pack.Statement.{statement}
 use Rattle.packing.proofs.call.pack.Tie as tie
@@ -103,50 +103,42 @@ done :
 done c =
     let m = c .before .before .before .before .before .before .before .before .before .before .make-lists in
     settled _ _ _ _ _ _ _ _ _ _ _ _ (accepted (c .before .before .before .before .before .before .before .before .before .before .before .before .before .before .before .before .before)) (listed (c .before .before .before .before .before .before .before .before .before .before)) _ _
-    (m .kept .1 .1 .1 .1 .0) (m .kept .1 .1 .1 .1 .1 .0) (m .kept .1 .1 .1 .1 .1 .1 .0) (m .kept .1 .1 .1 .1 .1 .1 .1 .0) (m .kept .1 .1 .1 .1 .1 .1 .1 .1 .0) (c .grant-all .kept .1 .1 .1 .1 .0) (c .grant-all .ensures)
+    (m .kept .1 .1 .1 .1 .0) (m .kept .1 .1 .1 .1 .1 .0) (m .kept .1 .1 .1 .1 .1 .1 .0) (m .kept .1 .1 .1 .1 .1 .1 .1 .0) (m .kept .1 .1 .1 .1 .1 .1 .1 .1 .0) (m .kept .1 .1 .1 .1 .1 .1 .1 .1 .1 .0) (c .grant-all .kept .1 .1 .1 .1 .0) (c .grant-all .ensures)
 
-mul-if1 : tie.Need-mul-if1
-mul-if1 c = omega (arith, accepted (c .before .before .before .before .before .before .before .before .before .before .before .before .before .before .before .before .before .before) .few, accepted (c .before .before .before .before .before .before .before .before .before .before .before .before .before .before .before .before .before .before) .same)
+slice-aggregate-write-out : tie.Need-slice-aggregate-write-out
+slice-aggregate-write-out c = search needs
+
+slice-aggregate-write-out-2 : tie.Need-slice-aggregate-write-out-2
+slice-aggregate-write-out-2 c = search needs
+
+slice-aggregate-write-out-3 : tie.Need-slice-aggregate-write-out-3
+slice-aggregate-write-out-3 c = search needs
+
+slice-aggregate-write-out-4 : tie.Need-slice-aggregate-write-out-4
+slice-aggregate-write-out-4 c = search needs
+
+slice-aggregate-write-out-5 : tie.Need-slice-aggregate-write-out-5
+slice-aggregate-write-out-5 c = search needs
+
+slice-aggregate-write-out-6 : tie.Need-slice-aggregate-write-out-6
+slice-aggregate-write-out-6 c = search needs
+
+write-out-requires : tie.Need-write-out-requires
+write-out-requires c κs = done (c .before .before .before .before .before .before .before .before .before) .writable
+
+same-length : tie.Need-same-length
+same-length c = search needs
+
+same-length-2 : tie.Need-same-length-2
+same-length-2 c = search needs
 
 returns-2 : tie.Need-returns-2
-returns-2 c = (sym (answer-figures _ _ _ _ _ _ _ _ (passed (c .before .before .before .before .before .before .before .before .before .before .before .before .before .before .before .before .before .before .before)) (c .if1 .taken)), (refl, (refl, tt)))
-
-mul-if2 : tie.Need-mul-if2
-mul-if2 c = omega (arith, done (c .before .before) .little)
-
-returns-3 : tie.Need-returns-3
-returns-3 c =
-    (sym (answer-table _ _ _ _ _ _ _ _ (passed (c .before .before .before .before .before .before .before .before .before .before .before .before .before .before .before .before .before .before .before .before)) _ (done (c .before .before .before) .rules) (c .before .if1 .left) (c .if2 .taken)), (refl, (refl, tt)))
-
-slice-aggregate-write-figures : tie.Need-slice-aggregate-write-figures
-slice-aggregate-write-figures c = search needs
-
-slice-aggregate-write-figures-2 : tie.Need-slice-aggregate-write-figures-2
-slice-aggregate-write-figures-2 c = search needs
-
-slice-aggregate-write-figures-3 : tie.Need-slice-aggregate-write-figures-3
-slice-aggregate-write-figures-3 c = search needs
-
-write-figures-requires : tie.Need-write-figures-requires
-write-figures-requires c κs =
-    let A = accepted (c .before .before .before .before .before .before .before .before .before .before .before .before .before .before .before .before .before .before .before .before .before .before .before .before) in
-    let m = c .before .before .before .before .before .before .before .before .before .before .before .before .before .before .before .before .before .make-lists in
-    (omega (arith, A .few, A .same, c .before .before .before .before .before .before .before .grant-all .kept .1 .1 .1 .1 .0), (omega (arith, A .few, A .same, m .kept .1 .1 .1 .1 .1 .1 .1 .1 .0), (omega (arith, A .few, A .same, m .kept .1 .1 .1 .1 .1 .1 .1 .1 .1 .0), c .before .before .before .before .before .if1 .left)))
-
-slice-aggregate-write-table : tie.Need-slice-aggregate-write-table
-slice-aggregate-write-table c = search needs
-
-slice-aggregate-write-table-2 : tie.Need-slice-aggregate-write-table-2
-slice-aggregate-write-table-2 c = search needs
-
-slice-aggregate-write-table-3 : tie.Need-slice-aggregate-write-table-3
-slice-aggregate-write-table-3 c = search needs
-
-slice-aggregate-write-table-4 : tie.Need-slice-aggregate-write-table-4
-slice-aggregate-write-table-4 c = search needs
-
-write-table-requires : tie.Need-write-table-requires
-write-table-requires c κs = done (c .before .before .before .before .before .before .before .before .before .before .before .before .before .before .before) .room _ (c .before .before .before .before .before .before .before .before .before .before .before .before .if2 .left)
+returns-2 c =
+    let w = c .before .before .before .before .before .write-out .ensures in
+    let g = c .before .before .before .before .before .before .before .before .before .before .before .before .before .before .before in (
+      sym (answer-short _ _ _ _ _ _ _ _ (passed (g .before .before .before .before .before .before .before .before .before .before .before .before .before .before .before .before .before)) _ (done g .rules) _ (w .0) (c .if1 .taken)),
+      (w .1 .0 ∙ kept-short _ _ _ (c .if1 .taken), (w .1 .1 ∙ kept-short _ _ _ (c .if1 .taken), tt)),
+    )
 
 slice-aggregate-total-cost : tie.Need-slice-aggregate-total-cost
 slice-aggregate-total-cost c = search needs
@@ -155,22 +147,23 @@ slice-aggregate-total-cost-2 : tie.Need-slice-aggregate-total-cost-2
 slice-aggregate-total-cost-2 c = search needs
 
 total-cost-requires : tie.Need-total-cost-requires
-total-cost-requires c κs = done (c .before .before .before .before .before .before .before .before .before .before .before .before .before .before .before .before .before .before .before .before) .payable
+total-cost-requires c κs = done (c .before .before .before .before .before .before .before .before .before .before .before .before .before .before .before .before .before) .payable
 
-same-length : tie.Need-same-length
-same-length c = search needs
+same-length-3 : tie.Need-same-length-3
+same-length-3 c = search needs
 
-same-length-2 : tie.Need-same-length-2
-same-length-2 c = search needs
+same-length-4 : tie.Need-same-length-4
+same-length-4 c = search needs
 
-returns-4 : tie.Need-returns-4
-returns-4 c =
-    let w = c .before .before .before .before .before .before .before .before .before .before .before .before .before in
-    let g = w .before .before .before .before .before .before .before .before in
+returns-3 : tie.Need-returns-3
+returns-3 c =
+    let w = c .before .before .before .before .before .before .before .before .write-out .ensures in
+    let none = c .before .before .before .if1 .left in
+    let g = c .before .before .before .before .before .before .before .before .before .before .before .before .before .before .before .before .before .before in
     let d = done g in
     let t = c .total-cost .ensures in (
-      ap Made (d .made _ t) ∙ sym (answer-made _ _ _ _ _ _ _ _ (passed (g .before .before .before .before .before .before .before .before .before .before .before .before .before .before .before .before .before)) _ (d .rules) (w .before .before .before .before .before .before .if1 .left) (w .before .before .before .before .before .if2 .left)),
-      (rw (d .figures) at (w .write-figures .ensures), (rw (d .table) at (c .before .before .before .before .before .write-table .ensures), d .demand _ t)),
+      ap Made (d .made _ t) ∙ sym (answer-made _ _ _ _ _ _ _ _ (passed (g .before .before .before .before .before .before .before .before .before .before .before .before .before .before .before .before .before)) _ (d .rules) _ (w .0) none),
+      (rw (none, d .figures) at (w .1 .0), (rw (none, d .table) at (w .1 .1), d .demand _ t)),
     )
 
 pub pack-spec : {M : Type 1} → statement M
@@ -192,22 +185,19 @@ pack-spec =
     slice-aggregate-grant-all-2
     slice-aggregate-grant-all-3
     grant-all-requires
-    mul-if1
+    slice-aggregate-write-out
+    slice-aggregate-write-out-2
+    slice-aggregate-write-out-3
+    slice-aggregate-write-out-4
+    slice-aggregate-write-out-5
+    slice-aggregate-write-out-6
+    write-out-requires
+    same-length
+    same-length-2
     returns-2
-    mul-if2
-    returns-3
-    slice-aggregate-write-figures
-    slice-aggregate-write-figures-2
-    slice-aggregate-write-figures-3
-    write-figures-requires
-    slice-aggregate-write-table
-    slice-aggregate-write-table-2
-    slice-aggregate-write-table-3
-    slice-aggregate-write-table-4
-    write-table-requires
     slice-aggregate-total-cost
     slice-aggregate-total-cost-2
     total-cost-requires
-    same-length
-    same-length-2
-    returns-4)
+    same-length-3
+    same-length-4
+    returns-3)

@@ -3,36 +3,47 @@ use Prim.Native.Nat.{ℕ, _+_, _-_, _≤_}
 use mathlib.Core.Path.{_≡_, refl, sym, ap, _∙_}
 use native.Mathlib.Omega.{arith}
 use lib.Dec.{ltb, eqb}
-use lib.ListN.{length, getD, take, drop}
+use lib.ListN.{length, length-drop, getD, take, drop}
+use lib.Seq.{take-all}
 use borrow.Author.Needs.{needs}
 use borrow.Author.Tests.{lt-ltb, le-ltb, eq-eqb, ne-eqb}
 use Rattle.expansion.specs.Answer.{andThen, orElse}
 use Rattle.numerals.specs.declared.refusal.Refusal.the-variants.{Malformed, NoService}
 use Rattle.packing.specs.Answer.{checkService, checkFrom, checkServices}
-use Rattle.packing.proofs.Checks.{services-many, services-early, services-turned, services-passed, services-end}
+use Rattle.packing.proofs.Checks.{services-many, services-no-volume, services-no-size, services-turned, services-passed, services-end, service-passed}
 use Rattle.packing.proofs.check.check_services.Statement.{statement}
 use Rattle.packing.proofs.check.check_services.Tie as tie
 
 abbrev Inv-loop : tie.InvT-loop
-Inv-loop volumes sizes weights at₀ s₀ at s =
-    (s ≤ length sizes)
+Inv-loop volumes sizes weights lines at₀ s₀ at s =
+    (s ≤ length volumes)
+    × (s ≤ length sizes)
     × (at ≤ length weights)
-    × (checkFrom volumes 0 sizes weights ≡ checkFrom volumes s (drop s sizes) (drop at weights))
+    × (checkFrom 0 volumes sizes weights ≡ checkFrom s (drop s volumes) (drop s sizes) (drop at weights))
 
 abbrev μ-loop : tie.MeasureT-loop
-μ-loop volumes sizes weights at₀ s₀ at s = length sizes - s
+μ-loop volumes sizes weights lines at₀ s₀ at s = lines - s
 
-returns : tie.Need-returns Inv-loop μ-loop
-unfolding checkServices
-returns c = simp (ne-eqb _ _ (c .if1 .taken))
+longer-requires : tie.Need-longer-requires Inv-loop μ-loop
+longer-requires c κs = search needs
 
 loop-holds : tie.Need-loop-holds Inv-loop μ-loop
-loop-holds c = (omega arith, omega arith, refl)
+loop-holds c = (omega arith, omega arith, omega arith, refl)
+
+returns : tie.Need-returns Inv-loop μ-loop
+returns c =
+    let l = c .before .before .loop in
+    sym (services-many _ _ _ (l .s) (l .at) (l .inv .3) (omega arith) (c .if1 .taken))
 
 returns-2 : tie.Need-returns-2 Inv-loop μ-loop
 returns-2 c =
-    let l = c .before .before .loop in
-    sym (services-many _ _ _ (l .s) (l .at) (c .before .before .before .if1 .left) (l .inv .2) (c .before .loop-test .taken) (c .if2 .taken))
+    let l = c .before .before .before .loop in
+    sym (services-no-volume _ _ _ (l .s) (l .at) (l .inv .3) (c .before .if1 .left) (c .if2 .taken) (omega arith))
+
+returns-3 : tie.Need-returns-3 Inv-loop μ-loop
+returns-3 c =
+    let l = c .before .before .before .before .loop in
+    sym (services-no-size _ _ _ (l .s) (l .at) (l .inv .3) (c .before .before .if1 .left) (c .before .if2 .left) (c .if3 .taken))
 
 mul-n : tie.Need-mul-n Inv-loop μ-loop
 mul-n c = search needs
@@ -40,22 +51,11 @@ mul-n c = search needs
 shared-slice-read-n : tie.Need-shared-slice-read-n Inv-loop μ-loop
 shared-slice-read-n c = omega arith
 
-sub-if3 : tie.Need-sub-if3 Inv-loop μ-loop
-sub-if3 c = omega arith
-
-returns-3 : tie.Need-returns-3 Inv-loop μ-loop
-returns-3 c =
-    let l = c .before .before .before .before .loop in
-    sym (services-early _ _ _ (l .s) (l .at) (c .before .before .before .before .before .if1 .left) (l .inv .2) (c .before .before .before .loop-test .taken) (c .before .before .if2 .left) (c .if3 .taken))
-
 mul-check-service : tie.Need-mul-check-service Inv-loop μ-loop
 mul-check-service c = search needs
 
 shared-slice-read-check-service : tie.Need-shared-slice-read-check-service Inv-loop μ-loop
 shared-slice-read-check-service c = omega arith
-
-add-check-service : tie.Need-add-check-service Inv-loop μ-loop
-add-check-service c = omega arith
 
 mul-check-service-2 : tie.Need-mul-check-service-2 Inv-loop μ-loop
 mul-check-service-2 c = search needs
@@ -78,31 +78,43 @@ enum-known-checked c = search needs
 -- what one service's check found
 one :
     (c : tie.After-check-service Inv-loop μ-loop)
-    → let a = c .before .before .before .before .before .before .before .before .before .before .before .before .args in
-    let l = c .before .before .before .before .before .before .before .loop in
+    → let a = c .before .before .before .before .before .before .before .before .before .before .before .before .before .args in
+    let l = c .before .before .before .before .before .before .before .before .loop in
     c .check-service .result
-    ≡ checkService (getD (a .volumes .now) (l .s) 0) (take (getD (a .sizes .now) (l .s) 0) (drop (l .at) (a .weights .now)))
+    ≡ checkService (getD (a .volumes .now) (l .s) 0) (getD (a .sizes .now) (l .s) 0) (drop (l .at) (a .weights .now))
 one c =
-    let a = c .before .before .before .before .before .before .before .before .before .before .before .before .args in
-    let l = c .before .before .before .before .before .before .before .loop in
-    let n = getD (a .sizes .now) (l .s) 0 in
-    let long : l .at + n - l .at ≡ n = omega arith in
-    c .check-service .ensures
-    ∙ ap (λ (m : ℕ). checkService (getD (a .volumes .now) (l .s) 0) (take m (drop (l .at) (a .weights .now)))) long
+    let a = c .before .before .before .before .before .before .before .before .before .before .before .before .before .args in
+    let l = c .before .before .before .before .before .before .before .before .loop in
+    let rest : take (length (a .weights .now) - l .at) (drop (l .at) (a .weights .now)) ≡ drop (l .at) (a .weights .now) =
+    take-all (length (a .weights .now) - l .at) (drop (l .at) (a .weights .now)) (omega (arith, length-drop (l .at) (a .weights .now))) in
+    c .check-service .ensures ∙ ap (checkService (getD (a .volumes .now) (l .s) 0) (getD (a .sizes .now) (l .s) 0)) rest
 
 returns-4 : tie.Need-returns-4 Inv-loop μ-loop
 returns-4 c =
     let d = c .before .before .before in
-    let l = d .before .before .before .before .before .before .before .loop in
+    let l = d .before .before .before .before .before .before .before .before .loop in
     sym
-    (services-turned _ _ _ (l .s) (l .at) (d .before .before .before .before .before .before .before .before .if1 .left) (l .inv .2) (d .before .before .before .before .before .before .loop-test .taken) (d .before .before .before .before .before .if2 .left) (d .before .before .before .if3 .left) _
+    (services-turned _ _ _ (l .s) (l .at) (l .inv .3) (d .before .before .before .before .before .before .if1 .left) (d .before .before .before .before .before .if2 .left) (d .before .before .before .before .if3 .left) _
     (sym (one d) ∙ c .before .checked .given .1))
 
 enum-told : tie.Need-enum-told Inv-loop μ-loop
 enum-told c = search needs
 
+-- the weights of a service that passed stand in the row
+inside :
+    (c : tie.After-enum-told Inv-loop μ-loop)
+    → let d = c .before .before in
+    let a = d .before .before .before .before .before .before .before .before .before .before .before .before .before .args in
+    let l = d .before .before .before .before .before .before .before .before .loop in
+    l .at + getD (a .sizes .now) (l .s) 0 ≤ length (a .weights .now)
+inside c =
+    let d = c .before .before in
+    let a = d .before .before .before .before .before .before .before .before .before .before .before .before .before .args in
+    let l = d .before .before .before .before .before .before .before .before .loop in
+    omega (arith, l .inv .2, length-drop (l .at) (a .weights .now), service-passed (getD (a .volumes .now) (l .s) 0) (getD (a .sizes .now) (l .s) 0) (drop (l .at) (a .weights .now)) (sym (one d) ∙ c .enum-told .given .1) .0)
+
 add-at : tie.Need-add-at Inv-loop μ-loop
-add-at c = omega arith
+add-at c = omega (arith, inside c)
 
 add-s : tie.Need-add-s Inv-loop μ-loop
 add-s c = omega arith
@@ -113,10 +125,11 @@ loop-less c = omega arith
 loop-again : tie.Need-loop-again Inv-loop μ-loop
 loop-again c =
     let d = c .before .before in
-    let l = d .before .before .before .before .before .before .before .loop in (
+    let l = d .before .before .before .before .before .before .before .before .loop in (
       omega arith,
       omega arith,
-      services-passed _ _ _ (l .s) (l .at) (d .before .before .before .before .before .before .before .before .if1 .left) (l .inv .2) (d .before .before .before .before .before .before .loop-test .taken) (d .before .before .before .before .before .if2 .left) (d .before .before .before .if3 .left)
+      inside c,
+      services-passed _ _ _ (l .s) (l .at) (l .inv .3) (d .before .before .before .before .before .before .if1 .left) (d .before .before .before .before .before .if2 .left) (d .before .before .before .before .if3 .left)
           (sym (one d) ∙ c .enum-told .given .1),
     )
 
@@ -125,23 +138,23 @@ ended :
     (c : tie.After-loop Inv-loop μ-loop)
     → let a = c .before .before .before .before .before .before .args in
     checkServices (a .volumes .now) (a .sizes .now) (a .weights .now)
-    ≡ andThen (orElse (eqb (length (a .weights .now) - c .before .loop .at) 0) Malformed) (orElse (ltb 0 (length (a .sizes .now))) NoService)
+    ≡ andThen (orElse (eqb (length (a .weights .now) - c .before .loop .at) 0) Malformed) (orElse (ltb 0 (length (a .volumes .now))) NoService)
 ended c =
     let l = c .before .loop in
-    services-end _ _ _ (l .s) (l .at) (c .before .before .if1 .left) (l .inv .2) (omega arith)
+    services-end _ _ _ (l .s) (l .at) (l .inv .3) (omega arith) (omega arith)
 
 returns-5 : tie.Need-returns-5 Inv-loop μ-loop
 returns-5 c = sym (ended (c .before) ∙ simp (ne-eqb (length (c .before .before .before .before .before .before .before .args .weights .now) - c .before .before .loop .at) 0 (λ e. omega arith)))
 
 returns-6 : tie.Need-returns-6 Inv-loop μ-loop
 returns-6 c =
-    sym
-    (ended (c .before .before) ∙ simp (eq-eqb (length (c .before .before .before .before .before .before .before .before .args .weights .now) - c .before .before .before .loop .at) 0 (omega arith), le-ltb 0 (length (c .before .before .before .before .before .before .before .before .args .sizes .now)) (omega arith)))
+    let a = c .before .before .before .before .before .before .before .before .args in
+    sym (ended (c .before .before) ∙ simp (eq-eqb (length (a .weights .now) - c .before .before .before .loop .at) 0 (omega arith), le-ltb 0 (length (a .volumes .now)) (omega arith)))
 
 returns-7 : tie.Need-returns-7 Inv-loop μ-loop
 returns-7 c =
-    sym
-    (ended (c .before .before) ∙ simp (eq-eqb (length (c .before .before .before .before .before .before .before .before .args .weights .now) - c .before .before .before .loop .at) 0 (omega arith), lt-ltb 0 (length (c .before .before .before .before .before .before .before .before .args .sizes .now)) (omega arith)))
+    let a = c .before .before .before .before .before .before .before .before .args in
+    sym (ended (c .before .before) ∙ simp (eq-eqb (length (a .weights .now) - c .before .before .before .loop .at) 0 (omega arith), lt-ltb 0 (length (a .volumes .now)) (omega arith)))
 
 pub check-services-spec : {M : Type 1} → statement M
 check-services-spec =
@@ -149,16 +162,15 @@ check-services-spec =
     (tie.spec
     Inv-loop
     μ-loop
-    returns
+    longer-requires
     loop-holds
+    returns
     returns-2
+    returns-3
     mul-n
     shared-slice-read-n
-    sub-if3
-    returns-3
     mul-check-service
     shared-slice-read-check-service
-    add-check-service
     mul-check-service-2
     sub-check-service
     part-check-service-start

@@ -11,33 +11,11 @@ enum-known-packed c = search needs
 enum-known-packed-2 : tie.Need-enum-known-packed-2
 enum-known-packed-2 c = search needs
 
-enum-told : tie.Need-enum-told
-enum-told c = search needs
-
-enum-told-2 : tie.Need-enum-told-2
-enum-told-2 c = search needs
-
 returns : tie.Need-returns
 returns c = ap (planFrom _ _) (sym (c .before .packed .given .1))
 
 returns-2 : tie.Need-returns-2
 returns-2 c = ap (planFrom _ _) (sym (c .before .packed2 .given .1))
 
-returns-3 : tie.Need-returns-3
-returns-3 c = search needs
-
-returns-4 : tie.Need-returns-4
-returns-4 c = search needs
-
 pub plan-from-spec : {M : Type 1} → statement M
-plan-from-spec =
-    tie.close
-    (tie.spec
-    enum-known-packed
-    enum-known-packed-2
-    enum-told
-    enum-told-2
-    returns
-    returns-2
-    returns-3
-    returns-4)
+plan-from-spec = tie.close (tie.spec enum-known-packed enum-known-packed-2 returns returns-2)

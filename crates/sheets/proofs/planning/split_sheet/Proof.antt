@@ -1,8 +1,7 @@
 -- `planning::split_sheet` meets its contract: the plan's table is printed; its buffers are long enough; and what is printed owes nothing.
 use mathlib.Core.Path.{refl, sym, _∙_}
-use mathlib.Core.Logic.{inl, inr}
 use borrow.Author.Needs.{needs}
-use Rattle.sheets.proofs.OneCall.{Left, plan-left, plan-refused, plan-room, sheet-printed}
+use Rattle.sheets.proofs.OneCall.{Left, plan-left, plan-refused, sheet-printed}
 use Rattle.sheets.proofs.planning.split_sheet.Statement.{statement}
 use Rattle.sheets.proofs.planning.split_sheet.Tie as tie
 
@@ -33,12 +32,6 @@ print-requires c κs = let L = left (c .before .before) in (L .few, L .limits)
 enum-known-planned-2 : tie.Need-enum-known-planned-2
 enum-known-planned-2 c = search needs
 
-enum-told : tie.Need-enum-told
-enum-told c = search needs
-
-enum-told-2 : tie.Need-enum-told-2
-enum-told-2 c = search needs
-
 same-length : tie.Need-same-length
 same-length c = search needs
 
@@ -50,14 +43,8 @@ returns c =
 
 returns-2 : tie.Need-returns-2
 returns-2 c =
-    let e = plan-refused _ _ (sym (c .before .before .before .before .before .plan .ensures .0) ∙ c .before .planned2 .given .1) in
+    let e = plan-refused _ _ _ (sym (c .before .before .before .before .before .plan .ensures .0) ∙ c .before .planned2 .given .1) in
     (rw e, (refl, tt))
-
-returns-3 : tie.Need-returns-3
-returns-3 c = absurd (plan-room _ _ (sym (c .before .before .before .before .plan .ensures .0)) (inl (c .enum-told .given .1)))
-
-returns-4 : tie.Need-returns-4
-returns-4 c = absurd (plan-room _ _ (sym (c .before .before .before .before .plan .ensures .0)) (inr (c .enum-told2 .given .1)))
 
 pub split-sheet-spec : {M : Type 1} → statement M
 split-sheet-spec =
@@ -70,10 +57,6 @@ split-sheet-spec =
     slice-aggregate-print
     print-requires
     enum-known-planned-2
-    enum-told
-    enum-told-2
     same-length
     returns
-    returns-2
-    returns-3
-    returns-4)
+    returns-2)
