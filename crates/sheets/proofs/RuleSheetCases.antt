@@ -5,10 +5,10 @@ use mathlib.Core.Path.{_≡_, refl}
 use mathlib.Core.List.{List, [], _∷_, _++_}
 use lib.ListN.{length}
 use borrow.Author.Tests.{lt-leb}
-use Rattle.numerals.specs.Digits.{isDigit, allDigits, value, valueFrom, onValue}
-use Rattle.numerals.specs.Decimal.{noLeadingZero, isNumeral, number}
+use Rattle.numerals.specs.Digits.{isDigit, allDigits, value, valueFrom, lowest, onValue}
+use Rattle.numerals.specs.Decimal.{noLeadingZero, isNumeral, number, widthIn, width, decimal}
 use Rattle.numerals.specs.Percentage.{fraction, atMostAll, percentOf, percentage}
-use Rattle.numerals.specs.Suffix.{suffix}
+use Rattle.numerals.specs.Suffix.{suffix, suffixText}
 use Rattle.numerals.specs.Text.{onto, split}
 use Rattle.expansion.specs.Answer.{unit}
 use Rattle.expansion.specs.Refusals.{no}
@@ -18,8 +18,8 @@ use Rattle.packing.specs.Cases.{line}
 use Rattle.packing.specs.Count.{matchesLine}
 use Rattle.sheets.specs.Reading.{Reading, got, turned, then, unless, onField, same}
 use Rattle.sheets.specs.PercentageSheet.{headFields, weightFields, sum, serviceFields, serviceLines, whole, sheetLines, textLimit, readSheet}
-use Rattle.sheets.specs.RuleSheet.{Table, totalLimit, tableFields, onSuffix, countOf, inOrder, placed, ruleFields, ruleLines, closed, wholeTable, tableLines, readTable, isLine, checkLines, checkTable}
-use Rattle.sheets.specs.Calls.{refusedAt, linesFrom, tableHanded, firstBackend, hasService, lookupIn, lookupAnswer, moved, churnOf, churnAnswer}
+use Rattle.sheets.specs.RuleSheet.{Table, totalLimit, lineText, linesText, tableFields, onSuffix, countOf, inOrder, placed, ruleFields, ruleLines, closed, wholeTable, tableLines, readTable, isLine, checkLines, checkEnd, checkSheet}
+use Rattle.sheets.specs.Calls.{refusedAt, linesFrom, brokenFrom, brokenText, linesHanded, handedText, tableHanded, firstBackend, hasService, lookupIn, lookupAnswer, moved, churnOf, churnAnswer}
 use Rattle.sheets.specs.Cases.{bytes}
 use Rattle.sheets.specs.declared.answer.Looked.the-variants as looked
 use Rattle.sheets.specs.declared.answer.Churned.{Churned}
@@ -133,7 +133,7 @@ pub record Handed : Type 0 where
   pub star : tableHanded 1 0 (0 ∷ 1 ∷ 0 ∷ 0 ∷ []) ≡ turned (no 9) 0
 
 pub all-handed : Handed
-unfolding tableHanded linesFrom checkTable checkLines isLine placed inOrder countOf closed totalLimit unless then
+unfolding tableHanded handedText linesHanded brokenText brokenFrom linesFrom linesText lineText checkSheet checkEnd checkLines isLine placed inOrder countOf closed totalLimit textLimit unless then decimal width widthIn suffixText lowest
 all-handed = record { accepted = refl; ragged = refl; none = refl; bits = refl; amount = refl; wide = refl; star = refl }
 
 -- 11 for both sheets: every text over the limit.

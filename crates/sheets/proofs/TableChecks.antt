@@ -6,7 +6,7 @@ use mathlib.Core.List.{List, [], _∷_, reverse, reverseAux}
 use native.Mathlib.Nat.{add-zero}
 use lib.Dec.{leb, ltb}
 use lib.ListN.{length}
-use borrow.Author.Tests.{lt-ltb, le-leb, ltb-true, leb-true}
+use borrow.Author.Tests.{lt-ltb, le-leb, ltb-true, leb-true, eqb-true}
 use Rattle.numerals.specs.Pick.{both}
 use Rattle.numerals.proofs.Choice.{both-left, both-right}
 use Rattle.packing.specs.Count.{Line}
@@ -97,6 +97,17 @@ proper t h =
       sorted = sorted;
       ends = ap closed (sym last) ∙ unless-got _ _ _ _ (unless-got _ _ _ _ (lines .2) .1) .0;
     }
+
+-- a check that passes answers the table itself, and no broken line stands behind its lines
+pub check-same : (t u : Table) (broken : ℕ) → checkSheet t broken ≡ got u → (t ≡ u) × (broken ≡ 0)
+unfolding checkSheet checkEnd
+check-same t u broken h =
+    let k = unless-got _ _ _ _ h in
+    let n = unless-got _ _ _ _ (k .1) in
+    let total = unless-got _ _ _ _ (n .1) in
+    let lines = then-got _ _ (total .1) in
+    let whole = unless-got _ _ _ _ (lines .2) in
+    (got-same (unless-got _ _ _ _ (whole .1) .1), eqb-true broken 0 (whole .0))
 
 pub checked : (t : Table) → Proper t → checkTable t ≡ got t
 unfolding checkTable checkSheet checkEnd unless then
