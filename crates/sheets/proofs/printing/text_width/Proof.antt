@@ -24,9 +24,6 @@ abbrev μ-loop : tie.MeasureT-loop
 more-counted : (w x r : ℕ) → counted (counted (w + counted x) + r) ≡ counted (w + (x + r))
 more-counted w x r = omega arith
 
-last-counted : (w x : ℕ) → counted (w + (x + 0)) ≡ counted (w + x)
-last-counted w x = omega arith
-
 decimal-width-requires : tie.Need-decimal-width-requires Inv-loop μ-loop
 decimal-width-requires c κs = tt
 
