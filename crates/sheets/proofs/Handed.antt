@@ -1,33 +1,107 @@
--- A table in numbers, four of each line: how many lines there are, and that those of a proper table are in their limits.
-use Prim.Native.Nat.{ℕ, zero, suc, _+_, _-_, _*_, _≤_, _<_}
+-- A table in numbers, four of each line: how many lines there are, how long their text is, and that those of a proper table are in their limits.
+use Prim.Native.Nat.{ℕ, zero, suc, _+_, _-_, _*_, _/_, _%_, _^_, _≤_, _<_}
 use mathlib.Core.Path.{_≡_, refl, sym, ap, _∙_}
-use mathlib.Core.List.{List, [], _∷_, _++_}
+use mathlib.Core.List.{List, [], _∷_, _++_, append-nil, append-assoc}
+use native.Mathlib.Nat.{add-zero}
 use native.Mathlib.Omega.{arith}
-use lib.ListN.{length, getD}
+use lib.ListN.{length, getD, length-append}
 use lib.Seq.{slice}
 use Rattle.numerals.specs.Decimal.{width}
+use Rattle.numerals.proofs.Decimal.{width-least, length-decimal}
+use Rattle.numerals.proofs.Slice.{slice-more, slice-none, slice-length}
 use Rattle.packing.specs.Count.{Line}
-use Rattle.sheets.specs.Calls.{linesFrom}
+use Rattle.sheets.specs.Calls.{linesFrom, brokenFrom, brokenText, linesHanded, handedText}
 use Rattle.sheets.specs.RuleSheet.{lineText, linesText, tableText}
 use Rattle.sheets.specs.Rows.{lineAt, Limited}
-use Rattle.sheets.specs.Writing.{lineWidth, headText, linesIn, tableIn}
-use Rattle.sheets.proofs.Rows.{rows-more, rows-none}
-use Rattle.sheets.proofs.TableTexts.{linesWidth, line-short, length-table, length-head, head-lines}
+use Rattle.sheets.specs.Writing.{lineWidth, counted, headText, linesIn, tableIn}
+use Rattle.sheets.proofs.Rows.{four-more, rows-more, rows-none}
+use Rattle.sheets.proofs.TableTexts.{linesWidth, line-short, length-lines, length-table, length-head, head-lines}
 use Rattle.sheets.proofs.TableChecks.{Formed, formed, InOrder}
 
--- as many lines as numbers by four
-pub count-lines : (n r : ℕ) (cs : List ℕ) → r < 4 → length cs ≡ 4 * n + r → length (linesFrom cs) ≡ n
+-- as many lines as numbers by four, and a broken one where some are left over
+pub count-lines : (cs : List ℕ) → length (linesFrom cs) ≡ length cs / 4
 unfolding linesFrom
-count-lines zero r [] h e = refl
-count-lines zero r (a ∷ []) h e = refl
-count-lines zero r (a ∷ b ∷ []) h e = refl
-count-lines zero r (a ∷ b ∷ c ∷ []) h e = refl
-count-lines zero r (a ∷ b ∷ c ∷ d ∷ cs) h e = absurd (omega arith)
-count-lines (suc n) r [] h e = absurd (omega arith)
-count-lines (suc n) r (a ∷ []) h e = absurd (omega arith)
-count-lines (suc n) r (a ∷ b ∷ []) h e = absurd (omega arith)
-count-lines (suc n) r (a ∷ b ∷ c ∷ []) h e = absurd (omega arith)
-count-lines (suc n) r (a ∷ b ∷ c ∷ d ∷ cs) h e = ap suc (count-lines n r cs h (omega arith))
+count-lines [] = refl
+count-lines (a ∷ []) = refl
+count-lines (a ∷ b ∷ []) = refl
+count-lines (a ∷ b ∷ c ∷ []) = refl
+count-lines (a ∷ b ∷ c ∷ d ∷ cs) = omega (arith, count-lines cs)
+
+pub count-broken : (cs : List ℕ) → length (brokenFrom cs) ≡ (length cs % 4 + 3) / 4
+unfolding brokenFrom
+count-broken [] = refl
+count-broken (a ∷ []) = refl
+count-broken (a ∷ b ∷ []) = refl
+count-broken (a ∷ b ∷ c ∷ []) = refl
+count-broken (a ∷ b ∷ c ∷ d ∷ cs) = omega (arith, count-broken cs)
+
+pub count-handed : (cs : List ℕ) → linesHanded cs ≡ (length cs + 3) / 4
+unfolding linesHanded
+count-handed cs = omega (arith, count-lines cs, count-broken cs)
+
+-- the text that numbers make is line 1 and their lines
+handed-parts :
+    (k total : ℕ) (cs : List ℕ) → handedText k total cs ≡ headText k (linesHanded cs) total ++ (linesText (linesFrom cs) ++ brokenText (brokenFrom cs))
+unfolding handedText headText
+handed-parts k total cs = simp append-assoc
+
+-- of whole lines it is the text of their table
+pub whole-text :
+    (k total : ℕ) (cs : List ℕ) → length (brokenFrom cs) ≡ 0 → handedText k total cs ≡ tableText (record { k = k; total = total; lines = linesFrom cs })
+unfolding linesHanded brokenText
+whole-text k total cs h =
+    handed-parts k total cs
+    ∙ rw (none (brokenFrom cs) h, add-zero (length (linesFrom cs)), append-nil (linesText (linesFrom cs)))
+    (sym (head-lines (record { k = k; total = total; lines = linesFrom cs })))
+  where
+    none : (ss : List ℕ) → length ss ≡ 0 → ss ≡ []
+    none [] e = refl
+    none (s ∷ ss) e = absurd (omega arith)
+
+-- how many bytes the text has that numbers make
+unfoldable pub handedWidth : List ℕ → ℕ
+handedWidth cs = linesWidth (linesFrom cs) + length (brokenText (brokenFrom cs))
+
+pub length-handed :
+    (k total : ℕ) (cs : List ℕ) → length (handedText k total cs) ≡ 9 + width k + width ((length cs + 3) / 4) + width total + handedWidth cs
+unfolding handedWidth
+length-handed k total cs =
+    let lines = linesText (linesFrom cs) in
+    let broken = brokenText (brokenFrom cs) in
+    omega (
+      arith,
+      ap length (handed-parts k total cs),
+      length-append (headText k (linesHanded cs) total) (lines ++ broken),
+      length-append lines broken,
+      length-head k (linesHanded cs) total,
+      length-lines (linesFrom cs),
+      ap width (count-handed cs),
+    )
+
+last-width : (s : ℕ) (cs : List ℕ) → length cs < 3 → handedWidth (s ∷ cs) ≡ width (s + 1) + 1
+unfolding handedWidth linesFrom linesWidth brokenFrom brokenText
+last-width s [] h = simp (length-append, length-decimal) (omega arith)
+last-width s (a ∷ []) h = simp (length-append, length-decimal) (omega arith)
+last-width s (a ∷ b ∷ []) h = simp (length-append, length-decimal) (omega arith)
+last-width s (a ∷ b ∷ c ∷ cs) h = absurd (omega arith)
+
+module _ (table : List ℕ) (to : ℕ) (room : to ≤ length table) where
+  -- the numbers from line i on
+  pub handed-more :
+      (i : ℕ) → 4 * i + 4 ≤ to
+      → handedWidth (slice (4 * i) to table)
+      ≡ lineWidth (getD table (4 * i) 0) (getD table (4 * i + 1) 0) (getD table (4 * i + 3) 0) + handedWidth (slice (4 * (i + 1)) to table)
+  unfolding handedWidth linesFrom linesWidth brokenFrom
+  handed-more i h = ap handedWidth (four-more table to room i h) ∙ omega arith
+
+  pub handed-none : (i : ℕ) → to ≡ 4 * i → handedWidth (slice (4 * i) to table) ≡ 0
+  unfolding handedWidth linesFrom linesWidth brokenFrom brokenText
+  handed-none i e = ap handedWidth (slice-none (4 * i) to table (omega arith))
+
+  pub handed-last : (i : ℕ) → 4 * i < to → to < 4 * i + 4 → handedWidth (slice (4 * i) to table) ≡ width (getD table (4 * i) 0 + 1) + 1
+  handed-last i h m =
+      ap handedWidth (slice-more (4 * i) to table h (omega arith))
+      ∙ last-width (getD table (4 * i) 0) (slice (4 * i + 1) to table) (omega (arith, slice-length (4 * i + 1) to table))
 
 module _ (table : List ℕ) (n : ℕ) (room : 4 * n ≤ length table) where
   -- the lines from number i on
@@ -83,6 +157,10 @@ module _ (table : List ℕ) (n : ℕ) (L : Limited table n) where
   unfolding linesWidth
   width-none i h = ap linesWidth (rows-none table n (L .room) i h)
 
+  left-short : (m i : ℕ) → i + m ≡ n → linesWidth (left i) ≤ 20 * m
+  left-short zero i e = omega (arith, width-none i (omega arith))
+  left-short (suc m) i e = omega (arith, width-more i (omega arith), width-short i (omega arith), left-short m (i + 1) (omega arith))
+
   pub text-more : (i : ℕ) → i < n → linesText (left i) ≡ lineText (lineAt table i) ++ linesText (left (i + 1))
   unfolding linesText
   text-more i h = ap linesText (rows-more table n (L .room) i h)
@@ -98,6 +176,27 @@ module _ (table : List ℕ) (n : ℕ) (L : Limited table n) where
   pub table-width : (k total : ℕ) → length (tableText (tableIn k total table n)) ≡ length (headText k n total) + linesWidth (left 0)
   table-width k total =
       omega (arith, length-table (tableIn k total table n), length-head k n total, ap width lines-count)
+
+  -- no longer than a text may be
+  pub table-short : (k total : ℕ) → n ≤ 2048 → k < 2 ^ 64 → total < 2 ^ 64 → length (tableText (tableIn k total table n)) ≤ 65536
+  table-short k total few h j =
+      omega (
+        arith,
+        table-width k total,
+        length-head k n total,
+        left-short n 0 (omega arith),
+        width-least 19 k (omega arith),
+        width-least 19 n (omega arith),
+        width-least 19 total (omega arith),
+      )
+
+  -- so all its bytes are counted
+  pub table-counted :
+      (k total : ℕ) → n ≤ 2048 → k < 2 ^ 64 → total < 2 ^ 64
+      → counted (length (handedText k total (slice 0 (4 * n) table))) ≡ length (tableText (tableIn k total table n))
+  table-counted k total few h j =
+      let whole : length (brokenFrom (slice 0 (4 * n) table)) ≡ 0 = omega (arith, count-broken (slice 0 (4 * n) table), slice-length 0 (4 * n) table, L .room) in
+      omega (arith, ap length (whole-text k total (slice 0 (4 * n) table) whole), table-short k total few h j)
 
   pub table-parts : (k total : ℕ) → headText k n total ++ linesText (left 0) ≡ tableText (tableIn k total table n)
   table-parts k total =

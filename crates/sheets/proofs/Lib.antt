@@ -20,6 +20,7 @@ pub mod Handed
 pub mod Prints
 pub mod Checking
 pub mod TableHanded
+pub mod HandedSheet
 pub mod OneCall
 pub mod HadTables
 pub mod Steps

@@ -3,12 +3,13 @@ use Prim.Native.Nat.{ℕ, zero, suc, _<_}
 use Prim.Native.String as string
 use mathlib.Core.Path.{_≡_, refl}
 use mathlib.Core.List.{List, [], _∷_, _++_}
+use native.Mathlib.Omega.{arith}
 use lib.ListN.{length}
 use borrow.Author.Tests.{lt-leb}
-use Rattle.numerals.specs.Digits.{isDigit, allDigits, value, valueFrom, onValue}
-use Rattle.numerals.specs.Decimal.{noLeadingZero, isNumeral, number}
+use Rattle.numerals.specs.Digits.{isDigit, allDigits, value, valueFrom, lowest, onValue}
+use Rattle.numerals.specs.Decimal.{noLeadingZero, isNumeral, number, widthIn, width, decimal}
 use Rattle.numerals.specs.Percentage.{fraction, atMostAll, percentOf, percentage}
-use Rattle.numerals.specs.Suffix.{suffix}
+use Rattle.numerals.specs.Suffix.{suffix, suffixText}
 use Rattle.numerals.specs.Text.{onto, split}
 use Rattle.expansion.specs.Answer.{unit}
 use Rattle.numerals.specs.Refusals.{no1, no2, no4, no5, no8, no9, no10, no11, no12}
@@ -18,9 +19,12 @@ use Rattle.packing.specs.Cases.{line}
 use Rattle.packing.specs.Count.{matchesLine}
 use Rattle.sheets.specs.Reading.{Reading, got, turned, then, unless, onField, same}
 use Rattle.sheets.specs.PercentageSheet.{headFields, weightFields, sum, serviceFields, serviceLines, whole, sheetLines, textLimit, readSheet}
-use Rattle.sheets.specs.RuleSheet.{Table, totalLimit, tableFields, onSuffix, countOf, inOrder, placed, ruleFields, ruleLines, closed, wholeTable, tableLines, readTable, isLine, checkLines, checkTable}
-use Rattle.sheets.specs.Calls.{refusedAt, linesFrom, tableHanded, firstBackend, hasService, lookupIn, lookupAnswer, moved, churnOf, churnAnswer}
+use Rattle.sheets.specs.RuleSheet.{Table, totalLimit, lineText, linesText, tableFields, onSuffix, countOf, inOrder, placed, ruleFields, ruleLines, closed, wholeTable, tableLines, readTable, isLine, checkLines, checkEnd, checkSheet}
+use Rattle.sheets.specs.Calls.{refusedAt, linesFrom, brokenFrom, brokenText, linesHanded, handedText, tableHanded, firstBackend, hasService, lookupIn, lookupAnswer, moved, churnOf, churnAnswer}
 use Rattle.sheets.specs.Cases.{bytes}
+use Rattle.sheets.proofs.TableTexts.{linesWidth}
+use Rattle.sheets.proofs.Handed.{handedWidth, length-handed}
+use Rattle.sheets.proofs.TableHanded.{handed-long}
 use Rattle.sheets.specs.declared.answer.Looked.the-variants as looked
 use Rattle.sheets.specs.declared.answer.Churned.{Churned}
 use Rattle.sheets.specs.declared.answer.Churned.the-variants as churned
@@ -125,16 +129,41 @@ all-churns = record { all = refl; half = refl; first = refl; second = refl; neit
 
 pub record Handed : Type 0 where
   pub accepted : tableHanded 1 0 (0 ∷ 1 ∷ 0 ∷ 1 ∷ 0 ∷ 0 ∷ 0 ∷ 0 ∷ []) ≡ got (record { k = 1; total = 0; lines = line 0 1 0 1 ∷ line 0 0 0 0 ∷ [] })
-  pub ragged : tableHanded 1 0 (0 ∷ 0 ∷ 0 ∷ 0 ∷ 1 ∷ []) ≡ turned no1 0
   pub none : tableHanded 1 0 [] ≡ turned no2 0
   pub bits : tableHanded 13 0 (0 ∷ 0 ∷ 0 ∷ 0 ∷ []) ≡ turned no2 0
   pub amount : tableHanded 1 2621440000000001 (0 ∷ 0 ∷ 0 ∷ 0 ∷ []) ≡ turned no2 0
   pub wide : tableHanded 1 0 (0 ∷ 1 ∷ 2 ∷ 0 ∷ []) ≡ turned no2 0
   pub star : tableHanded 1 0 (0 ∷ 1 ∷ 0 ∷ 0 ∷ []) ≡ turned no9 0
+  -- numbers left over: 1 at their turn, behind line 1 and the whole lines, and before the end
+  pub ragged : tableHanded 1 0 (0 ∷ 0 ∷ 0 ∷ 0 ∷ 1 ∷ []) ≡ turned no1 0
+  pub alone : tableHanded 1 0 (0 ∷ 0 ∷ 0 ∷ []) ≡ turned no1 0
+  pub bits-first : tableHanded 13 0 (0 ∷ 0 ∷ 0 ∷ 0 ∷ 1 ∷ []) ≡ turned no2 0
+  pub line-first : tableHanded 1 0 (64 ∷ 0 ∷ 0 ∷ 0 ∷ 1 ∷ []) ≡ turned no2 0
+  pub order-first : tableHanded 1 0 (1 ∷ 0 ∷ 0 ∷ 0 ∷ 0 ∷ 0 ∷ 0 ∷ 0 ∷ 1 ∷ []) ≡ turned no9 0
+  pub before-star : tableHanded 1 0 (0 ∷ 1 ∷ 0 ∷ 0 ∷ 0 ∷ 0 ∷ []) ≡ turned no1 0
 
 pub all-handed : Handed
-unfolding tableHanded linesFrom checkTable checkLines isLine placed inOrder countOf closed totalLimit unless then
-all-handed = record { accepted = refl; ragged = refl; none = refl; bits = refl; amount = refl; wide = refl; star = refl }
+unfolding tableHanded handedText linesHanded brokenText brokenFrom linesFrom linesText lineText checkSheet checkEnd checkLines isLine placed inOrder countOf closed totalLimit textLimit unless then decimal width widthIn suffixText lowest
+all-handed =
+    record {
+      accepted = refl;
+      none = refl;
+      bits = refl;
+      amount = refl;
+      wide = refl;
+      star = refl;
+      ragged = refl;
+      alone = refl;
+      bits-first = refl;
+      line-first = refl;
+      order-first = refl;
+      before-star = refl;
+    }
+
+-- 11 before all else: a suffix of 65,536 bits, which is also longer than k
+pub long-handed : tableHanded 1 0 (0 ∷ 65536 ∷ 0 ∷ 0 ∷ []) ≡ turned no11 0
+unfolding handedWidth linesFrom linesWidth textLimit
+long-handed = handed-long 1 0 (0 ∷ 65536 ∷ 0 ∷ 0 ∷ []) (omega (arith, length-handed 1 0 (0 ∷ 65536 ∷ 0 ∷ 0 ∷ [])))
 
 -- 11 for both sheets: every text over the limit.
 pub long-table : (text : List ℕ) → textLimit < length text → readTable text ≡ turned no11 0

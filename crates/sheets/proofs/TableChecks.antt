@@ -3,14 +3,15 @@ use Prim.Native.Nat.{ℕ, _^_, _≤_, _<_}
 use mathlib.Core.Path.{_≡_, refl, sym, ap, _∙_}
 use mathlib.Core.Bool.{true}
 use mathlib.Core.List.{List, [], _∷_, reverse, reverseAux}
+use native.Mathlib.Nat.{add-zero}
 use lib.Dec.{leb, ltb}
 use lib.ListN.{length}
-use borrow.Author.Tests.{lt-ltb, le-leb, ltb-true, leb-true}
+use borrow.Author.Tests.{lt-ltb, le-leb, ltb-true, leb-true, eqb-true}
 use Rattle.numerals.specs.Pick.{both}
 use Rattle.numerals.proofs.Choice.{both-left, both-right}
 use Rattle.packing.specs.Count.{Line}
 use Rattle.sheets.specs.Reading.{got, then, unless}
-use Rattle.sheets.specs.RuleSheet.{Table, totalLimit, countOf, inOrder, placed, closed, isLine, checkLines, checkTable}
+use Rattle.sheets.specs.RuleSheet.{Table, totalLimit, countOf, inOrder, placed, closed, isLine, checkLines, checkEnd, checkSheet, checkTable}
 use Rattle.sheets.proofs.Readings.{got-same, unless-got, then-got}
 
 -- a rule line in its limits
@@ -78,10 +79,11 @@ pub record Proper (t : Table) : Type 0 where
   pub ends : closed (reverse (t .lines)) ≡ true
 
 pub proper : (t : Table) → checkTable t ≡ got t → Proper t
-unfolding checkTable
+unfolding checkTable checkSheet checkEnd
 proper t h =
     let k = unless-got _ _ _ _ h in
     let n = unless-got _ _ _ _ (k .1) in
+    let count = rw (add-zero (length (t .lines))) at (n .0) in
     let total = unless-got _ _ _ _ (n .1) in
     let lines = then-got _ _ (total .1) in
     let sorted = in-order (t .k) [] (t .lines) (lines .1) in
@@ -89,19 +91,31 @@ proper t h =
     record {
       bits = leb-true 1 (t .k) (both-left (leb 1 (t .k)) _ (k .0));
       few-bits = leb-true (t .k) 12 (both-right (leb 1 (t .k)) _ (k .0));
-      some = leb-true 1 (length (t .lines)) (both-left (leb 1 (length (t .lines))) _ (n .0));
-      few = leb-true (length (t .lines)) 2048 (both-right (leb 1 (length (t .lines))) _ (n .0));
+      some = leb-true 1 (length (t .lines)) (both-left (leb 1 (length (t .lines))) _ count);
+      few = leb-true (length (t .lines)) 2048 (both-right (leb 1 (length (t .lines))) _ count);
       small = leb-true (t .total) totalLimit (total .0);
       sorted = sorted;
-      ends = ap closed (sym last) ∙ unless-got _ _ _ _ (lines .2) .0;
+      ends = ap closed (sym last) ∙ unless-got _ _ _ _ (unless-got _ _ _ _ (lines .2) .1) .0;
     }
 
+-- a check that passes answers the table itself, and no broken line stands behind its lines
+pub check-same : (t u : Table) (broken : ℕ) → checkSheet t broken ≡ got u → (t ≡ u) × (broken ≡ 0)
+unfolding checkSheet checkEnd
+check-same t u broken h =
+    let k = unless-got _ _ _ _ h in
+    let n = unless-got _ _ _ _ (k .1) in
+    let total = unless-got _ _ _ _ (n .1) in
+    let lines = then-got _ _ (total .1) in
+    let whole = unless-got _ _ _ _ (lines .2) in
+    (got-same (unless-got _ _ _ _ (whole .1) .1), eqb-true broken 0 (whole .0))
+
 pub checked : (t : Table) → Proper t → checkTable t ≡ got t
-unfolding checkTable unless then
+unfolding checkTable checkSheet checkEnd unless then
 checked t p =
     rw (
       le-leb 1 (t .k) (p .bits),
       le-leb (t .k) 12 (p .few-bits),
+      add-zero (length (t .lines)),
       le-leb 1 (length (t .lines)) (p .some),
       le-leb (length (t .lines)) 2048 (p .few),
       le-leb (t .total) totalLimit (p .small),

@@ -36,7 +36,7 @@ abbrev pub tableRows : Table → List (List ℕ)
 tableRows t = join 32 (headRow (t .k) (length (t .lines)) (t .total)) ∷ rows (t .lines)
 
 -- a rule line is its fields joined, and an LF
-line-joined : (l : Line) (rest : List ℕ) → lineText l ++ rest ≡ join 32 (lineRow l) ++ 10 ∷ rest
+pub line-joined : (l : Line) (rest : List ℕ) → lineText l ++ rest ≡ join 32 (lineRow l) ++ 10 ∷ rest
 unfolding lineText join
 line-joined l rest = simp append-assoc
 
@@ -61,11 +61,11 @@ table-joined t =
 word-free : (c : ℕ) → c < 65 → Free c tableWord
 word-free c h = (λ e. omega arith, (λ e. omega arith, (λ e. omega arith, (λ e. omega arith, (λ e. omega arith, tt)))))
 
-head-free : (c k n total : ℕ) → c < 42 → AllFree c (headRow k n total)
+pub head-free : (c k n total : ℕ) → c < 42 → AllFree c (headRow k n total)
 head-free c k n total h =
     (word-free c (omega arith), (decimal-free c k (omega arith), (decimal-free c n (omega arith), (decimal-free c total (omega arith), tt))))
 
-line-free : (c : ℕ) (l : Line) → c < 42 → AllFree c (lineRow l)
+pub line-free : (c : ℕ) (l : Line) → c < 42 → AllFree c (lineRow l)
 line-free c l h =
     (decimal-free c (l .service + 1) (omega arith), (suffix-free c (l .rule .len) (l .rule .value) h, (decimal-free c (l .rule .backend + 1) (omega arith), tt)))
 

@@ -26,7 +26,7 @@ use Rattle.packing.specs.Demand.{Fitting}
 use Rattle.packing.specs.Cases.{line}
 use Rattle.sheets.specs.Reading.{Reading, got, turned, then, unless, onField, same}
 use Rattle.sheets.specs.PercentageSheet.{Sheet, headFields, weightFields, sum, serviceFields, serviceLines, volumesOf, weightsOf as rowsOf, whole, sheetLines, textLimit, readSheet}
-use Rattle.sheets.specs.RuleSheet.{Table, totalLimit, lineText, linesText, tableText, tableFields, onSuffix, countOf, inOrder, placed, ruleFields, ruleLines, closed, wholeTable, tableLines, readTable, isLine, checkLines, checkTable}
+use Rattle.sheets.specs.RuleSheet.{Table, totalLimit, lineText, linesText, tableText, tableFields, onSuffix, countOf, inOrder, placed, ruleFields, ruleLines, closed, wholeTable, tableLines, readTable, isLine, checkLines, checkEnd, checkSheet, checkTable}
 use Rattle.sheets.specs.Calls.{refusedAt, servicesIn, tableFor, planOf, planAnswer, figuresFor, sheetText, printText, printRead}
 use Rattle.sheets.specs.Demand.{Demand3}
 use Rattle.sheets.specs.Cases.{bytes, cases}
@@ -82,7 +82,7 @@ unfolding bytes readTable textLimit tableLines wholeTable closed ruleLines ruleF
 sample-accepted = refl
 
 pub sample-checked : checkTable sampleTable ≡ got sampleTable
-unfolding checkTable checkLines isLine placed inOrder countOf closed totalLimit unless then
+unfolding checkTable checkSheet checkEnd checkLines isLine placed inOrder countOf closed totalLimit unless then
 sample-checked = refl
 
 -- and demand 3 holds of it

@@ -1,22 +1,23 @@
 -- What the public calls answer, and what they write, for every input.
-use Prim.Native.Nat.{ℕ, zero, suc, _+_, _-_, _*_, _^_}
+use Prim.Native.Nat.{ℕ, zero, suc, _+_, _-_, _*_, _^_, _<_}
 use mathlib.Core.Bool.{Bool, true, false, not}
-use mathlib.Core.List.{List, [], _∷_}
+use mathlib.Core.List.{List, [], _∷_, _++_}
 use lib.Dec.{leb, ltb, eqb}
 use lib.ListN.{length, getD}
 use lib.Seq.{sets}
 use Rattle.numerals.specs.Pick.{pick, both}
+use Rattle.numerals.specs.Decimal.{decimal}
 use Rattle.expansion.specs.Sums.{countTo}
 use Rattle.expansion.specs.Answer.{unit}
 use Rattle.numerals.specs.declared.refusal.Refusal.{Refusal}
-use Rattle.numerals.specs.Refusals.{no1, no7, no8, no12}
+use Rattle.numerals.specs.Refusals.{no7, no8, no11, no12}
 use Rattle.packing.specs.Grants.{total}
 use Rattle.packing.specs.Count.{Line, Services, services, matchesLine}
 use Rattle.packing.specs.Table.{problem, granted}
 use Rattle.packing.specs.Answer.{linesMade, figuresMade, cells, noBuffer, figuresBuffer, tableBuffer}
 use Rattle.sheets.specs.Reading.{Reading, got, turned, then, unless}
-use Rattle.sheets.specs.PercentageSheet.{Sheet, readSheet}
-use Rattle.sheets.specs.RuleSheet.{Table, tableText, countOf, readTable, checkTable}
+use Rattle.sheets.specs.PercentageSheet.{Sheet, readSheet, textLimit}
+use Rattle.sheets.specs.RuleSheet.{Table, tableWord, linesText, tableText, countOf, readTable, checkSheet}
 use Rattle.sheets.specs.declared.answer.Refused.{Refused}
 use Rattle.sheets.specs.declared.answer.Plan.{Plan}
 use Rattle.sheets.specs.declared.answer.Planned as planned
@@ -107,11 +108,43 @@ linesFrom (s ∷ l ∷ []) = []
 linesFrom (s ∷ l ∷ v ∷ []) = []
 linesFrom (s ∷ l ∷ v ∷ b ∷ cs) = record { service = s; rule = record { len = l; value = v; backend = b } } ∷ linesFrom cs
 
--- a table that was handed in numbers: a line of too few is 1
+-- the service of a last line of which fewer than four numbers are there; none where the numbers are whole lines
+unfoldable pub brokenFrom : List ℕ → List ℕ
+brokenFrom [] = []
+brokenFrom (s ∷ []) = s ∷ []
+brokenFrom (s ∷ l ∷ []) = s ∷ []
+brokenFrom (s ∷ l ∷ v ∷ []) = s ∷ []
+brokenFrom (s ∷ l ∷ v ∷ b ∷ cs) = brokenFrom cs
+
+-- its text has one field
+unfoldable pub brokenText : List ℕ → List ℕ
+brokenText [] = []
+brokenText (s ∷ ss) = decimal (s + 1) ++ 10 ∷ brokenText ss
+
+-- how many lines the numbers are, the broken one too
+unfoldable pub linesHanded : List ℕ → ℕ
+linesHanded cs = length (linesFrom cs) + length (brokenFrom cs)
+
+-- the text that a table in numbers makes
+unfoldable pub handedText : ℕ → ℕ → List ℕ → List ℕ
+handedText k total cs =
+    tableWord
+    ++ 32 ∷ decimal k
+    ++ 32 ∷ decimal (linesHanded cs)
+    ++ 32 ∷ decimal total
+    ++ 10 ∷ linesText (linesFrom cs)
+    ++ brokenText (brokenFrom cs)
+
+-- a table that was handed in numbers, checked as its sheet would be: that text's length, line 1, line by line, the end
 unfoldable pub tableHanded : ℕ → ℕ → List ℕ → Reading Table
 tableHanded k total cs =
-    unless (eqb (4 * length (linesFrom cs)) (length cs)) no1 0
-    (checkTable (record { k = k; total = total; lines = linesFrom cs }))
+    unless (leb (length (handedText k total cs)) textLimit) no11 0
+    (checkSheet (record { k = k; total = total; lines = linesFrom cs }) (length (brokenFrom cs)))
+
+-- every suffix's value has the bits that its length says, so that the text says the same line
+unfoldable pub ValuesFit : List Line → Type 0
+ValuesFit [] = Unit {0}
+ValuesFit (l ∷ ls) = (l .rule .value < 2 ^ (l .rule .len)) × ValuesFit ls
 
 -- the table of a rule sheet's text, into a lent buffer
 unfoldable pub readIn : Reading Table → ℕ → table-read.TableRead

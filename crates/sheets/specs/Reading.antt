@@ -19,6 +19,11 @@ unfoldable pub then : {A B : Type 0} → Reading A → (A → Reading B) → Rea
 then (got a) f = f a
 then (turned why line) f = turned why line
 
+-- the same as a call without a text tells it: with line 0
+unfoldable pub atNoLine : {A : Type 0} → Reading A → Reading A
+atNoLine (got a) = got a
+atNoLine (turned why line) = turned why 0
+
 -- turned back at a line, unless the test passes
 unfoldable pub unless : {A : Type 0} → Bool → Refusal → ℕ → Reading A → Reading A
 unless true why line next = next

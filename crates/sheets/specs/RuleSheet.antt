@@ -132,10 +132,18 @@ unfoldable pub checkLines : ℕ → List Line → List Line → Reading (List Li
 checkLines k before [] = got before
 checkLines k before (l ∷ ls) = unless (isLine k l) no2 0 (placed before l 0 (checkLines k (l ∷ before) ls))
 
-unfoldable pub checkTable : Table → Reading Table
-checkTable t =
+-- after the lines, the last first: a line of too few fields behind them, where `broken` is one, then a last line without `*`
+unfoldable pub checkEnd : {A : Type 0} → ℕ → A → List Line → Reading A
+checkEnd broken a ls = unless (eqb broken 0) no1 0 (unless (closed ls) no9 0 (got a))
+
+-- n counts a line of too few fields too
+unfoldable pub checkSheet : Table → ℕ → Reading Table
+checkSheet t broken =
     unless (both (leb 1 (t .k)) (leb (t .k) 12)) no2 0
-    (unless (both (leb 1 (length (t .lines))) (leb (length (t .lines)) 2048)) no2 0
+    (unless (both (leb 1 (length (t .lines) + broken)) (leb (length (t .lines) + broken) 2048)) no2 0
     (unless (leb (t .total) totalLimit) no2 0
-    (then (checkLines (t .k) [] (t .lines)) (λ ls.
-    unless (closed ls) no9 0 (got t)))))
+    (then (checkLines (t .k) [] (t .lines)) (checkEnd broken t))))
+
+-- a table of whole lines
+unfoldable pub checkTable : Table → Reading Table
+checkTable t = checkSheet t 0

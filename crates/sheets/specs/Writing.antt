@@ -1,5 +1,5 @@
 -- The writer of the rule sheet in its parts: what each writes, how many bytes that has, and what the check of a table in numbers answers.
-use Prim.Native.Nat.{ℕ, _+_, _*_, _<_}
+use Prim.Native.Nat.{ℕ, _+_, _*_, _<_, min}
 use mathlib.Core.Path.{_≡_}
 use mathlib.Core.List.{List, [], _∷_, _++_}
 use lib.ListN.{length}
@@ -7,12 +7,11 @@ use lib.Seq.{sets, slice}
 use Rattle.numerals.specs.Decimal.{width, decimal}
 use Rattle.numerals.specs.declared.digits.Written.{Written}
 use Rattle.numerals.specs.declared.digits.Written.the-variants.{End, Refused as NotWritten}
-use Rattle.numerals.specs.Refusals.{no9}
 use Rattle.expansion.specs.declared.call.Checked.{Checked}
 use Rattle.expansion.specs.declared.call.Checked.the-variants.{Sound, Refused}
 use Rattle.packing.specs.Count.{Line}
-use Rattle.sheets.specs.Reading.{Reading, got, turned, then, unless}
-use Rattle.sheets.specs.RuleSheet.{Table, tableWord, closed, checkLines}
+use Rattle.sheets.specs.Reading.{Reading, got, turned, then}
+use Rattle.sheets.specs.RuleSheet.{Table, tableWord, checkLines, checkEnd}
 use Rattle.sheets.specs.Behind.{Behind}
 use Rattle.sheets.specs.Calls.{linesFrom}
 use Rattle.sheets.specs.declared.order.Placed.{Placed}
@@ -36,6 +35,10 @@ endAt (NotWritten why) = 0
 unfoldable pub headText : ℕ → ℕ → ℕ → List ℕ
 headText k n total = tableWord ++ 32 ∷ decimal k ++ 32 ∷ decimal n ++ 32 ∷ decimal total ++ 10 ∷ []
 
+-- a number of bytes, counted up to one more than a text may have
+abbrev pub counted : ℕ → ℕ
+counted n = min n 65537
+
 -- how many bytes a rule line has
 abbrev pub lineWidth : ℕ → ℕ → ℕ → ℕ
 lineWidth service len backend = width (service + 1) + width (backend + 1) + len + 4
@@ -52,11 +55,12 @@ abbrev pub CheckedAs : {A : Type 0} → Checked → Reading A → A → Type 0
 CheckedAs Sound r a = r ≡ got a
 CheckedAs (Refused why) r a = r ≡ turned why 0
 
--- the lines behind these, the last of them first, each in its limits and in order, and the last a `*`
-unfoldable pub checkedFrom : ℕ → List Line → List Line → Reading (Unit {0})
-checkedFrom k before ls = then (checkLines k before ls) (λ all. unless (closed all) no9 0 (got tt))
+-- the lines behind these, the last of them first, each in its limits and in order; behind them a line of too few fields, where `broken` is one; and the last a `*`
+unfoldable pub checkedFrom : ℕ → ℕ → List Line → List Line → Reading (Unit {0})
+checkedFrom k broken before ls = then (checkLines k before ls) (checkEnd broken tt)
 
 -- what the check of one line answers, and leaves
 abbrev pub CheckedLine : ℕ → List Line → Line → Placed → List ℕ → Type 0
-CheckedLine k before l (Next last) tally = ((ls : List Line) → checkedFrom k before (l ∷ ls) ≡ checkedFrom k (l ∷ before) ls) × Behind (l ∷ before) last tally
-CheckedLine k before l (NotNext why) tally = (ls : List Line) → checkedFrom k before (l ∷ ls) ≡ turned why 0
+CheckedLine k before l (Next last) tally =
+    ((broken : ℕ) (ls : List Line) → checkedFrom k broken before (l ∷ ls) ≡ checkedFrom k broken (l ∷ before) ls) × Behind (l ∷ before) last tally
+CheckedLine k before l (NotNext why) tally = (broken : ℕ) (ls : List Line) → checkedFrom k broken before (l ∷ ls) ≡ turned why 0

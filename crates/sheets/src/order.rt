@@ -20,17 +20,18 @@ pub enum Placed {
     Refused(Refusal),
 }
 
-// A line behind these: the 33rd rule of its service, then the order. `tally` has the number of lines of each service.
+// A line behind these: the 33rd rule of its service, in order or not, then the order. `tally` has the number of lines
+// of each service.
 pub fn place_line(last: Last, tally: &mut [usize], service: usize, len: usize) -> Placed
     requires { ⌜ (service < 64) × ((last .count ≤ 2048) × (length (now tally) ≡ 64)) ⌝ }
     ensures { λ r. ⌜ ((before : List Line) (v b : ℕ) → Behind before last (now (tally .entry)) → PlacedAs before (line service len v b) r (now (tally .exit))) ⌝ }
 {
     let n = tally[service];
+    if !in_order(last, service, len) && n < 32 {
+        return Placed::Refused(Refusal::Order);
+    }
     if 32 <= n {
         return Placed::Refused(Refusal::TooMany);
-    }
-    if !in_order(last, service, len) {
-        return Placed::Refused(Refusal::Order);
     }
     tally[service] = n + 1;
     Placed::Next(Last {

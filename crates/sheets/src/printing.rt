@@ -8,44 +8,77 @@ use numerals::Refusal;
 use numerals::Written;
 ghost use mathlib.Core.Path.{_≡_};
 ghost use mathlib.Core.List.{List, [], _∷_, _++_};
-ghost use Prim.Native.Nat.{_+_, _*_, _^_, _≤_, _<_};
+ghost use Prim.Native.Nat.{ℕ, _+_, _*_, _/_, _^_, _≤_, _<_};
 ghost use lib.ListN.{length};
-ghost use Rattle.numerals.specs.Decimal.{decimal};
+ghost use lib.Seq.{slice};
+ghost use Rattle.numerals.specs.Decimal.{width, decimal};
 ghost use Rattle.numerals.specs.Suffix.{suffixText};
 ghost use Rattle.sheets.specs.RuleSheet.{tableText, lineText, isLine};
 ghost use Rattle.packing.specs.Count.{Line as RuleOf};
 ghost use Rattle.sheets.specs.Behind.{line, Behind};
 ghost use Rattle.sheets.specs.Rows.{lineAt, Limited};
-ghost use Rattle.sheets.specs.Writing.{Wrote, Before, endAt, headText, lineWidth, linesIn, tableIn, CheckedAs, checkedFrom, CheckedLine};
+ghost use Rattle.sheets.specs.Writing.{Wrote, Before, endAt, headText, lineWidth, counted, tableIn, CheckedAs, checkedFrom, CheckedLine};
 ghost use Rattle.sheets.specs.Calls as calls;
+
+// The sum of two widths.
+fn add_width(a: usize, b: usize) -> usize
+    ensures { λ r. ⌜ r ≡ counted (a + b) ⌝ }
+{
+    if 65537 <= a {
+        return 65537;
+    }
+    if 65537 - a <= b {
+        return 65537;
+    }
+    a + b
+}
+
+// How many bytes the number of a service or a backend has: counted from 0, written from 1.
+fn place_width(place: usize) -> usize
+    ensures { λ r. ⌜ r ≡ width (place + 1) ⌝ }
+{
+    if place < 9 {
+        return 1;
+    }
+    numerals::decimal_width((place as u64 - 9) / 10 + 1) + 1
+}
 
 // How many bytes the text of a line has.
 fn line_width(service: usize, len: usize, backend: usize) -> usize
-    requires { ⌜ (service < 64) × ((len ≤ 12) × (backend < 32)) ⌝ }
-    ensures { λ r. ⌜ r ≡ lineWidth service len backend ⌝ }
+    ensures { λ r. ⌜ r ≡ counted (lineWidth service len backend) ⌝ }
 {
-    numerals::decimal_width(service as u64 + 1)
-        + numerals::decimal_width(backend as u64 + 1)
-        + len
-        + 4
+    add_width(len, place_width(service) + place_width(backend) + 4)
 }
 
-// How many bytes the text of a table has.
-pub fn text_width(k: usize, total: u64, table: &[usize], n: usize) -> usize
-    requires { ⌜ (n ≤ 2048) × Limited (now table) n ⌝ }
-    ensures { λ r. ⌜ r ≡ length (tableText (tableIn k total (now (table .entry)) n)) ⌝ }
+// How many lines so many numbers are, a last one of fewer than four too.
+fn line_count(numbers: usize) -> usize
+    ensures { λ r. ⌜ r ≡ (numbers + 3) / 4 ⌝ }
+{
+    if numbers % 4 == 0 {
+        return numbers / 4;
+    }
+    numbers / 4 + 1
+}
+
+// How many bytes the text has that the numbers before a position make, whatever they are.
+pub fn text_width(k: usize, total: u64, table: &[usize], to: usize) -> usize
+    requires { ⌜ to ≤ length (now table) ⌝ }
+    ensures { λ r. ⌜ r ≡ counted (length (calls.handedText k total (slice 0 to (now (table .entry))))) ⌝ }
 {
     let mut width = 9
         + numerals::decimal_width(k as u64)
-        + numerals::decimal_width(n as u64)
+        + numerals::decimal_width(line_count(to) as u64)
         + numerals::decimal_width(total);
     let mut i = 0;
-    while i < n {
+    while i < to / 4 {
         let c = 4 * i;
-        width += line_width(table[c], table[c + 1], table[c + 3]);
+        width = add_width(width, line_width(table[c], table[c + 1], table[c + 3]));
         i += 1;
     }
-    width
+    if to % 4 == 0 {
+        return width;
+    }
+    add_width(width, place_width(table[4 * i]) + 1)
 }
 
 // A separator behind a text that was written; the position after it.
@@ -134,7 +167,7 @@ pub fn print(k: usize, total: u64, table: &[usize], n: usize, out: &mut [u8]) ->
     ensures answer { λ r. ⌜ r ≡ calls.printText (tableText (tableIn k total (now (table .entry)) n)) (length (now (out .entry))) ⌝ }
     ensures buffer { λ r. ⌜ now (out .exit) ≡ calls.printFilled r (now (out .entry)) (tableText (tableIn k total (now (table .entry)) n)) ⌝ }
 {
-    if out.len() < text_width(k, total, table, n) {
+    if out.len() < text_width(k, total, table, 4 * n) {
         return Printed::Refused(Refused {
             why: Refusal::ShortLoan,
             line: 0,
@@ -175,10 +208,10 @@ fn check_line(k: usize, table: &[usize], i: usize, last: Last, tally: &mut [usiz
     crate::order::place_line(last, tally, service, len)
 }
 
-// The lines of a table that is no text, in their order.
-fn check_lines(k: usize, table: &[usize], n: usize) -> Checked
-    requires { ⌜ (k ≤ 12) × ((n ≤ 2048) × (4 * n ≤ length (now table))) ⌝ }
-    ensures { λ r. ⌜ CheckedAs r (checkedFrom k [] (linesIn (now (table .entry)) n)) (tt {0}) ⌝ }
+// The lines of a table that is no text, in their order; numbers left over are a last line of too few fields.
+fn check_lines(k: usize, table: &[usize]) -> Checked
+    requires { ⌜ (k ≤ 12) × (length (now table) / 4 ≤ 2048) ⌝ }
+    ensures { λ r. ⌜ CheckedAs r (checkedFrom k (length (calls.brokenFrom (now (table .entry)))) [] (calls.linesFrom (now (table .entry)))) (tt {0}) ⌝ }
 {
     let mut tally = [0usize; 64];
     let mut last = Last {
@@ -187,7 +220,7 @@ fn check_lines(k: usize, table: &[usize], n: usize) -> Checked
         len: 0,
     };
     let mut i = 0;
-    while i < n {
+    while i < table.len() / 4 {
         let checked = check_line(k, table, i, last, &mut tally);
         match checked {
             Placed::Refused(why) => {
@@ -198,6 +231,9 @@ fn check_lines(k: usize, table: &[usize], n: usize) -> Checked
             }
         }
         i += 1;
+    }
+    if table.len() % 4 != 0 {
+        return Checked::Refused(Refusal::Malformed);
     }
     if last.len == 0 {
         Checked::Sound
@@ -210,9 +246,8 @@ fn check_lines(k: usize, table: &[usize], n: usize) -> Checked
 fn check_table(k: usize, total: u64, table: &[usize]) -> Checked
     ensures { λ r. ⌜ CheckedAs r (calls.tableHanded k total (now (table .entry))) (record { k = k; total = total; lines = calls.linesFrom (now (table .entry)) }) ⌝ }
 {
-    let n = table.len() / 4;
-    if table.len() % 4 != 0 {
-        return Checked::Refused(Refusal::Malformed);
+    if 65536 < text_width(k, total, table, table.len()) {
+        return Checked::Refused(Refusal::TooLong);
     }
     if k < 1 {
         return Checked::Refused(Refusal::BadField);
@@ -220,6 +255,7 @@ fn check_table(k: usize, total: u64, table: &[usize]) -> Checked
     if 12 < k {
         return Checked::Refused(Refusal::BadField);
     }
+    let n = line_count(table.len());
     if n < 1 {
         return Checked::Refused(Refusal::BadField);
     }
@@ -229,7 +265,7 @@ fn check_table(k: usize, total: u64, table: &[usize]) -> Checked
     if 2621440000000000 < total {
         return Checked::Refused(Refusal::BadField);
     }
-    check_lines(k, table, n)
+    check_lines(k, table)
 }
 
 // The rule sheet of a table: four numbers for each line, its service, the length and the value of its suffix, and its

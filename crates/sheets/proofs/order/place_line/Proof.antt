@@ -1,9 +1,10 @@
 -- `order::place_line` meets its contract: the two tests, and the tally of one line more.
-use mathlib.Core.Path.{sym, _∙_}
-use native.Mathlib.Nat.{le-trans, le-of-eq}
+use mathlib.Core.Path.{_≡_, sym, _∙_}
+use mathlib.Core.Bool.{true}
+use mathlib.Core.Logic.{⊎-elim}
 use native.Mathlib.Omega.{arith}
 use borrow.Author.Needs.{needs}
-use borrow.Author.Tests.{not-true, not-false}
+use borrow.Author.Tests.{not-true, not-false, ltb-true, ltb-false}
 use Rattle.sheets.specs.Reading.{unless}
 use Rattle.sheets.specs.Behind.{line}
 use Rattle.sheets.proofs.Following.{too-many, by-order, behind-next}
@@ -16,18 +17,21 @@ mul-n c = search needs
 slice-read-n : tie.Need-slice-read-n
 slice-read-n c = search needs
 
-returns : tie.Need-returns
-returns c = λ before v b kept. too-many before _ (le-trans (c .if1 .taken) (le-of-eq (kept .tallied _ (search needs))))
-
 in-order-requires : tie.Need-in-order-requires
 in-order-requires c κs = search needs
 
-returns-2 : tie.Need-returns-2
+returns : tie.Need-returns
 unfolding unless
-returns-2 c =
+returns c =
+    let s = c .before .before .before .before .before in
     λ before v b kept.
-    by-order before _ (omega (arith, c .before .before .if1 .left, kept .tallied (c .before .before .before .before .before .args .service) (search needs)))
-    ∙ rw (sym (c .before .in-order .ensures before v b (kept .is)), not-true (c .before .in-order .result) (c .if2 .taken))
+    by-order before _ (omega (arith, ltb-true, c .if2 .taken, kept .tallied (s .args .service) (search needs)))
+    ∙ rw (sym (c .before .before .in-order .ensures before v b (kept .is)), not-true (c .before .before .in-order .result) (c .before .if1 .taken))
+
+returns-2 : tie.Need-returns-2
+returns-2 c =
+    let s = c .before .before .before .before .before in
+    λ before v b kept. too-many before _ (omega (arith, c .if3 .taken, kept .tallied (s .args .service) (search needs)))
 
 add-tally : tie.Need-add-tally
 add-tally c = search needs
@@ -44,13 +48,21 @@ add-t6 c = search needs
 same-length : tie.Need-same-length
 same-length c = search needs
 
+-- the line is in order: otherwise there were 32 before it
+sorted : (c : tie.Else3) → c .before .before .in-order .result ≡ true
+sorted c =
+    ⊎-elim
+    (λ w. absurd (omega (arith, ltb-false, w .1 .left, c .if3 .left)))
+    (λ w. not-false (c .before .before .in-order .result) (w .left))
+    (c .before .if1 .came)
+
 returns-3 : tie.Need-returns-3
 unfolding unless
 returns-3 c =
     let a = c .before .before .before .before .before .before .args in
     λ before v b kept. (
-      by-order before _ (omega (arith, c .before .before .before .if1 .left, kept .tallied (a .service) (search needs)))
-          ∙ rw (sym (c .before .before .in-order .ensures before v b (kept .is)), not-false (c .before .before .in-order .result) (c .before .if2 .left)),
+      by-order before _ (omega (arith, c .before .if3 .left, kept .tallied (a .service) (search needs)))
+          ∙ rw (sym (c .before .before .before .in-order .ensures before v b (kept .is)), sorted (c .before)),
       behind-next before (line (a .service) (a .len) v b) (a .last) (a .tally .now) kept (search needs),
     )
 
@@ -60,8 +72,8 @@ place-line-spec =
     (tie.spec
     mul-n
     slice-read-n
-    returns
     in-order-requires
+    returns
     returns-2
     add-tally
     mul-tally

@@ -56,7 +56,7 @@ is-line-requires : tie.Need-is-line-requires
 is-line-requires c κs = c .before .before .before .before .before .before .pre .0
 
 returns : tie.Need-returns
-returns c = λ before kept ls. line-bad _ before _ ls (sym (c .before .is-line .ensures) ∙ not-true (c .before .is-line .result) (c .if1 .taken))
+returns c = λ before kept broken ls. line-bad _ broken before _ ls (sym (c .before .is-line .ensures) ∙ not-true (c .before .is-line .result) (c .if1 .taken))
 
 place-line-requires : tie.Need-place-line-requires
 place-line-requires c κs =

@@ -1,25 +1,29 @@
 -- `printing::check_lines` meets its contract. The invariant: the lines so far passed, and the rest decides.
-use Prim.Native.Nat.{_-_, _≤_}
-use mathlib.Core.Path.{sym, ap, _∙_}
-use mathlib.Core.List.{_∷_}
+use Prim.Native.Nat.{_-_, _/_, _≤_}
+use mathlib.Core.Path.{_≡_, sym, ap, _∙_}
+use mathlib.Core.List.{[], _∷_}
+use native.Mathlib.Nat.{le-refl}
 use native.Mathlib.Omega.{arith}
+use lib.ListN.{length}
 use borrow.Author.Needs.{needs}
+use Rattle.sheets.specs.Calls.{linesFrom, brokenFrom}
 use Rattle.sheets.specs.Rows.{lineAt}
 use Rattle.sheets.specs.Writing.{checkedFrom}
 use Rattle.sheets.specs.declared.order.Last.{Last}
-use Rattle.sheets.proofs.Rows.{rows-more, rows-none}
-use Rattle.sheets.proofs.Checking.{Checking, none-checked, few-checked, all-sound, left-open}
+use Rattle.sheets.proofs.Rows.{lines-more, lines-none}
+use Rattle.sheets.proofs.Handed.{count-broken}
+use Rattle.sheets.proofs.Checking.{Checking, none-checked, few-checked, too-few, all-sound, left-open}
 use Rattle.sheets.proofs.printing.check_lines.Statement.{statement}
 use Rattle.sheets.proofs.printing.check_lines.Tie as tie
 
 abbrev Inv-loop : tie.InvT-loop
-Inv-loop k table n tally₀ last₀ i₀ tally last i = (i ≤ n) × Checking k table n i last tally
+Inv-loop k table tally₀ last₀ i₀ tally last i = (i ≤ length table / 4) × Checking k table i last tally
 
 abbrev μ-loop : tie.MeasureT-loop
-μ-loop k table n tally₀ last₀ i₀ tally last i = n - i
+μ-loop k table tally₀ last₀ i₀ tally last i = length table / 4 - i
 
 loop-holds : tie.Need-loop-holds Inv-loop μ-loop
-loop-holds c = (omega arith, none-checked _ _ _)
+loop-holds c = (omega arith, none-checked _ _)
 
 slice-aggregate-check-line : tie.Need-slice-aggregate-check-line Inv-loop μ-loop
 slice-aggregate-check-line c = sym (c .before .before .loop .inv .1 .kept .places)
@@ -28,17 +32,19 @@ check-line-requires : tie.Need-check-line-requires Inv-loop μ-loop
 check-line-requires c κs =
     let p = c .before .before .before .before .pre in
     let l = c .before .before .loop in
-    (p .0, (omega (arith, c .before .loop-test .taken, p .1 .1), (omega (arith, few-checked _ _ _ _ _ _ (l .inv .1), c .before .loop-test .taken, p .1 .0), l .inv .1 .kept .places)))
+    (p .0, (omega (arith, c .before .loop-test .taken), (omega (arith, few-checked _ _ _ _ _ (l .inv .1), c .before .loop-test .taken, p .1), l .inv .1 .kept .places)))
 
 enum-known-checked : tie.Need-enum-known-checked Inv-loop μ-loop
 enum-known-checked c = search needs
 
 returns : tie.Need-returns Inv-loop μ-loop
 returns c =
-    let s = c .before .before .before .before .before .before .before .before .before in
-    let C = c .before .before .before .before .before .before .before .loop .inv .1 in
+    let t = c .before .before .before .before .before .before .before .before .before .args .table .now in
+    let l = c .before .before .before .before .before .before .before .loop in
+    let C = l .inv .1 in
+    let h = c .before .before .before .before .before .before .loop-test .taken in
     let told = rw (c .before .checked .given .1) at (c .before .before .before .before .check-line .ensures (C .before) (C .kept)) in
-    C .left ∙ ap (checkedFrom _ (C .before)) (rows-more _ _ (s .pre .1 .1) _ (c .before .before .before .before .before .before .loop-test .taken)) ∙ told _
+    C .left ∙ ap (checkedFrom _ _ (C .before)) (lines-more t (length t) (le-refl _) (l .i) (omega (arith, h))) ∙ told _ _
 
 enum-known-checked-2 : tie.Need-enum-known-checked-2 Inv-loop μ-loop
 enum-known-checked-2 c = search needs
@@ -51,33 +57,50 @@ loop-less c = omega arith
 
 loop-again : tie.Need-loop-again Inv-loop μ-loop
 loop-again c =
-    let s = c .before .before .before .before .before .before .before .before .before in
+    let t = c .before .before .before .before .before .before .before .before .before .args .table .now in
     let l = c .before .before .before .before .before .before .before .loop in
     let C = l .inv .1 in
     let h = c .before .before .before .before .before .before .loop-test .taken in
     let told = rw (c .before .checked2 .given .1) at (c .before .before .before .before .check-line .ensures (C .before) (C .kept)) in (
-      omega arith,
+      omega (arith, h),
       record {
-        before = lineAt (s .args .table .now) (l .i) ∷ C .before;
+        before = lineAt t (l .i) ∷ C .before;
         passed = omega (arith, C .passed);
         kept = told .1;
-        left = C .left ∙ ap (checkedFrom _ (C .before)) (rows-more _ _ (s .pre .1 .1) _ h) ∙ told .0 _;
+        left = C .left ∙ ap (checkedFrom _ _ (C .before)) (lines-more t (length t) (le-refl _) (l .i) (omega (arith, h))) ∙ told .0 _ _;
       },
     )
 
+-- no line is left: what was kept of them decides
+ends :
+    (c : tie.After-loop Inv-loop μ-loop)
+    → let t = c .before .before .before .args .table .now in
+    let k = c .before .before .before .args .k in
+    let before = c .before .loop .inv .1 .before in
+    checkedFrom k (length (brokenFrom t)) [] (linesFrom t) ≡ checkedFrom k (length (brokenFrom t)) before []
+ends c =
+    let t = c .before .before .before .args .table .now in
+    let C = c .before .loop .inv .1 in
+    C .left ∙ ap (checkedFrom _ _ (C .before)) (lines-none t (length t) (le-refl _) (c .before .loop .i) (omega (arith, c .loop-test .left)))
+
 returns-2 : tie.Need-returns-2 Inv-loop μ-loop
 returns-2 c =
-    let s = c .before .before .before .before .before in
-    let C = c .before .before .before .loop .inv .1 in
-    C .left ∙ ap (checkedFrom _ (C .before)) (rows-none _ _ (s .pre .1 .1) _ (c .before .before .loop-test .left))
-    ∙ all-sound _ (C .before) (ap (λ (q : Last). q .len) (sym (C .kept .is)) ∙ c .if1 .taken)
+    let s = c .before .before .before .before in
+    ends (c .before) ∙ too-few _ _ (c .before .before .loop .inv .1 .before) (λ e. c .if1 .taken (omega (arith, count-broken (s .args .table .now))))
 
 returns-3 : tie.Need-returns-3 Inv-loop μ-loop
 returns-3 c =
-    let s = c .before .before .before .before .before in
-    let C = c .before .before .before .loop .inv .1 in
-    C .left ∙ ap (checkedFrom _ (C .before)) (rows-none _ _ (s .pre .1 .1) _ (c .before .before .loop-test .left))
-    ∙ left-open _ (C .before) (λ e. c .if1 .left (ap (λ (q : Last). q .len) (C .kept .is) ∙ e))
+    let s = c .before .before .before .before .before .before in
+    let C = c .before .before .before .before .loop .inv .1 in
+    ends (c .before .before .before)
+    ∙ all-sound _ _ (C .before) (omega (arith, count-broken (s .args .table .now), c .before .before .if1 .left)) (ap (λ (q : Last). q .len) (sym (C .kept .is)) ∙ c .if2 .taken)
+
+returns-4 : tie.Need-returns-4 Inv-loop μ-loop
+returns-4 c =
+    let s = c .before .before .before .before .before .before in
+    let C = c .before .before .before .before .loop .inv .1 in
+    ends (c .before .before .before)
+    ∙ left-open _ _ (C .before) (omega (arith, count-broken (s .args .table .now), c .before .before .if1 .left)) (λ e. c .if2 .left (ap (λ (q : Last). q .len) (C .kept .is) ∙ e))
 
 pub check-lines-spec : {M : Type 1} → statement M
 check-lines-spec =
@@ -95,4 +118,5 @@ check-lines-spec =
     loop-less
     loop-again
     returns-2
-    returns-3)
+    returns-3
+    returns-4)

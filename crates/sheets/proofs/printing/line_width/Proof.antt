@@ -1,50 +1,42 @@
 -- `printing::line_width` meets its contract: the widths of the parts of a line.
-use Prim.Native.Nat.{_≤_}
+use Prim.Native.Nat.{_+_, _≤_}
 use native.Mathlib.Omega.{arith}
-use Rattle.sheets.specs.Writing.{lineWidth}
-use Rattle.sheets.proofs.TableTexts.{line-short}
+use borrow.Author.Needs.{needs}
+use Rattle.numerals.specs.Decimal.{width}
+use Rattle.numerals.proofs.Decimal.{width-least}
 use Rattle.sheets.proofs.printing.line_width.Statement.{statement}
 use Rattle.sheets.proofs.printing.line_width.Tie as tie
 
-add-decimal-width : tie.Need-add-decimal-width
-add-decimal-width c = omega arith
+place-width-requires : tie.Need-place-width-requires
+place-width-requires c κs = search needs
 
-decimal-width-requires : tie.Need-decimal-width-requires
-decimal-width-requires c κs = tt
+place-width-requires-2 : tie.Need-place-width-requires-2
+place-width-requires-2 c κs = search needs
 
-add-decimal-width-2 : tie.Need-add-decimal-width-2
-add-decimal-width-2 c = omega arith
+-- the two numbers have at most 20 bytes each
+add-add-width : tie.Need-add-add-width
+add-add-width c =
+    let a = c .before .before .args in
+    omega (arith, width-least 19 (a .service + 1) (omega arith), width-least 19 (a .backend + 1) (omega arith))
 
-decimal-width-requires-2 : tie.Need-decimal-width-requires-2
-decimal-width-requires-2 c κs = tt
+add-add-width-2 : tie.Need-add-add-width-2
+add-add-width-2 c =
+    let a = c .before .before .args in
+    omega (arith, width-least 19 (a .service + 1) (omega arith), width-least 19 (a .backend + 1) (omega arith))
 
--- all of it is at most 20
-short : (c : tie.After-decimal-width2) → let a = c .before .before .args in lineWidth (a .service) (a .len) (a .backend) ≤ 20
-short c =
-    let s = c .before .before in
-    line-short (s .args .service) (s .args .len) (s .args .backend) (s .pre .0) (s .pre .1 .0) (s .pre .1 .1)
-
-add-result : tie.Need-add-result
-add-result c = omega (arith, short c)
-
-add-result-2 : tie.Need-add-result-2
-add-result-2 c = omega (arith, short c)
-
-add-result-3 : tie.Need-add-result-3
-add-result-3 c = omega (arith, short c)
+add-width-requires : tie.Need-add-width-requires
+add-width-requires c κs = search needs
 
 returns : tie.Need-returns
-returns c = omega arith
+returns c = search needs
 
 pub line-width-spec : {M : Type 1} → statement M
 line-width-spec =
     tie.close
     (tie.spec
-    add-decimal-width
-    decimal-width-requires
-    add-decimal-width-2
-    decimal-width-requires-2
-    add-result
-    add-result-2
-    add-result-3
+    place-width-requires
+    place-width-requires-2
+    add-add-width
+    add-add-width-2
+    add-width-requires
     returns)

@@ -1,25 +1,28 @@
--- `printing::text_width` meets its contract: the width so far and that of the lines left make the width of the whole text.
-use Prim.Native.Nat.{_+_, _-_, _*_, _≤_}
-use mathlib.Core.Path.{_≡_, ap}
+-- `printing::text_width` meets its contract: the width so far and that of the numbers left make the width of the whole text, as far as it is counted.
+use Prim.Native.Nat.{ℕ, _+_, _-_, _*_, _/_, _≤_, min}
+use mathlib.Core.Path.{_≡_, ap, _∙_}
 use native.Mathlib.Omega.{arith}
-use lib.ListN.{length}
+use lib.ListN.{length, getD}
 use lib.Seq.{slice}
 use Rattle.numerals.specs.Decimal.{width}
 use Rattle.numerals.proofs.Decimal.{width-least}
-use Rattle.sheets.specs.RuleSheet.{tableText}
-use Rattle.sheets.specs.Calls.{linesFrom}
-use Rattle.sheets.specs.Writing.{tableIn}
-use Rattle.sheets.proofs.TableTexts.{linesWidth, length-table}
-use Rattle.sheets.proofs.Handed.{width-short, width-more, width-none, lines-count}
+use Rattle.numerals.proofs.Slice.{slice-length}
+use Rattle.sheets.specs.Calls.{handedText}
+use Rattle.sheets.specs.Writing.{counted, lineWidth}
+use Rattle.sheets.proofs.Handed.{handedWidth, length-handed, handed-more, handed-none, handed-last}
 use Rattle.sheets.proofs.printing.text_width.Statement.{statement}
 use Rattle.sheets.proofs.printing.text_width.Tie as tie
 
 abbrev Inv-loop : tie.InvT-loop
-Inv-loop k total table n width₀ i₀ width i =
-    (i ≤ n) × (width ≤ 69 + 20 * i) × (width + linesWidth (linesFrom (slice (4 * i) (4 * n) table)) ≡ length (tableText (tableIn k total table n)))
+Inv-loop k total table to width₀ i₀ width i =
+    (i ≤ to / 4) × (width ≤ 65537) × (counted (width + handedWidth (slice (4 * i) to table)) ≡ counted (length (handedText k total (slice 0 to table))))
 
 abbrev μ-loop : tie.MeasureT-loop
-μ-loop k total table n width₀ i₀ width i = n - i
+μ-loop k total table to width₀ i₀ width i = to / 4 - i
+
+-- counting part by part counts the whole
+more-counted : (w x r : ℕ) → counted (counted (w + counted x) + r) ≡ counted (w + (x + r))
+more-counted w x r = omega arith
 
 decimal-width-requires : tie.Need-decimal-width-requires Inv-loop μ-loop
 decimal-width-requires c κs = tt
@@ -27,33 +30,38 @@ decimal-width-requires c κs = tt
 add-width : tie.Need-add-width Inv-loop μ-loop
 add-width c =
     let a = c .before .before .args in
-    omega (arith, width-least 19 (a .k) (omega arith), width-least 19 (a .n) (omega arith), width-least 19 (a .total) (omega arith))
+    omega (arith, width-least 19 (a .k) (omega arith))
+
+line-count-requires : tie.Need-line-count-requires Inv-loop μ-loop
+line-count-requires c κs = tt
 
 decimal-width-requires-2 : tie.Need-decimal-width-requires-2 Inv-loop μ-loop
 decimal-width-requires-2 c κs = tt
 
 add-width-2 : tie.Need-add-width-2 Inv-loop μ-loop
 add-width-2 c =
-    let a = c .before .before .before .args in
-    omega (arith, width-least 19 (a .k) (omega arith), width-least 19 (a .n) (omega arith), width-least 19 (a .total) (omega arith))
+    let a = c .before .before .before .before .args in
+    omega (arith, width-least 19 (a .k) (omega arith), width-least 19 (c .before .line-count .result) (omega arith))
 
 decimal-width-requires-3 : tie.Need-decimal-width-requires-3 Inv-loop μ-loop
 decimal-width-requires-3 c κs = tt
 
 add-width-3 : tie.Need-add-width-3 Inv-loop μ-loop
 add-width-3 c =
-    let a = c .before .before .before .before .args in
-    omega (arith, width-least 19 (a .k) (omega arith), width-least 19 (a .n) (omega arith), width-least 19 (a .total) (omega arith))
+    let a = c .before .before .before .before .before .args in
+    omega (arith, width-least 19 (a .k) (omega arith), width-least 19 (c .before .before .line-count .result) (omega arith), width-least 19 (a .total) (omega arith))
 
 loop-holds : tie.Need-loop-holds Inv-loop μ-loop
 loop-holds c =
-    let s = c .before .before .before .before in
+    let s = c .before .before .before .before .before in
     let a = s .args in
-    let t = tableIn (a .k) (a .total) (a .table .now) (a .n) in
-    let L = s .pre .1 in (
+    let cs = slice 0 (a .to) (a .table .now) in
+    let n = c .before .before .line-count .result in
+    let size : length cs ≡ a .to = omega (arith, slice-length 0 (a .to) (a .table .now), s .pre) in
+    let count : n ≡ (length cs + 3) / 4 = omega (arith, c .before .before .line-count .ensures) in (
       omega arith,
-      omega (arith, width-least 19 (a .k) (omega arith), width-least 19 (a .n) (omega arith), width-least 19 (a .total) (omega arith)),
-      omega (arith, length-table t, lines-count (a .table .now) (a .n) L, ap width (lines-count (a .table .now) (a .n) L)),
+      omega (arith, width-least 19 (a .k) (omega arith), width-least 19 n (omega arith), width-least 19 (a .total) (omega arith)),
+      ap counted (omega (arith, length-handed (a .k) (a .total) cs, ap width count)),
     )
 
 mul-c : tie.Need-mul-c Inv-loop μ-loop
@@ -84,17 +92,10 @@ shared-slice-read-line-width-3 : tie.Need-shared-slice-read-line-width-3 Inv-loo
 shared-slice-read-line-width-3 c = omega arith
 
 line-width-requires : tie.Need-line-width-requires Inv-loop μ-loop
-line-width-requires c κs =
-    let s = c .before .before .before .before .before .before .before .before .before in
-    let L = s .pre .1 in
-    let i = c .before .before .before .before .loop .i in
-    let h = c .before .before .before .loop-test .taken in
-    (L .service i h, (L .short i h, L .backend i h))
+line-width-requires c κs = tt
 
-add-width-4 : tie.Need-add-width-4 Inv-loop μ-loop
-add-width-4 c =
-    let s = c .before .before .before .before .before .before .before .before .before .before in
-    omega (arith, width-short (s .args .table .now) (s .args .n) (s .pre .1) (c .before .before .before .before .before .loop .i) (c .before .before .before .before .loop-test .taken))
+add-width-requires : tie.Need-add-width-requires Inv-loop μ-loop
+add-width-requires c κs = tt
 
 add-i : tie.Need-add-i Inv-loop μ-loop
 add-i c = omega arith
@@ -104,18 +105,58 @@ loop-less c = omega arith
 
 loop-again : tie.Need-loop-again Inv-loop μ-loop
 loop-again c =
-    let s = c .before .before .before .before .before .before .before .before .before .before in
-    let l = c .before .before .before .before .before .loop in
-    let h = c .before .before .before .before .loop-test .taken in (
+    let s = c .before .before .before .before .before .before .before .before .before .before .before .before in
+    let l = c .before .before .before .before .before .before .loop in
+    let t = s .args .table .now in
+    let i = l .i in
+    let w = lineWidth (getD t (4 * i) 0) (getD t (4 * i + 1) 0) (getD t (4 * i + 3) 0) in
+    let rest = handedWidth (slice (4 * (i + 1)) (s .args .to) t) in
+    let width : c .add-width .result ≡ counted (l .width + counted w) = c .add-width .ensures ∙ ap (λ (x : ℕ). counted (l .width + x)) (c .before .line-width .ensures) in
+    let more = handed-more t (s .args .to) (s .pre) i (omega (arith, c .before .before .before .before .before .loop-test .taken)) in (
+      omega (arith, c .before .before .before .before .before .loop-test .taken),
       omega arith,
-      omega (arith, width-short (s .args .table .now) (s .args .n) (s .pre .1) (l .i) h),
-      omega (arith, width-more (s .args .table .now) (s .args .n) (s .pre .1) (l .i) h, l .inv .2),
+      ap (λ (x : ℕ). counted (x + rest)) width ∙ more-counted (l .width) w rest ∙ ap (λ (x : ℕ). counted (l .width + x)) (omega (arith, more)) ∙ l .inv .2,
     )
 
 returns : tie.Need-returns Inv-loop μ-loop
 returns c =
-    let s = c .before .before .before .before .before .before in
-    omega (arith, width-none (s .args .table .now) (s .args .n) (s .pre .1) (c .before .loop .i) (c .loop-test .left), c .before .loop .inv .2)
+    let s = c .before .before .before .before .before .before .before .before in
+    let l = c .before .before .loop in
+    omega (arith, handed-none (s .args .table .now) (s .args .to) (s .pre) (l .i) (omega (arith, c .before .loop-test .left, l .inv .0, c .if1 .taken)), l .inv .1, l .inv .2)
+
+mul-place-width : tie.Need-mul-place-width Inv-loop μ-loop
+mul-place-width c = omega arith
+
+mul-place-width-2 : tie.Need-mul-place-width-2 Inv-loop μ-loop
+mul-place-width-2 c = omega arith
+
+shared-slice-read-place-width : tie.Need-shared-slice-read-place-width Inv-loop μ-loop
+shared-slice-read-place-width c = omega arith
+
+place-width-requires : tie.Need-place-width-requires Inv-loop μ-loop
+place-width-requires c κs = tt
+
+add-add-width : tie.Need-add-add-width Inv-loop μ-loop
+add-add-width c =
+    let s = c .before .before .before .before .before .before .before .before .before .before in
+    let i = c .before .before .before .before .loop .i in
+    omega (arith, width-least 19 (getD (s .args .table .now) (4 * i) 0 + 1) (omega (arith, c .before .shared-slice-known5 .given (4 * i))))
+
+add-width-requires-2 : tie.Need-add-width-requires-2 Inv-loop μ-loop
+add-width-requires-2 c κs = tt
+
+returns-2 : tie.Need-returns-2 Inv-loop μ-loop
+returns-2 c =
+    let s = c .before .before .before .before .before .before .before .before .before .before .before in
+    let l = c .before .before .before .before .before .loop in
+    let h = c .before .before .before .before .loop-test .left in
+    omega (
+      arith,
+      handed-last (s .args .table .now) (s .args .to) (s .pre) (l .i) (omega (arith, h, l .inv .0, c .before .before .before .if1 .left)) (omega (arith, h, l .inv .0)),
+      c .add-width2 .ensures,
+      c .before .place-width .ensures,
+      l .inv .2,
+    )
 
 pub text-width-spec : {M : Type 1} → statement M
 text-width-spec =
@@ -125,6 +166,7 @@ text-width-spec =
     μ-loop
     decimal-width-requires
     add-width
+    line-count-requires
     decimal-width-requires-2
     add-width-2
     decimal-width-requires-3
@@ -140,8 +182,15 @@ text-width-spec =
     mul-line-width-3
     shared-slice-read-line-width-3
     line-width-requires
-    add-width-4
+    add-width-requires
     add-i
     loop-less
     loop-again
-    returns)
+    returns
+    mul-place-width
+    mul-place-width-2
+    shared-slice-read-place-width
+    place-width-requires
+    add-add-width
+    add-width-requires-2
+    returns-2)

@@ -27,7 +27,7 @@ told :
 told c = rw (c .enum-told .given .1) at (c .before .before .check-table .ensures)
 
 print-requires : tie.Need-print-requires
-print-requires c κs = let A = accepted _ _ _ (told (c .before)) in (A .few, A .limits)
+print-requires c κs = let A = accepted _ _ _ _ (told (c .before)) in (A .few, A .limits)
 
 same-length : tie.Need-same-length
 same-length c = search needs
@@ -36,7 +36,7 @@ returns-2 : tie.Need-returns-2
 returns-2 c =
     let p = c .before .before .print .ensures in
     let e = told (c .before .before .before .before) in
-    let A = accepted _ _ _ e in
+    let A = accepted _ _ _ _ e in
     (rw (e, ← A .table) (p .0), rw (e, ← A .table) (p .1))
 
 pub write-table-spec : {M : Type 1} → statement M
