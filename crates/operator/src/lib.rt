@@ -1,41 +1,24 @@
 // What the operators' programs share: a file read whole, numbers and addresses of the command line, and refusals printed.
 mod address;
+mod reading;
 
 pub use address::read_address;
 pub use address::read_word;
 use libc::STDERR_FILENO;
 use libc::STDOUT_FILENO;
 use numerals::Number;
+pub use reading::FileRead;
+pub use reading::read_file;
+pub use reading::read_input;
 use sheets::Refused;
 ghost use mathlib.Core.Path.{_≡_};
 ghost use lib.ListN.{take};
-
-// A file's bytes, or that it can't be read.
-pub enum FileRead {
-    Bytes(usize),
-    Failed,
-}
 
 // The first n bytes of a text, or all of a shorter one.
 pub fn start(text: &[u8], n: usize) -> &[u8]
     ensures { λ r. ⌜ now r ≡ take n (now (text .entry)) ⌝ }
 {
     if n <= text.len() { &text[..n] } else { text }
-}
-
-// Reads the file that an argument names into a buffer; where that can't be, says so on standard error.
-pub fn read_file(i: usize, text: &mut [u8]) -> FileRead {
-    let mut name = [0u8; 4096];
-    let n = os::arg(i, &mut name);
-    let path = start(&name, n);
-    let file = os::open_read(path);
-    if file < 0 {
-        os::fail(path);
-        return FileRead::Failed;
-    }
-    let read = io::read_full(file, text);
-    libc::close(file);
-    FileRead::Bytes(read)
 }
 
 // A number of the command line. `os::arg` takes a longer argument for an empty one; no number of 32 bits is that long.

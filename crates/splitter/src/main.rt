@@ -1,7 +1,6 @@
 // The program: reads a percentage sheet from standard input and prints its rule sheet, or `REFUSED number line`.
-use libc::STDERR_FILENO;
-use libc::STDIN_FILENO;
 use libc::STDOUT_FILENO;
+use operator::FileRead;
 use sheets::Printed;
 use sheets::Refused;
 
@@ -36,8 +35,11 @@ fn split(text: &[u8]) -> bool {
 // exit status, so an answer that can't be written is told on standard error.
 fn main() {
     let mut text = [0u8; 65537];
-    let n = io::read_full(STDIN_FILENO, &mut text);
-    if !split(&text[..n]) {
-        io::write_all(STDERR_FILENO, b"splitter: the answer can't be written\n");
+    let space: &mut [u8] = &mut text;
+    let FileRead::Bytes(n) = operator::read_input(space) else {
+        return;
+    };
+    if !split(operator::start(space, n)) {
+        operator::complain(b"splitter: the answer can't be written\n");
     }
 }
