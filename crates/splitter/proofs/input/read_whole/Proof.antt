@@ -1,12 +1,12 @@
--- `reading::read_whole` meets its contract. The invariant: what was read lies in the buffer, whose length stays.
+-- `input::read_whole` meets its contract. The invariant: what was read lies in the buffer, whose length stays.
 use Prim.Native.Nat.{ℕ, _-_, _≤_}
 use mathlib.Core.Path.{_≡_, ap}
 use native.Mathlib.Omega.{arith}
-use Rattle.operator.specs.Reading.{bytes}
+use Rattle.splitter.specs.Input.{bytes}
 use lib.ListN.{length}
 use borrow.Author.Needs.{needs}
-use Rattle.operator.proofs.reading.read_whole.Statement.{statement}
-use Rattle.operator.proofs.reading.read_whole.Tie as tie
+use Rattle.splitter.proofs.input.read_whole.Statement.{statement}
+use Rattle.splitter.proofs.input.read_whole.Tie as tie
 
 abbrev Inv-loop : tie.InvT-loop
 Inv-loop file text₀ n₀ text n = (n ≤ length text) × (length text ≡ length text₀)

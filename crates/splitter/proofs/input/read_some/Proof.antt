@@ -1,9 +1,9 @@
--- `reading::read_some` meets its contract: the loop counts the interruptions down, and a call leaves the length of what it is lent.
+-- `input::read_some` meets its contract: the loop counts the interruptions down, and a call leaves the length of what it is lent.
 use mathlib.Core.Path.{_≡_}
 use lib.ListN.{length}
 use borrow.Author.Needs.{needs}
-use Rattle.operator.proofs.reading.read_some.Statement.{statement}
-use Rattle.operator.proofs.reading.read_some.Tie as tie
+use Rattle.splitter.proofs.input.read_some.Statement.{statement}
+use Rattle.splitter.proofs.input.read_some.Tie as tie
 
 abbrev Inv-loop : tie.InvT-loop
 Inv-loop file text₀ left₀ text left = length text ≡ length text₀
