@@ -8,3 +8,4 @@ pub mod Services
 pub mod Lookups
 pub mod Churns
 pub mod Refusals
+pub mod Cases

@@ -12,7 +12,7 @@ use Rattle.commands.specs.Refused.{numberText, refusal, refusedOfText}
 abbrev pub word : List ℕ
 word = 82 ∷ 69 ∷ 70 ∷ 85 ∷ 83 ∷ 69 ∷ 68 ∷ 32 ∷ []
 
-pub parts : (r : Refused) (c : ℕ) → (word ++ (decimal (numberOf (r .why)) ++ 32 ∷ [])) ++ (decimal (r .line) ++ c ∷ []) ≡ refusal r ++ c ∷ []
+pub parts : (r : Refused) (c : ℕ) → word ++ ((decimal (numberOf (r .why)) ++ 32 ∷ []) ++ (decimal (r .line) ++ c ∷ [])) ≡ refusal r ++ c ∷ []
 unfolding refusal bytes
 parts r c = simp append-assoc
 

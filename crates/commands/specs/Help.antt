@@ -35,7 +35,8 @@ helpText =
     ∷ "    splitter churn old.table new.table 1"
     ∷ "splitter help                          this text"
     ∷ "    splitter help | less"
-    ∷ "A file named - is standard input (once in a call). What isn't proper prints REFUSED number line (churn: number line sheet)."
+    ∷ "A file named - is standard input (once in a call)."
+    ∷ "What isn't proper prints REFUSED number line (churn: number line sheet)."
     ∷ [])
 
 unfoldable pub usageText : Command → List ℕ

@@ -56,7 +56,8 @@ splitter split SHEET                   the same for a file\n    splitter split f
 splitter lookup TABLE SERVICE ADDRESS  the backend of an address\n    splitter lookup old.table 1 10.0.0.1\n\
 splitter churn OLD NEW SERVICE         how many suffixes moved\n    splitter churn old.table new.table 1\n\
 splitter help                          this text\n    splitter help | less\n\
-A file named - is standard input (once in a call). What isn't proper prints REFUSED number line (churn: number line sheet).\n",
+A file named - is standard input (once in a call).\n\
+What isn't proper prints REFUSED number line (churn: number line sheet).\n",
     )
 }
 

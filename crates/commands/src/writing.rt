@@ -43,15 +43,23 @@ pub fn put_answer(out: &mut [u8], n: usize) -> usize
     put_number(out, 0, n as u64, 10)
 }
 
+// Two numbers, a space between them and a separator behind them; the position after them.
+fn put_pair(out: &mut [u8], at: usize, first: u64, second: u64, separator: u8) -> usize
+    requires { ⌜ at + 42 ≤ length (now out) ⌝ }
+    ensures { λ r. ⌜ (Wrote (now (out .entry)) (now (out .exit)) at r ((decimal first ++ 32 ∷ []) ++ (decimal second ++ separator ∷ []))) × (r ≤ at + 42) ⌝ }
+{
+    let next = put_number(out, at, first, 32);
+    put_number(out, next, second, separator)
+}
+
 // REFUSED number line, and a separator behind it; the position after them.
 fn put_refusal(out: &mut [u8], r: Refused, separator: u8) -> usize
     requires { ⌜ 50 ≤ length (now out) ⌝ }
     ensures { λ end. ⌜ (Wrote (now (out .entry)) (now (out .exit)) 0 end (refusal r ++ separator ∷ [])) × (end ≤ 50) ⌝ }
 {
     let why = r.why;
-    let a = put_bytes(out, 0, b"REFUSED ");
-    let b = put_number(out, a, refusal_number(why), 32);
-    put_number(out, b, r.line as u64, separator)
+    let at = put_bytes(out, 0, b"REFUSED ");
+    put_pair(out, at, refusal_number(why), r.line as u64, separator)
 }
 
 // A refusal as the whole answer.
