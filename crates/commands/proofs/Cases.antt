@@ -6,7 +6,7 @@ use Rattle.numerals.specs.Digits.{isDigit, allDigits, value, valueFrom, onValue
 use Rattle.numerals.specs.Decimal.{noLeadingZero, isNumeral, number, widthIn, width, decimal}
 use Rattle.numerals.specs.Suffix.{suffix}
 use Rattle.numerals.specs.Text.{onto, split}
-use Rattle.expansion.specs.Refusals.{numberOf}
+use Rattle.numerals.specs.Refusals.{numberOf}
 use Rattle.expansion.specs.FirstMatch.{matches}
 use Rattle.expansion.specs.Sums.{sumTo, countTo}
 use Rattle.packing.specs.Count.{matchesLine}

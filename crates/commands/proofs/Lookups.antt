@@ -7,7 +7,7 @@ use native.Mathlib.Omega.{arith}
 use borrow.Author.Tests.{le-leb, lt-leb}
 use Rattle.numerals.specs.Pick.{pick}
 use Rattle.numerals.proofs.Choice.{by-less}
-use Rattle.expansion.specs.Refusals.{no}
+use Rattle.numerals.specs.Refusals.{no2}
 use Rattle.sheets.specs.Reading.{Reading, got, turned}
 use Rattle.sheets.specs.RuleSheet.{Table, readTable}
 use Rattle.sheets.specs.Calls.{refusedAt, hasService, lookupIn, lookupAnswer}
@@ -52,11 +52,11 @@ module _ (text : List ℕ) (n a b : ℕ) where
       go refusals h = cc
       go backends h = not-both (sym h)
 
-  pub above : (x : ℕ) → Backend x ≡ lookupAnswer text n b → addressLimit < a → lookupText text n a ≡ refusedText (refusedAt (no 2) 0)
+  pub above : (x : ℕ) → Backend x ≡ lookupAnswer text n b → addressLimit < a → lookupText text n a ≡ refusedText (refusedAt no2 0)
   unfolding lookupText lookedText
   above x e over = go (alike text n a b) e
     where
-      go : {y z : Looked} → Alike y z → Backend x ≡ z → lookedText y a ≡ refusedText (refusedAt (no 2) 0)
+      go : {y z : Looked} → Alike y z → Backend x ≡ z → lookedText y a ≡ refusedText (refusedAt no2 0)
       go refusals h = not-both h
       go backends h = rw (lt-leb a addressLimit over)
 

@@ -3,7 +3,7 @@ use Prim.Native.Nat.{ℕ}
 use mathlib.Core.Path.{_≡_}
 use mathlib.Core.List.{List, [], _∷_, _++_, append-assoc}
 use Rattle.numerals.specs.Decimal.{decimal}
-use Rattle.expansion.specs.Refusals.{numberOf}
+use Rattle.numerals.specs.Refusals.{numberOf}
 use Rattle.sheets.specs.Cases.{bytes}
 use Rattle.sheets.specs.declared.answer.Refused.{Refused}
 use Rattle.commands.specs.Refused.{numberText, refusal, refusedOfText}

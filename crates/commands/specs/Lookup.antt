@@ -3,7 +3,7 @@ use Prim.Native.Nat.{ℕ}
 use mathlib.Core.List.{List}
 use lib.Dec.{leb}
 use Rattle.numerals.specs.Pick.{pick}
-use Rattle.expansion.specs.Refusals.{no}
+use Rattle.numerals.specs.Refusals.{no2}
 use Rattle.sheets.specs.Calls.{refusedAt, lookupAnswer}
 use Rattle.sheets.specs.declared.answer.Looked.{Looked}
 use Rattle.sheets.specs.declared.answer.Looked.the-variants.{Backend, Refused}
@@ -15,7 +15,7 @@ use Rattle.commands.specs.Address.{addressLimit, addressOf}
 -- after the sheet's own refusals and 8, an address above 32 bits is 2
 unfoldable pub lookedText : Looked → ℕ → List ℕ
 lookedText (Refused r) address = refusedText r
-lookedText (Backend b) address = pick (leb address addressLimit) (numberText b) (refusedText (refusedAt (no 2) 0))
+lookedText (Backend b) address = pick (leb address addressLimit) (numberText b) (refusedText (refusedAt no2 0))
 
 unfoldable pub lookupText : List ℕ → ℕ → ℕ → List ℕ
 lookupText table service address = lookedText (lookupAnswer table service address) address

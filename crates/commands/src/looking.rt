@@ -1,7 +1,7 @@
 // lookup TABLE SERVICE ADDRESS
 use crate::answer::Outcome;
-use expansion::Refusal;
 use numerals::Number;
+use numerals::Refusal;
 use sheets::Looked;
 use sheets::Refused;
 ghost use mathlib.Core.Path.{_≡_};

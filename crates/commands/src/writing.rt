@@ -1,6 +1,6 @@
 // The parts of an answer, written one after the other.
-use expansion::refusal_number;
 use numerals::Written;
+use numerals::refusal_number;
 use sheets::Refused;
 ghost use mathlib.Core.List.{[], _∷_, _++_};
 ghost use Prim.Native.Nat.{_+_, _≤_};
