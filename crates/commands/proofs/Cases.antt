@@ -1,0 +1,96 @@
+-- Calls as an operator may write them, each with the bytes that it prints, or the word that is no number.
+use Prim.Native.String.{String}
+use mathlib.Core.Path.{_≡_, refl}
+use mathlib.Core.List.{List, [], _∷_}
+use Rattle.numerals.specs.Digits.{isDigit, allDigits, value, valueFrom, onValue, lowest}
+use Rattle.numerals.specs.Decimal.{noLeadingZero, isNumeral, number, widthIn, width, decimal}
+use Rattle.numerals.specs.Suffix.{suffix}
+use Rattle.numerals.specs.Text.{onto, split}
+use Rattle.numerals.specs.Refusals.{numberOf}
+use Rattle.expansion.specs.FirstMatch.{matches}
+use Rattle.expansion.specs.Sums.{sumTo, countTo}
+use Rattle.packing.specs.Count.{matchesLine}
+use Rattle.sheets.specs.Reading.{then, unless, onField, same}
+use Rattle.sheets.specs.PercentageSheet.{textLimit}
+use Rattle.sheets.specs.RuleSheet.{totalLimit, tableFields, onSuffix, countOf, inOrder, placed, ruleFields, ruleLines, closed, wholeTable, tableLines, readTable}
+use Rattle.sheets.specs.Calls.{firstBackend, hasService, lookupIn, lookupAnswer, moved, churnOf, churnAnswer}
+use Rattle.sheets.specs.Cases.{bytes}
+use Rattle.commands.specs.Said.{Said, prints, noNumber, onNumber}
+use Rattle.commands.specs.Refused.{numberText, refusal, refusedText, refusedOfText}
+use Rattle.commands.specs.Numeral.{numeral}
+use Rattle.commands.specs.Address.{byte, quad, orElse, addressOf}
+use Rattle.commands.specs.Lookup.{lookedText, lookupText, lookupSays}
+use Rattle.commands.specs.Churn.{churnedText, churnSays}
+
+abbrev text : String → Said
+text s = prints (bytes s)
+
+-- the sample's rule sheet, another one of the same service, and one without its last LF
+abbrev sample : String
+sample = "TABLE 5 5 293333920\n1 *0 2\n1 * 3\n2 *00 2\n2 *0 1\n2 * 3\n"
+
+abbrev short : String
+short = "TABLE 1 1 0\n1 * 1\n"
+
+abbrev cut : String
+cut = "TABLE 1 1 0\n1 * 1"
+
+pub record Case : Type 0 where
+  pub first : String
+  pub service : String
+  pub address : String
+  pub said : Said
+
+abbrev looks : String → String → String → Said → Case
+looks table service address said = record { first = table; service = service; address = address; said = said }
+
+abbrev cases : List Case
+cases =
+    looks sample "1" "10.0.0.1" (text "3\n")
+    ∷ looks sample "2" "255.255.255.254" (text "1\n")
+    ∷ looks sample "2" "4294967294" (text "1\n")
+    -- 8: no such service, of any length; 2^64 + 1 isn't 1
+    ∷ looks sample "0" "0" (text "REFUSED 8 0\n")
+    ∷ looks sample "3" "0" (text "REFUSED 8 0\n")
+    ∷ looks sample "18446744073709551617" "0" (text "REFUSED 8 0\n")
+    -- 2: an address above 32 bits, after the sheet's own refusals and 8
+    ∷ looks sample "1" "4294967296" (text "REFUSED 2 0\n")
+    ∷ looks sample "1" "18446744073709551616" (text "REFUSED 2 0\n")
+    ∷ looks sample "65" "4294967296" (text "REFUSED 8 0\n")
+    ∷ looks cut "65" "4294967296" (text "REFUSED 1 2\n")
+    -- no numbers, before the sheet is read: the service, then the address
+    ∷ looks cut "01" "x" (noNumber 2)
+    ∷ looks sample "" "0" (noNumber 2)
+    ∷ looks sample "1.0" "0" (noNumber 2)
+    ∷ looks sample "1" "" (noNumber 3)
+    ∷ looks sample "1" "1.2.3" (noNumber 3)
+    ∷ looks sample "1" "1.2.3.4.5" (noNumber 3)
+    ∷ looks sample "1" "1..2.3" (noNumber 3)
+    ∷ looks sample "1" "01.2.3.4" (noNumber 3)
+    ∷ looks sample "1" "256.0.0.0" (noNumber 3)
+    ∷ []
+
+abbrev pub AllRight : List Case → Type 0
+AllRight [] = Unit {0}
+AllRight (c ∷ cs) = (lookupSays (bytes (c .first)) (bytes (c .service)) (bytes (c .address)) ≡ c .said) × AllRight cs
+
+pub right : AllRight cases
+unfolding lookupSays onNumber numeral addressOf orElse quad byte lookupText lookedText numberText refusedText refusal numberOf decimal width widthIn lowest onValue lookupAnswer lookupIn hasService firstBackend matchesLine matches bytes readTable textLimit tableLines wholeTable closed ruleLines ruleFields placed inOrder countOf onSuffix tableFields totalLimit same onField unless then number isNumeral noLeadingZero allDigits isDigit value valueFrom suffix split onto
+right = (refl, (refl, (refl, (refl, (refl, (refl, (refl, (refl, (refl, (refl, (refl, (refl, (refl, (refl, (refl, (refl, (refl, (refl, (refl, tt)))))))))))))))))))
+
+-- Churn: what moved, and the sheet that a refusal is about.
+
+abbrev churns : String → String → String → Said
+churns old new service = churnSays (bytes old) (bytes new) (bytes service)
+
+pub record Churns : Type 0 where
+  pub half : churns short "TABLE 1 2 0\n1 *1 2\n1 * 1\n" "1" ≡ text "1\n"
+  pub none : churns sample sample "2" ≡ text "0\n"
+  pub unknown : churns short short "18446744073709551617" ≡ text "REFUSED 8 0 1\n"
+  pub depth : churns sample short "1" ≡ text "REFUSED 12 0 0\n"
+  pub second : churns short cut "2" ≡ text "REFUSED 1 2 2\n"
+  pub no-number : churns cut cut "-1" ≡ noNumber 3
+
+pub all-churns : Churns
+unfolding churnSays onNumber numeral churnedText numberText refusedOfText refusal numberOf decimal width widthIn lowest churnAnswer churnOf moved sumTo countTo hasService firstBackend matchesLine matches bytes readTable textLimit tableLines wholeTable closed ruleLines ruleFields placed inOrder countOf onSuffix tableFields totalLimit same onField unless then number isNumeral noLeadingZero allDigits isDigit value valueFrom suffix split onto
+all-churns = record { half = refl; none = refl; unknown = refl; depth = refl; second = refl; no-number = refl }

@@ -1,0 +1,11 @@
+-- Laws that the functions' proofs share, and worked cases.
+pub mod Numerals
+pub mod Texts
+pub mod Quads
+pub mod Limit
+pub mod Sheets
+pub mod Services
+pub mod Lookups
+pub mod Churns
+pub mod Refusals
+pub mod Cases

@@ -1,0 +1,21 @@
+// The commands of the program: the bytes that each prints, from the bytes of its files and of its other words.
+mod address;
+mod answer;
+mod churning;
+mod helping;
+mod looking;
+mod numeral;
+mod splitting;
+mod writing;
+
+pub use answer::Command;
+pub use answer::Outcome;
+pub use churning::churn;
+pub use helping::command;
+pub use helping::help;
+pub use helping::usage;
+pub use looking::lookup;
+pub use splitting::split;
+
+// The bytes of a lent buffer, and the limit of a text: no answer is longer.
+pub const ROOM: usize = 65536;

@@ -1,0 +1,49 @@
+// lookup TABLE SERVICE ADDRESS
+use crate::answer::Outcome;
+use numerals::Number;
+use numerals::Refusal;
+use sheets::Looked;
+use sheets::Refused;
+ghost use mathlib.Core.Path.{_≡_};
+ghost use Prim.Native.Nat.{_≤_};
+ghost use lib.ListN.{length};
+ghost use Rattle.sheets.specs.Writing.{Wrote};
+ghost use Rattle.commands.specs.Said.{outcome, filled};
+ghost use Rattle.commands.specs.Lookup.{lookupText, lookupSays};
+
+// The backend of an address, or a refusal; an address above 32 bits is refused once the sheet is read and has the service.
+fn look(table: &[u8], service: u64, address: u64, out: &mut [u8]) -> usize
+    requires { ⌜ 50 ≤ length (now out) ⌝ }
+    ensures { λ r. ⌜ Wrote (now (out .entry)) (now (out .exit)) 0 r (lookupText (now (table .entry)) service address) ⌝ }
+{
+    let looked = sheets::lookup(table, service as usize, (address % 4294967296) as u32);
+    match looked {
+        Looked::Refused(r) => crate::writing::put_refused(out, r),
+        Looked::Backend(b) => {
+            if 4294967295 < address {
+                let r = Refused {
+                    why: Refusal::BadField,
+                    line: 0,
+                };
+                return crate::writing::put_refused(out, r);
+            }
+            crate::writing::put_answer(out, b)
+        }
+    }
+}
+
+// The backend that a rule sheet gives a service's address to.
+pub fn lookup(table: &[u8], service: &[u8], address: &[u8], out: &mut [u8; 65536]) -> Outcome
+    ensures answer { λ r. ⌜ r ≡ outcome (lookupSays (now (table .entry)) (now (service .entry)) (now (address .entry))) ⌝ }
+    ensures buffer { λ _. ⌜ now (out .exit) ≡ filled (lookupSays (now (table .entry)) (now (service .entry)) (now (address .entry))) (now (out .entry)) ⌝ }
+{
+    let number = crate::numeral::read_numeral(service, 64);
+    let Number::Value(n) = number else {
+        return Outcome::NoNumber(2);
+    };
+    let place = crate::address::read_address(address);
+    let Number::Value(a) = place else {
+        return Outcome::NoNumber(3);
+    };
+    Outcome::Answer(look(table, n, a, out))
+}

@@ -1,0 +1,46 @@
+// Numbers of the command line: numerals of any length.
+use numerals::Number;
+ghost use mathlib.Core.Path.{_≡_};
+ghost use Prim.Native.Nat.{_≤_};
+ghost use Rattle.numerals.specs.Decimal.{isNumeral};
+ghost use Rattle.commands.specs.Numeral.{numeral, capped};
+
+// Whether a text is a numeral, however long.
+pub fn is_numeral(s: &[u8]) -> bool
+    ensures { λ r. ⌜ r ≡ isNumeral (now (s .entry)) ⌝ }
+{
+    if s.len() == 0 {
+        return false;
+    }
+    if s[0] == 48 {
+        if 1 < s.len() {
+            return false;
+        }
+    }
+    let mut i = 0;
+    while i < s.len() {
+        if s[i] < 48 {
+            return false;
+        }
+        if 57 < s[i] {
+            return false;
+        }
+        i += 1;
+    }
+    true
+}
+
+// The number that a numeral is, or one more than `most` where it is above that, so that nothing wraps.
+pub fn read_numeral(s: &[u8], most: u64) -> Number
+    requires { ⌜ most ≤ 4294967295 ⌝ }
+    ensures { λ r. ⌜ r ≡ capped most (numeral (now (s .entry))) ⌝ }
+{
+    if !is_numeral(s) {
+        return Number::Bad;
+    }
+    let read = numerals::read_number(s, 0, s.len(), 0, most);
+    match read {
+        Number::Value(v) => Number::Value(v),
+        Number::Bad => Number::Value(most + 1),
+    }
+}

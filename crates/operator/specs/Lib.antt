@@ -1,2 +1,0 @@
--- What the operators' programs read on the command line.
-pub mod Address

@@ -1,0 +1,101 @@
+// A text read to its end. A read that fails is never taken for the end: half a sheet would be another sheet.
+use crate::arguments;
+use libc::EINTR;
+use libc::STDIN_FILENO;
+ghost use Prim.Native.Nat.{_≤_};
+ghost use mathlib.Core.Path.{_≡_};
+ghost use lib.ListN.{length, take};
+ghost use Rattle.splitter.specs.Input.{bytes};
+
+// A text's bytes, or that it can't be read, which was then told on standard error.
+pub enum Read {
+    Bytes(usize),
+    Failed,
+}
+
+// The limit of a text, and the byte past it by which one that is too long is refused.
+pub const TEXT: usize = 65537;
+
+// How often in a row a read may be interrupted by a signal before it counts as failed.
+const INTERRUPTIONS: usize = 1000;
+
+// The first n bytes of a buffer, or all of a shorter one.
+pub fn start(text: &[u8], n: usize) -> &[u8]
+    ensures { λ r. ⌜ now r ≡ take n (now (text .entry)) ⌝ }
+{
+    if n <= text.len() { &text[..n] } else { text }
+}
+
+// One read, tried again where a signal interrupted it before a byte came. No byte is the end of the input.
+fn read_some(file: i32, text: &mut [u8]) -> Read
+    ensures { λ r. ⌜ bytes r ≤ length (now (text .exit)) ⌝ }
+{
+    let mut left = INTERRUPTIONS;
+    while left > 0 {
+        let got = libc::read(file, text);
+        if got >= 0 {
+            return Read::Bytes(io::count(got, text));
+        }
+        if os::errno() != EINTR {
+            return Read::Failed;
+        }
+        left -= 1;
+    }
+    Read::Failed
+}
+
+// Reads until the end of the input was seen or the buffer is full.
+fn read_whole(file: i32, text: &mut [u8]) -> Read
+    ensures { λ r. ⌜ bytes r ≤ length (now (text .exit)) ⌝ }
+{
+    let mut n = 0;
+    while n < text.len() {
+        let read = read_some(file, &mut text[n..]);
+        let Read::Bytes(more) = read else {
+            return Read::Failed;
+        };
+        if more == 0 {
+            return Read::Bytes(n);
+        }
+        n += more;
+    }
+    Read::Bytes(n)
+}
+
+// Reads an open file into a buffer; where that can't be, says so on standard error under the given name.
+fn read_open(file: i32, name: &[u8], text: &mut [u8]) -> Read
+    ensures { λ r. ⌜ bytes r ≤ length (now (text .exit)) ⌝ }
+{
+    let read = read_whole(file, text);
+    if let Read::Failed = read {
+        os::fail(name);
+    }
+    read
+}
+
+// Reads standard input into a buffer; where that can't be, says so on standard error.
+pub fn read_input(text: &mut [u8]) -> Read
+    ensures { λ r. ⌜ bytes r ≤ length (now (text .exit)) ⌝ }
+{
+    read_open(STDIN_FILENO, b"standard input", text)
+}
+
+// Reads the file that an argument names, or standard input for `-`; where that can't be, says so on standard error.
+pub fn read_file(i: usize, text: &mut [u8]) -> Read
+    ensures { λ r. ⌜ bytes r ≤ length (now (text .exit)) ⌝ }
+{
+    if arguments::is_input(i) {
+        return read_input(text);
+    }
+    let mut space = [0u8; arguments::ROOM];
+    let n = os::arg(i, &mut space);
+    let name = start(&space, n);
+    let file = os::open_read(name);
+    if file < 0 {
+        os::fail(name);
+        return Read::Failed;
+    }
+    let read = read_open(file, name, text);
+    libc::close(file);
+    read
+}
