@@ -7,7 +7,7 @@ use lib.Seq.{sets}
 use Rattle.numerals.specs.Pick.{pick}
 use Rattle.expansion.specs.Answer.{unit, andThen, orElse, inLimits, checkWeights}
 use Rattle.expansion.specs.Steps.{endOf}
-use Rattle.expansion.specs.Refusals.{no}
+use Rattle.numerals.specs.Refusals.{no1, no2, no4, no5, no6, no7}
 use Rattle.expansion.specs.declared.rule.Ended.{Ended}
 use Rattle.expansion.specs.declared.rule.Ended.the-variants.{Within, NoGain, Budget}
 use Rattle.expansion.specs.declared.call.Checked.{Checked}
@@ -30,19 +30,19 @@ servicesOf k volumes sizes ws = record { k = k; unit = unit; volumes = volumes; 
 -- the line of one service, whose weights are the first `size` of the row: the field count (no weight is 1, a 33rd is 4, and a row that has not so many is 1), then the volume, the weights and their sum
 unfoldable pub checkService : ℕ → ℕ → List ℕ → Checked
 checkService volume size ws =
-    andThen (orElse (ltb 0 size) (no 1))
-    (andThen (orElse (leb size 32) (no 4))
-    (andThen (orElse (leb size (length ws)) (no 1))
-    (andThen (orElse (leb volume 10000) (no 2))
+    andThen (orElse (ltb 0 size) no1)
+    (andThen (orElse (leb size 32) no4)
+    (andThen (orElse (leb size (length ws)) no1)
+    (andThen (orElse (leb volume 10000) no2)
     (checkWeights (take size ws)))))
 
 -- the lines of the services from s on, each with its volume and its size: a 65th is 4, one that lacks either has too few fields, and weights left over stand on no service's line
 unfoldable pub checkFrom : ℕ → List ℕ → List ℕ → List ℕ → Checked
-checkFrom s [] [] ws = orElse (eqb (length ws) 0) (no 1)
-checkFrom s [] (n ∷ ns) ws = andThen (orElse (ltb s 64) (no 4)) (Turned (no 1))
-checkFrom s (v ∷ vs) [] ws = andThen (orElse (ltb s 64) (no 4)) (Turned (no 1))
+checkFrom s [] [] ws = orElse (eqb (length ws) 0) no1
+checkFrom s [] (n ∷ ns) ws = andThen (orElse (ltb s 64) no4) (Turned no1)
+checkFrom s (v ∷ vs) [] ws = andThen (orElse (ltb s 64) no4) (Turned no1)
 checkFrom s (v ∷ vs) (n ∷ ns) ws =
-    andThen (orElse (ltb s 64) (no 4))
+    andThen (orElse (ltb s 64) no4)
     (andThen (checkService v n ws)
     (checkFrom (suc s) vs ns (drop n ws)))
 
@@ -50,21 +50,21 @@ checkFrom s (v ∷ vs) (n ∷ ns) ws =
 unfoldable pub checkServices : List ℕ → List ℕ → List ℕ → Checked
 checkServices volumes sizes ws =
     andThen (checkFrom 0 volumes sizes ws)
-    (orElse (ltb 0 (length volumes)) (no 5))
+    (orElse (ltb 0 (length volumes)) no5)
 
 -- the first line: k, tolerance and capacity
 unfoldable pub checkHead : ℕ → ℕ → ℕ → Checked
 checkHead k tolerance capacity =
-    andThen (orElse (inLimits 1 12 k) (no 2))
-    (andThen (orElse (leb tolerance unit) (no 2))
-    (orElse (inLimits 1 2048 capacity) (no 2)))
+    andThen (orElse (inLimits 1 12 k) no2)
+    (andThen (orElse (leb tolerance unit) no2)
+    (orElse (inLimits 1 2048 capacity) no2))
 
 -- the first line, the services line by line, no service, and a capacity below their number, which is that of the volumes once the lines passed
 unfoldable pub checkAll : ℕ → ℕ → ℕ → List ℕ → List ℕ → List ℕ → Checked
 checkAll k tolerance capacity volumes sizes ws =
     andThen (checkHead k tolerance capacity)
     (andThen (checkServices volumes sizes ws)
-    (orElse (leb (length volumes) capacity) (no 6)))
+    (orElse (leb (length volumes) capacity) no6))
 
 -- how a list ended, as a number
 abbrev pub endNumber : Ended → ℕ
@@ -123,8 +123,8 @@ answer k tolerance capacity volumes sizes ws figuresRoom tableRoom =
     onPassed (checkAll k tolerance capacity volumes sizes ws)
     (pick (leb (3 * services S) figuresRoom)
     (pick (leb (4 * length (linesMade S tolerance capacity)) tableRoom) (Made (packedOf S tolerance capacity))
-    (Refused (no 7) tableBuffer))
-    (Refused (no 7) figuresBuffer))
+    (Refused no7 tableBuffer))
+    (Refused no7 figuresBuffer))
 
 -- a lent buffer afterwards: the values from its start on, where the table was made; else as it was
 abbrev pub filled : Packing → List ℕ → List ℕ → List ℕ

@@ -12,7 +12,7 @@ use Rattle.numerals.specs.Pick.{pick}
 use Rattle.numerals.specs.Suffix.{suffix, suffixText, place}
 use Rattle.numerals.specs.Text.{onto, split}
 use Rattle.expansion.specs.Answer.{unit}
-use Rattle.expansion.specs.Refusals.{no}
+use Rattle.numerals.specs.Refusals.{no7}
 use Rattle.expansion.specs.Sums.{sumTo, countTo, allTo, firstTo, argmax, lastmax}
 use Rattle.expansion.specs.FirstMatch.{matches, gives, share}
 use Rattle.expansion.specs.Imbalance.{backends, weight, has, wants, excess, shortfall, imbalance, giver, receiver, largestExcess, largestShortfall}
@@ -141,9 +141,9 @@ sample-figures = refl
 
 pub record OneCall : Type 0 where
   pub made : planAnswer sheetBytes 6 20 ≡ planned.Made (record { k = 5; services = 2; rules = 5; total = 293333920 })
-  pub table-short : planAnswer sheetBytes 6 19 ≡ planned.Refused (refusedAt (no 7) 0) tableBuffer
-  pub figures-short : planAnswer sheetBytes 5 20 ≡ planned.Refused (refusedAt (no 7) 0) figuresBuffer
-  pub both-short : planAnswer sheetBytes 5 19 ≡ planned.Refused (refusedAt (no 7) 0) figuresBuffer
+  pub table-short : planAnswer sheetBytes 6 19 ≡ planned.Refused (refusedAt no7 0) tableBuffer
+  pub figures-short : planAnswer sheetBytes 5 20 ≡ planned.Refused (refusedAt no7 0) figuresBuffer
+  pub both-short : planAnswer sheetBytes 5 19 ≡ planned.Refused (refusedAt no7 0) figuresBuffer
 
 pub one-call : OneCall
 unfolding cases planAnswer planOf

@@ -1,5 +1,5 @@
 // The answers to vectors of the packing.
-use expansion::Refusal;
+use numerals::Refusal;
 use packing::Packed;
 use packing::Packing;
 use vectors::header;
@@ -97,7 +97,7 @@ fn show(packed: Packed, n: usize, figures: &[usize; 240], table: &[usize; 8192])
 
 // A refusal that names a lent buffer, as only 7 does.
 fn short(why: Refusal, buffer: &[u8]) {
-    if expansion::refusal_number(why) == 7 {
+    if numerals::refusal_number(why) == 7 {
         print::bytes(b"short ");
         print::bytes(buffer);
     } else {

@@ -1,6 +1,6 @@
 // The answers to vectors of the one call, with the whole of both lent buffers afterwards.
 use crate::shown;
-use expansion::Refusal;
+use numerals::Refusal;
 use sheets::Plan;
 use sheets::Planned;
 use sheets::Refused;
@@ -18,7 +18,7 @@ fn made(p: Plan) {
 
 // A refusal that names a lent buffer, as only 7 does.
 fn short(why: Refusal, buffer: &[u8]) {
-    if expansion::refusal_number(why) == 7 {
+    if numerals::refusal_number(why) == 7 {
         print::bytes(b"short ");
         print::bytes(buffer);
     } else {
