@@ -8,8 +8,8 @@ use lib.Dec.{eqb}
 use lib.ListN.{length, replicate, length-replicate}
 use lib.Seq.{slice, take-all}
 use borrow.Author.Tests.{eq-eqb, ne-eqb}
-use Rattle.expansion.specs.declared.refusal.Refusal.{Refusal}
-use Rattle.expansion.specs.declared.refusal.Refusal.the-variants.{Malformed, BadField, Order}
+use Rattle.numerals.specs.declared.refusal.Refusal.{Refusal}
+use Rattle.numerals.specs.declared.refusal.Refusal.the-variants.{Malformed, BadField, Order}
 use Rattle.packing.specs.Count.{Line}
 use Rattle.sheets.specs.Reading.{got, turned, then, unless}
 use Rattle.sheets.specs.RuleSheet.{closed, isLine, checkLines, checkEnd}

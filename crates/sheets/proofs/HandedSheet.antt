@@ -18,8 +18,8 @@ use Rattle.numerals.proofs.Choice.{by-less, both-left, both-right}
 use Rattle.numerals.proofs.Decimal.{first-digit, all-decimal, value-decimal, decimal-free}
 use Rattle.numerals.proofs.Fields.{free-split, free-whole}
 use Rattle.numerals.proofs.Suffix.{suffix-only, suffix-back, length-suffix}
-use Rattle.expansion.specs.declared.refusal.Refusal.{Refusal}
-use Rattle.expansion.specs.Refusals.{no}
+use Rattle.numerals.specs.declared.refusal.Refusal.{Refusal}
+use Rattle.numerals.specs.Refusals.{no2, no4, no9, no11}
 use Rattle.packing.specs.Count.{Line}
 use Rattle.sheets.specs.Reading.{Reading, got, turned, atNoLine, then, unless, onField}
 use Rattle.sheets.specs.PercentageSheet.{textLimit}
@@ -103,16 +103,16 @@ module _ {A : Type 0} where
   then-unless true why at x f = refl
   then-unless false why at x f = refl
 
-  number-read : (least most n at : ℕ) (f : ℕ → Reading A) → onField (number least most (decimal n)) at f ≡ unless (both (leb least n) (leb n most)) (no 2) at (f n)
+  number-read : (least most n at : ℕ) (f : ℕ → Reading A) → onField (number least most (decimal n)) at f ≡ unless (both (leb least n) (leb n most)) no2 at (f n)
   unfolding number isNumeral onField unless
   number-read least most n at f = rw (first-digit n, all-decimal n, value-decimal n) (go (both (leb least n) (leb n most)))
     where
-      go : (t : Bool) → onField (pick t (Value n) Bad) at f ≡ unless t (no 2) at (f n)
+      go : (t : Bool) → onField (pick t (Value n) Bad) at f ≡ unless t no2 at (f n)
       go true = refl
       go false = refl
 
   -- counted from 0, written from 1
-  place-read : (most n at : ℕ) (f : ℕ → Reading A) → onField (number 1 most (decimal (n + 1))) at f ≡ unless (ltb n most) (no 2) at (f (n + 1))
+  place-read : (most n at : ℕ) (f : ℕ → Reading A) → onField (number 1 most (decimal (n + 1))) at f ≡ unless (ltb n most) no2 at (f (n + 1))
   place-read most n at f =
       number-read 1 most (n + 1) at f
       ∙ by-less n most
@@ -121,7 +121,7 @@ module _ {A : Type 0} where
 
   suffix-read :
       (k l v at : ℕ) (f : ℕ → ℕ → Reading A) → k ≤ 12 → v < 2 ^ l
-      → onSuffix (suffix k (suffixText l v)) at f ≡ unless (leb l k) (no 2) at (f l v)
+      → onSuffix (suffix k (suffixText l v)) at f ≡ unless (leb l k) no2 at (f l v)
   unfolding onSuffix unless
   suffix-read k l v at f few small =
       by-less k l
@@ -139,24 +139,24 @@ module _ {A : Type 0} where
 head-read :
     (k n total : ℕ)
     → tableFields (headRow k n total)
-    ≡ unless (both (leb 1 k) (leb k 12)) (no 2) 1
-    (unless (both (leb 1 n) (leb n 2048)) (no 2) 1
-    (unless (leb total totalLimit) (no 2) 1
+    ≡ unless (both (leb 1 k) (leb k 12)) no2 1
+    (unless (both (leb 1 n) (leb n 2048)) no2 1
+    (unless (leb total totalLimit) no2 1
     (got (record { k = k; n = n; total = total }))))
 unfolding tableFields unless
 head-read k n total =
     rw (same-refl tableWord)
     (number-read 1 12 k 1 _
-    ∙ ap (unless (both (leb 1 k) (leb k 12)) (no 2) 1)
+    ∙ ap (unless (both (leb 1 k) (leb k 12)) no2 1)
     (number-read 1 2048 n 1 _
-    ∙ ap (unless (both (leb 1 n) (leb n 2048)) (no 2) 1)
+    ∙ ap (unless (both (leb 1 n) (leb n 2048)) no2 1)
     (number-read 0 totalLimit total 1 _ ∙ rw (le-leb 0 total (omega arith)))))
 
 -- A rule line.
 
 merged :
     (s m b : Bool) (at : ℕ) (end : Reading Line)
-    → unless (both s (both (both m true) b)) (no 2) at end ≡ unless s (no 2) at (unless m (no 2) at (unless b (no 2) at end))
+    → unless (both s (both (both m true) b)) no2 at end ≡ unless s no2 at (unless m no2 at (unless b no2 at end))
 unfolding unless
 merged true true b at end = refl
 merged true false b at end = refl
@@ -165,7 +165,7 @@ merged false m b at end = refl
 module _ (k : ℕ) (few : k ≤ 12) where
   line-read :
       (before : List Line) (at : ℕ) (l : Line) → l .rule .value < 2 ^ (l .rule .len)
-      → ruleFields k before at (lineRow l) ≡ unless (isLine k l) (no 2) at (placed before l at (got l))
+      → ruleFields k before at (lineRow l) ≡ unless (isLine k l) no2 at (placed before l at (got l))
   unfolding ruleFields isLine unless
   line-read before at l small =
       let s = ltb (l .service) 64 in
@@ -176,9 +176,9 @@ module _ (k : ℕ) (few : k ≤ 12) where
       let end : Line → Reading Line = λ m. placed before m at (got m) in
       let same : end (line (l .service + 1 - 1) (l .rule .len) (l .rule .value) (l .rule .backend + 1 - 1)) ≡ end l = rw (service, backend) in
       place-read 64 (l .service) at _
-      ∙ ap (unless s (no 2) at)
+      ∙ ap (unless s no2 at)
       (suffix-read k (l .rule .len) (l .rule .value) at _ few small
-      ∙ ap (unless m (no 2) at) (place-read 32 (l .rule .backend) at _ ∙ ap (unless b (no 2) at) same))
+      ∙ ap (unless m no2 at) (place-read 32 (l .rule .backend) at _ ∙ ap (unless b no2 at) same))
       ∙ rw (lt-ltb (l .rule .value) (2 ^ (l .rule .len)) small) (sym (merged s m b at (placed before l at (got l))))
 
   rule-more :
@@ -192,15 +192,15 @@ module _ (k : ℕ) (few : k ≤ 12) where
   line-more :
       {A : Type 0} (before : List Line) (l : Line) (at : ℕ) (rest : Line → Reading (List Line)) (next : Reading (List Line)) (f g : List Line → Reading A)
       → atNoLine (then (rest l) f) ≡ then next g
-      → atNoLine (then (then (unless (isLine k l) (no 2) at (placed before l at (got l))) rest) f)
-      ≡ then (unless (isLine k l) (no 2) 0 (placed before l 0 next)) g
+      → atNoLine (then (then (unless (isLine k l) no2 at (placed before l at (got l))) rest) f)
+      ≡ then (unless (isLine k l) no2 0 (placed before l 0 next)) g
   unfolding placed unless then atNoLine
   line-more {A} before l at rest next f g h = go (isLine k l) (ltb (countOf (l .service) before) 32) (inOrder before l)
     where
       go :
           (x y z : Bool)
-          → atNoLine (then (then (unless x (no 2) at (unless y (no 4) at (unless z (no 9) at (got l)))) rest) f)
-          ≡ then (unless x (no 2) 0 (unless y (no 4) 0 (unless z (no 9) 0 next))) g
+          → atNoLine (then (then (unless x no2 at (unless y no4 at (unless z no9 at (got l)))) rest) f)
+          ≡ then (unless x no2 0 (unless y no4 0 (unless z no9 0 next))) g
       go true true true = h
       go true true false = refl
       go true false z = refl
@@ -209,7 +209,7 @@ module _ (k : ℕ) (few : k ≤ 12) where
   -- the rule lines, and what comes after them
   lines-read :
       {A : Type 0} (before ls : List Line) (ss : List ℕ) (f : List Line → Reading A) (a : A) → ValuesFit ls
-      → (length ss ≡ 0 → atNoLine (f (reverseAux ls before)) ≡ unless (closed (reverseAux ls before)) (no 9) 0 (got a))
+      → (length ss ≡ 0 → atNoLine (f (reverseAux ls before)) ≡ unless (closed (reverseAux ls before)) no9 0 (got a))
       → atNoLine (then (ruleLines k before (rowsBefore ls (brokenRows ss))) f) ≡ then (checkLines k before ls) (checkEnd (length ss) a)
   unfolding rowsBefore brokenRows ruleLines ruleFields checkLines checkEnd then unless atNoLine ValuesFit
   lines-read before [] [] f a fit end = end refl
@@ -237,17 +237,17 @@ table-more l (m ∷ ms) h = refl
 whole-end :
     (k n total : ℕ) (ls : List Line) → length ls ≡ n → 1 ≤ n
     → atNoLine (wholeTable (record { k = k; n = n; total = total }) (reverse ls))
-    ≡ unless (closed (reverse ls)) (no 9) 0 (got (record { k = k; total = total; lines = ls }))
+    ≡ unless (closed (reverse ls)) no9 0 (got (record { k = k; total = total; lines = ls }))
 unfolding wholeTable unless atNoLine
 whole-end k n total ls e some =
     let size : length (reverse ls) ≡ n = length-reverse ls ∙ e in
-    rw (size, lt-ltb 0 n some, eq-eqb n n refl, reverse-reverse ls) (unless-none (closed (reverse ls)) (no 9) (n + 1) _)
+    rw (size, lt-ltb 0 n some, eq-eqb n n refl, reverse-reverse ls) (unless-none (closed (reverse ls)) no9 (n + 1) _)
 
 -- line 1 passes, and the lines behind it decide
 head-more :
     {A : Type 0} (s t u : Bool) (h : TableHead) (f : TableHead → Reading A) (g : Reading A)
     → (s ≡ true → t ≡ true → atNoLine (f h) ≡ g)
-    → atNoLine (then (unless s (no 2) 1 (unless t (no 2) 1 (unless u (no 2) 1 (got h)))) f) ≡ unless s (no 2) 0 (unless t (no 2) 0 (unless u (no 2) 0 g))
+    → atNoLine (then (unless s no2 1 (unless t no2 1 (unless u no2 1 (got h)))) f) ≡ unless s no2 0 (unless t no2 0 (unless u no2 0 g))
 unfolding then unless atNoLine
 head-more true true true h f g e = e refl refl
 head-more true true false h f g e = refl
@@ -265,8 +265,8 @@ as-its-sheet k total cs fit =
     let t : Table = record { k = k; total = total; lines = ls } in
     let read : tableLines (split 10 (handedText k total cs)) ≡ then (tableFields (headRow k n total)) (λ h. then (ruleLines (h .k) [] ms) (wholeTable h)) =
     ap tableLines (handed-split k total cs) ∙ table-more (join 32 (headRow k n total)) ms (rows-some ls (brokenRows ss) (broken-some ss)) ∙ rw (head-split k n total) in
-    unless-none (leb (length (handedText k total cs)) textLimit) (no 11) 0 _
-    ∙ ap (unless (leb (length (handedText k total cs)) textLimit) (no 11) 0)
+    unless-none (leb (length (handedText k total cs)) textLimit) no11 0 _
+    ∙ ap (unless (leb (length (handedText k total cs)) textLimit) no11 0)
     (rw (read, head-read k n total)
     (head-more (both (leb 1 k) (leb k 12)) (both (leb 1 n) (leb n 2048)) (leb total totalLimit) (record { k = k; n = n; total = total }) _
     (then (checkLines k [] ls) (checkEnd (length ss) t))
