@@ -17,12 +17,12 @@ use Rattle.expansion.proofs.run.make_list.Statement.{statement}
 use Rattle.expansion.proofs.run.make_list.Tie as tie
 
 abbrev Inv-loop : tie.InvT-loop
-Inv-loop k tolerance budget weights places first all holder₀ run₀ state₀ list₀ holder run state list =
-    Stands k tolerance weights holder run state × Listed k tolerance weights list
+Inv-loop k tolerance budget weights places first all holder₀ low₀ state₀ list₀ holder low state list =
+    Stands k tolerance weights holder low state × Listed k tolerance weights list
     × (state .count ≡ list .count) × (list .count ≤ budget) × (length (list .rules) ≡ 32) × (length (list .stairs) ≡ 32)
 
 abbrev μ-loop : tie.MeasureT-loop
-μ-loop k tolerance budget weights places first all holder₀ run₀ state₀ list₀ holder run state list = budget - list .count
+μ-loop k tolerance budget weights places first all holder₀ low₀ state₀ list₀ holder low state list = budget - list .count
 
 all-places-requires : tie.Need-all-places-requires Inv-loop μ-loop
 all-places-requires c κs = search needs
@@ -38,8 +38,8 @@ cast-holder c =
     let s = c .before .before .before in
     omega (arith, c .heaviest .ensures, first-lt (s .args .k) (s .args .tolerance) (s .args .weights .now) (s .pre .0), s .pre .0 .few)
 
-cast-run : tie.Need-cast-run Inv-loop μ-loop
-cast-run c =
+cast-low : tie.Need-cast-low Inv-loop μ-loop
+cast-low c =
     let s = c .before .before .before in
     let few = s .pre .0 .few-bits in
     omega (arith, shifted (s .args .k) few, pow-few (s .args .k) few)
@@ -80,7 +80,7 @@ returns c =
     let b = c .before .before .before in
     let l = b .before .loop in
     let s = b .before .before .before .before .before .before .before .before in
-    made-ended (s .args .k) (s .args .tolerance) (s .args .weights .now) (s .pre .0) (l .holder) (l .run) (l .state) (l .inv .0)
+    made-ended (s .args .k) (s .args .tolerance) (s .args .weights .now) (s .pre .0) (l .holder) (l .low) (l .state) (l .inv .0)
     (l .list) (l .inv .1) (l .inv .2) (s .args .budget) (l .inv .3) (c .before .next .given .0 .0) (sym (b .in-budget .ensures) ∙ c .before .next .given .1)
 
 enum-known-next-2 : tie.Need-enum-known-next-2 Inv-loop μ-loop
@@ -174,7 +174,7 @@ make-list-spec =
     heaviest-requires
     shl-all
     cast-holder
-    cast-run
+    cast-low
     begin-requires
     of-one-requires
     loop-holds
