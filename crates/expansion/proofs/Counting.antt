@@ -18,8 +18,8 @@ use Rattle.expansion.specs.Answer.{andThen, orElse, inLimits}
 use Rattle.expansion.specs.Sound.{Formed, AllFormed}
 use Rattle.expansion.specs.Counting.{rulesFrom, Alike, isFormed, allFormed, checkRules, countAnswer, sharesTo}
 use Rattle.expansion.specs.declared.rule.Rule.{Rule}
-use Rattle.expansion.specs.declared.refusal.Refusal.{Refusal}
-use Rattle.expansion.specs.declared.refusal.Refusal.the-variants.{Malformed, BadField, TooMany, ShortLoan}
+use Rattle.numerals.specs.declared.refusal.Refusal.{Refusal}
+use Rattle.numerals.specs.declared.refusal.Refusal.the-variants.{Malformed, BadField, TooMany, ShortLoan}
 use Rattle.expansion.specs.declared.call.Checked.the-variants.{Sound as Passed, Refused as Turned}
 use Rattle.expansion.specs.declared.shares.Counted.the-variants.{Done, Refused}
 use Rattle.expansion.proofs.Sums.{count-suc}

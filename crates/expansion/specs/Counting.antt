@@ -10,7 +10,7 @@ use Rattle.numerals.specs.Pick.{pick, both}
 use Rattle.expansion.specs.FirstMatch.{share}
 use Rattle.expansion.specs.Answer.{andThen, orElse, inLimits}
 use Rattle.expansion.specs.declared.rule.Rule.{Rule}
-use Rattle.expansion.specs.Refusals.{no}
+use Rattle.numerals.specs.Refusals.{no1, no2, no4, no7}
 use Rattle.expansion.specs.declared.call.Checked.{Checked}
 use Rattle.expansion.specs.declared.call.Checked.the-variants.{Sound as Passed, Refused as Turned}
 use Rattle.expansion.specs.declared.shares.Counted.{Counted}
@@ -39,12 +39,12 @@ allFormed k n (r ∷ rs) = both (isFormed k n r) (allFormed k n rs)
 -- k, backends (0 is 2, a 33rd is 4), buffers of one length, at most 32 rules, then each rule
 unfoldable pub checkRules : ℕ → List ℕ → List ℕ → List ℕ → ℕ → Checked
 checkRules k ls vs bs n =
-    andThen (orElse (inLimits 1 12 k) (no 2))
-    (andThen (orElse (ltb 0 n) (no 2))
-    (andThen (orElse (leb n 32) (no 4))
-    (andThen (orElse (both (eqb (length ls) (length vs)) (eqb (length ls) (length bs))) (no 1))
-    (andThen (orElse (leb (length ls) 32) (no 4))
-    (orElse (allFormed k n (rulesFrom ls vs bs)) (no 2))))))
+    andThen (orElse (inLimits 1 12 k) no2)
+    (andThen (orElse (ltb 0 n) no2)
+    (andThen (orElse (leb n 32) no4)
+    (andThen (orElse (both (eqb (length ls) (length vs)) (eqb (length ls) (length bs))) no1)
+    (andThen (orElse (leb (length ls) 32) no4)
+    (orElse (allFormed k n (rulesFrom ls vs bs)) no2)))))
 
 -- what is answered where all checks passed
 abbrev pub onRules : Checked → Counted → Counted
@@ -53,7 +53,7 @@ onRules (Turned why) done = Refused why
 
 -- the answer, where the lent buffer has `room` places
 unfoldable pub countAnswer : ℕ → List ℕ → List ℕ → List ℕ → ℕ → ℕ → Counted
-countAnswer k ls vs bs n room = onRules (checkRules k ls vs bs n) (pick (leb n room) Done (Refused (no 7)))
+countAnswer k ls vs bs n room = onRules (checkRules k ls vs bs n) (pick (leb n room) Done (Refused no7))
 
 -- the shares of the first n backends
 unfoldable pub sharesTo : ℕ → List Rule → ℕ → List ℕ

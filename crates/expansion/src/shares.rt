@@ -1,6 +1,6 @@
 // The count by first match as a call: rules in their order, the first match first, and the share of each backend out.
 use crate::call::Checked;
-use crate::refusal::Refusal;
+use numerals::Refusal;
 ghost use mathlib.Core.Path.{_≡_};
 ghost use Prim.Native.Nat.{ℕ, _≤_, _<_};
 ghost use lib.Dec.{eqb};

@@ -6,7 +6,7 @@ use native.Mathlib.Omega.{arith}
 use borrow.Author.Tests.{not-true, not-false, lt-ltb, le-ltb, le-leb, lt-leb, eq-eqb, ne-eqb}
 use Rattle.expansion.specs.Answer.{orElse, inLimits}
 use Rattle.expansion.specs.Counting.{rulesFrom, allFormed, checkRules}
-use Rattle.expansion.specs.declared.refusal.Refusal.the-variants.{BadField}
+use Rattle.numerals.specs.declared.refusal.Refusal.the-variants.{BadField}
 use Rattle.expansion.proofs.Checks.{limits}
 use Rattle.expansion.proofs.shares.check_rules.Statement.{statement}
 use Rattle.expansion.proofs.shares.check_rules.Tie as tie
