@@ -1,81 +1,74 @@
--- The search of a move, over the runs kept: it finds a place, which is the lowest whose suffix the giver holds wholly; the new rule is for that suffix, and the runs go on with it.
-use Prim.Native.Nat.{ℕ, suc, _+_, _-_, _*_, _^_, _≤_, _<_}
-use mathlib.Core.Bool.{true, false}
+-- The search of a move, over the holders kept: the node found is the lowest whose suffix the giver holds wholly; the new rule is for that suffix, and the holders go on with it.
+use Prim.Native.Nat.{ℕ, _+_, _-_, _*_, _/_, _^_, _≤_, _<_}
+use mathlib.Core.Bool.{Bool, true, false}
 use mathlib.Core.List.{List, _∷_}
 use mathlib.Core.Path.{_≡_, ap, sym, _∙_, subst}
-use native.Mathlib.Nat.{suc-mul, zero-mul, mul-le-mul-right}
+use native.Mathlib.Decide.{decLt}
 use native.Mathlib.Omega.{arith}
-use lib.Pow.{pow-pos}
+use lib.ListN.{length, getD}
 use Rattle.numerals.specs.Suffix.{place}
-use Rattle.expansion.specs.FirstMatch.{gives}
 use Rattle.expansion.specs.Imbalance.{Frame, giver, receiver}
 use Rattle.expansion.specs.Steps.{isNoGain, isWhole, term, termLength, lowestPlace, newRule}
 use Rattle.expansion.specs.Sound.{Sound}
-use Rattle.expansion.specs.Kept.{Runs, Leads, Given}
+use Rattle.expansion.specs.Kept.{heldBy, lowestHeld, Holds, Given, lowered}
 use Rattle.expansion.specs.declared.rule.Rule.{Rule}
-use Rattle.expansion.proofs.Moves.{Good, covered, place-found, new-whole}
-use Rattle.expansion.proofs.Nodes.{all-nodes, suffix-of, node-held}
-use Rattle.expansion.proofs.Runs.{leads-some, leads-first, runs-given}
+use Rattle.expansion.proofs.Searches.{clash, first-is}
+use Rattle.expansion.proofs.Moves.{Good, covered, place-found, new-whole, apart}
+use Rattle.expansion.proofs.Holdings.{lowest-is, held-whole, low-not, holds-given}
 
 module _ (F : Frame) (S : Sound F) (rs : List Rule) (G : Good F rs) (gain : isNoGain F rs ≡ false)
-    (holder run : List ℕ) (R : Runs (F .k) rs holder run 0) where
-  -- the walk for the term
-  abbrev Walk : ℕ → Type 0
-  Walk r = Leads holder run (giver F rs) (2 ^ term F rs) (2 ^ (F .k)) 0 r
-
-  -- the same by the length of its suffix
-  abbrev LongWalk : ℕ → Type 0
-  LongWalk r = Leads holder run (giver F rs) (2 ^ (F .k - termLength F rs)) (2 ^ (F .k)) 0 r
-
+    (holder low : List ℕ) (H : Holds (F .k) rs holder low) where
   size : 2 ^ (F .k - termLength F rs) ≡ 2 ^ term F rs
   size = ap (λ (i : ℕ). 2 ^ i) (covered F S rs)
-
-  long : (r : ℕ) → Walk r → LongWalk r
-  long r = subst (λ (n : ℕ). Leads holder run (giver F rs) n (2 ^ (F .k)) 0 r) (sym size)
 
   short : termLength F rs ≤ F .k
   unfolding termLength
   short = omega arith
 
-  lowest : ℕ
-  lowest = lowestPlace F rs * 2 ^ (F .k - termLength F rs)
+  none-below : (j : ℕ) → j < lowestPlace F rs → isWhole (F .k) rs (termLength F rs) (place (termLength F rs) j) (giver F rs) ≡ false
+  unfolding lowestPlace
+  none-below =
+      first-is (2 ^ termLength F rs) (λ p. isWhole (F .k) rs (termLength F rs) (place (termLength F rs) p) (giver F rs)) .below
 
-  inside : lowest < 2 ^ (F .k)
-  unfolding lowest
-  inside =
-      omega (
-        arith,
-        mul-le-mul-right (2 ^ (F .k - termLength F rs)) (place-found F S rs G gain),
-        suc-mul (lowestPlace F rs) (2 ^ (F .k - termLength F rs)),
-        all-nodes (F .k) (termLength F rs) short,
-        pow-pos (F .k - termLength F rs),
-      )
+  held : (j : ℕ) → j < 2 ^ termLength F rs
+      → heldBy holder (2 ^ term F rs) (giver F rs) j ≡ isWhole (F .k) rs (termLength F rs) (place (termLength F rs) j) (giver F rs)
+  held j m = rw size at (held-whole (F .k) (termLength F rs) short rs holder low H (giver F rs) j m)
 
-  held : gives rs (place (F .k) lowest) (giver F rs) ≡ true
-  unfolding newRule lowest
-  held =
-      node-held (F .k) (termLength F rs) short rs (giver F rs) (lowestPlace F rs) (new-whole F S rs G gain) lowest inside
-      (omega arith) (omega (arith, pow-pos (F .k - termLength F rs)))
+  lowest-held : heldBy holder (2 ^ term F rs) (giver F rs) (lowestPlace F rs) ≡ true
+  unfolding newRule
+  lowest-held = held (lowestPlace F rs) (place-found F S rs G gain) ∙ new-whole F S rs G gain
 
-  pub found-some : (r : ℕ) × Walk r
-  found-some =
-      let w = leads-some (F .k) (termLength F rs) short rs (G .short gain) holder run (giver F rs) R lowest (omega arith) inside held in
-      (w .0, subst (λ (n : ℕ). Leads holder run (giver F rs) n (2 ^ (F .k)) 0 (w .0)) size (w .1))
+  -- the walk may start at the node of the giver's low
+  abbrev from : ℕ
+  from = getD low (giver F rs) 0 / 2 ^ term F rs
 
-  lowest-is : (r : ℕ) → Walk r → r ≡ lowest
-  unfolding lowest lowestPlace
-  lowest-is r w =
-      leads-first (F .k) (termLength F rs) short rs (G .short gain) holder run (giver F rs) R (long r w) 0
-      (sym (zero-mul (2 ^ (F .k - termLength F rs)))) (λ j m. absurd (omega arith))
+  from-le : from ≤ lowestPlace F rs
+  from-le = go (decLt (lowestPlace F rs) from)
+    where
+      go : Dec (lowestPlace F rs < from) → from ≤ lowestPlace F rs
+      go (yes m) =
+          absurd
+          (clash (heldBy holder (2 ^ term F rs) (giver F rs) (lowestPlace F rs)) lowest-held
+          (subst (λ (n : ℕ). lowestPlace F rs < getD low (giver F rs) 0 / n → heldBy holder n (giver F rs) (lowestPlace F rs) ≡ false) size
+          (low-not (F .k) (termLength F rs) short rs holder low H (giver F rs) (lowestPlace F rs) (place-found F S rs G gain))
+          m))
+      go (no m) = omega arith
 
-  pub found-value : (r : ℕ) → Walk r → place (F .k) r ≡ newRule F rs .value
-  unfolding newRule lowest
-  found-value r w =
-      ap (place (F .k)) (lowest-is r w) ∙ suffix-of (F .k) (termLength F rs) short (lowestPlace F rs) (place-found F S rs G gain)
+  pub found-lowest : lowestPlace F rs ≡ lowestHeld holder (2 ^ term F rs) (giver F rs) from (2 ^ termLength F rs)
+  found-lowest =
+      lowest-is holder (2 ^ term F rs) (giver F rs) from (2 ^ termLength F rs) (lowestPlace F rs) from-le
+      (omega (arith, place-found F S rs G gain))
+      (λ j n m. held j (omega (arith, place-found F S rs G gain)) ∙ none-below j m)
+      (λ n. lowest-held)
 
-  pub found-runs : (r : ℕ) → Walk r → (holder′ run′ : List ℕ) → Given r (2 ^ term F rs) (receiver F rs) holder run holder′ run′
-      → Runs (F .k) (newRule F rs ∷ rs) holder′ run′ 0
-  unfolding newRule lowest
-  found-runs r w holder′ run′ given =
-      runs-given (F .k) (termLength F rs) short rs (lowestPlace F rs) (place-found F S rs G gain) r (lowest-is r w) (receiver F rs) (giver F rs)
-      holder run holder′ run′ (subst (λ (n : ℕ). Given r n (receiver F rs) holder run holder′ run′) (sym size) given) R (long r w)
+  pub found-holds : giver F rs < length low → receiver F rs < length low → (holder′ low′ : List ℕ)
+      → Given (lowestPlace F rs * 2 ^ term F rs) (2 ^ term F rs) (receiver F rs) holder holder′
+      → low′ ≡ lowered low (giver F rs) (receiver F rs) (lowestPlace F rs * 2 ^ term F rs) (lowestPlace F rs * 2 ^ term F rs + 2 ^ term F rs)
+      → Holds (F .k) (newRule F rs ∷ rs) holder′ low′
+  unfolding newRule
+  found-holds g r holder′ low′ =
+      subst (λ (n : ℕ). Given (lowestPlace F rs * n) n (receiver F rs) holder holder′
+      → low′ ≡ lowered low (giver F rs) (receiver F rs) (lowestPlace F rs * n) (lowestPlace F rs * n + n)
+      → Holds (F .k) (newRule F rs ∷ rs) holder′ low′) size
+      (holds-given (F .k) (termLength F rs) short rs holder low H (G .short gain) (lowestPlace F rs) (place-found F S rs G gain) (giver F rs) (receiver F rs)
+      (apart F S rs gain) none-below g r holder′ low′)

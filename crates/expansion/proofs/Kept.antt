@@ -20,7 +20,7 @@ use Rattle.expansion.specs.declared.rule.Rule.{Rule}
 use Rattle.expansion.specs.declared.rule.Ended.the-variants.{Within, NoGain}
 use Rattle.expansion.specs.declared.ledger.Backend.{Backend}
 use Rattle.expansion.specs.declared.ledger.Ledger.{Ledger}
-use Rattle.expansion.specs.declared.run.Move.{Move}
+use Rattle.expansion.specs.declared.rule.Move.{Move}
 use Rattle.expansion.specs.declared.run.Next.{Next}
 use Rattle.expansion.specs.declared.run.Next.the-variants.{Stop, Go}
 use Rattle.expansion.proofs.Powers.{pow-few}

@@ -18,8 +18,7 @@ pub mod Signed
 pub mod Kept
 pub mod Surveys
 pub mod Nodes
-pub mod Runs
-pub mod Cuts
+pub mod Holdings
 pub mod Found
 pub mod Walk
 pub mod Entries

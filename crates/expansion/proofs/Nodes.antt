@@ -42,7 +42,7 @@ module _ (k l : ℕ) (h : l ≤ k) where
   node-of s = let sum : l + (k - l) ≡ k = omega arith in rw sum at (place-high l (k - l) s)
 
   -- the lowest bits of the suffix at a place
-  bits-at : (q : ℕ) → q < 2 ^ k → place k q % 2 ^ l ≡ place l (q / 2 ^ (k - l))
+  pub bits-at : (q : ℕ) → q < 2 ^ k → place k q % 2 ^ l ≡ place l (q / 2 ^ (k - l))
   bits-at q m =
       sym (place-twice l (place k q))
       ∙ ap (place l) (sym (node-of (place k q)) ∙ ap (λ (x : ℕ). x / 2 ^ (k - l)) (place-involution k q m))
@@ -53,12 +53,6 @@ module _ (k l : ℕ) (h : l ≤ k) where
       let is : q ≡ p * 2 ^ (k - l) + r = omega arith in
       let low : r < 2 ^ (k - l) = omega arith in
       ap (λ (x : ℕ). x / 2 ^ (k - l)) is ∙ digits-div p low
-
-  -- the suffix at the first place of a node
-  pub suffix-of : (p : ℕ) → p < 2 ^ l → place k (p * 2 ^ (k - l)) ≡ place l p
-  suffix-of p m =
-      ap (place k) (sym (place-shorter l k (place l p) h (place-lt l p) ∙ ap (λ (x : ℕ). x * 2 ^ (k - l)) (place-involution l p m)))
-      ∙ place-involution k (place l p) (lt-of-lt-of-le (place-lt l p) (pow-mono h))
 
   -- a node is wholly held if each of its places is
   module _ (rs : List Rule) (b p : ℕ) where

@@ -1,8 +1,8 @@
 -- The move that comes next, as the program makes it: its giver, its receiver and its term are those of the definitions, its search finds a place that gives the new rule, and the ledger keeps the shares after it.
-use Prim.Native.Nat.{ℕ, _-_, _*_, _^_, _≤_, _<_}
+use Prim.Native.Nat.{ℕ, _+_, _-_, _*_, _^_, _≤_, _<_}
 use mathlib.Core.Bool.{Bool, true, false}
 use mathlib.Core.List.{List, _∷_}
-use mathlib.Core.Path.{_≡_, refl, ap, _∙_}
+use mathlib.Core.Path.{_≡_, refl, ap, sym, _∙_, subst}
 use native.Mathlib.Omega.{arith}
 use lib.Dec.{leb, eqb}
 use lib.ListN.{length, set}
@@ -11,26 +11,26 @@ use Rattle.numerals.specs.Pick.{pick, both}
 use Rattle.numerals.specs.Suffix.{place}
 use Rattle.expansion.specs.Sums.{lastmax}
 use Rattle.expansion.specs.Imbalance.{Frame, backends, excess, shortfall, giver, receiver, largestExcess, largestShortfall}
-use Rattle.expansion.specs.Steps.{frame, reduction, isWithin, isNoGain, term, termLength, newRule, step, endOf}
+use Rattle.expansion.specs.Steps.{frame, reduction, isWithin, isNoGain, term, termLength, lowestPlace, newRule, step, endOf}
 use Rattle.expansion.specs.Sound.{Sound}
 use Rattle.expansion.specs.Answer.{unit}
-use Rattle.expansion.specs.Kept.{over, entryAt, lessOf, moreOf, nextFor, Keeps, Runs, Leads, Given, Valid}
+use Rattle.expansion.specs.Kept.{over, entryAt, lessOf, moreOf, nextFor, Keeps, Holds, Given, lowered, nodeOf, Valid}
 use Rattle.expansion.specs.declared.rule.Rule.{Rule}
 use Rattle.expansion.specs.declared.rule.Ended.{Ended}
 use Rattle.expansion.specs.declared.rule.Ended.the-variants.{Within, NoGain}
 use Rattle.expansion.specs.declared.ledger.Backend.{Backend}
 use Rattle.expansion.specs.declared.ledger.Ledger.{Ledger}
 use Rattle.expansion.specs.declared.ledger.Extreme.{Extreme}
-use Rattle.expansion.specs.declared.run.Move.{Move}
+use Rattle.expansion.specs.declared.rule.Move.{Move}
 use Rattle.expansion.specs.declared.run.Next.{Next}
 use Rattle.expansion.specs.declared.run.Next.the-variants.{Stop, Go}
 use Rattle.expansion.proofs.Searches.{lastmax-is, lastmax-fewer}
 use Rattle.expansion.proofs.Balance.{giver-lt, receiver-lt}
 use Rattle.expansion.proofs.NoGain.{term-le}
-use Rattle.expansion.proofs.Moves.{Good, some-excess, some-shortfall, apart, new-giver, new-receiver, new-other}
+use Rattle.expansion.proofs.Moves.{Good, some-excess, some-shortfall, apart, place-found, new-giver, new-receiver, new-other}
 use Rattle.expansion.proofs.Turns.{Going, step-within, step-none, ended-within, ended-none}
 use Rattle.expansion.proofs.Kept.{moveOf, nextBy, kept-share, kept-few, kept-inside, kept-moved}
-use Rattle.expansion.proofs.Found.{found-some, found-value, found-runs}
+use Rattle.expansion.proofs.Found.{found-lowest, found-holds}
 use Rattle.expansion.proofs.Checks.{sound}
 
 -- what it means that the program stops, or goes on
@@ -89,40 +89,45 @@ movedBy L m =
     (moreOf (entryAt L (m .receiver)) (2 ^ m .index))
 
 -- a move that the program is about to make, after the rules rs
-pub record Ready (k tolerance : ℕ) (ws holder run : List ℕ) (rs : List Rule) (L : Ledger) (m : Move) : Type 0 where
+pub record Ready (k tolerance : ℕ) (ws holder low : List ℕ) (rs : List Rule) (L : Ledger) (m : Move) : Type 0 where
   pub index : m .index ≤ k - 1
   pub giver : m .giver < length ws
   pub receiver : m .receiver < length ws
-  pub found : (r : ℕ) × Leads holder run (m .giver) (2 ^ m .index) (2 ^ k) 0 r
+  pub found : nodeOf k m holder low < 2 ^ (k - m .index)
   pub held : 2 ^ m .index ≤ entryAt L (m .giver) .share
   pub taken : entryAt L (m .receiver) .share ≤ 4096
   pub rule :
-      (r : ℕ) → Leads holder run (m .giver) (2 ^ m .index) (2 ^ k) 0 r
-      → record { len = k - m .index; value = place k r; backend = m .receiver } ≡ newRule (frame k unit tolerance ws) rs
-  pub runs :
-      (r : ℕ) → Leads holder run (m .giver) (2 ^ m .index) (2 ^ k) 0 r
-      → (holder′ run′ : List ℕ) → Given r (2 ^ m .index) (m .receiver) holder run holder′ run′
-      → Runs k (newRule (frame k unit tolerance ws) rs ∷ rs) holder′ run′ 0
+      record { len = k - m .index; value = place (k - m .index) (nodeOf k m holder low); backend = m .receiver }
+      ≡ newRule (frame k unit tolerance ws) rs
+  pub holds :
+      (holder′ low′ : List ℕ)
+      → Given (nodeOf k m holder low * 2 ^ m .index) (2 ^ m .index) (m .receiver) holder holder′
+      → low′
+      ≡ lowered low (m .giver) (m .receiver) (nodeOf k m holder low * 2 ^ m .index)
+      (nodeOf k m holder low * 2 ^ m .index + 2 ^ m .index)
+      → Holds k (newRule (frame k unit tolerance ws) rs ∷ rs) holder′ low′
   pub moved : (M : Ledger) → M .at ≡ movedBy L m → Keeps (frame k unit tolerance ws) (newRule (frame k unit tolerance ws) rs ∷ rs) M
 
 -- a move with a gain
-module _ (k tolerance : ℕ) (ws : List ℕ) (valid : Valid k tolerance ws) (holder run : List ℕ) (rs : List Rule) (L : Ledger)
-    (R : Runs k rs holder run 0) (K : Keeps (frame k unit tolerance ws) rs L)
+module _ (k tolerance : ℕ) (ws : List ℕ) (valid : Valid k tolerance ws) (holder low : List ℕ) (rs : List Rule) (L : Ledger)
+    (H : Holds k rs holder low) (long : length low ≡ 32) (K : Keeps (frame k unit tolerance ws) rs L)
     (G : Good (frame k unit tolerance ws) rs) (gain : isNoGain (frame k unit tolerance ws) rs ≡ false) where
-  pub ready : Ready k tolerance ws holder run rs L (moveOf (frame k unit tolerance ws) rs)
-  unfolding frame backends moveOf termLength newRule largestExcess largestShortfall
+  pub ready : Ready k tolerance ws holder low rs L (moveOf (frame k unit tolerance ws) rs)
+  unfolding frame backends moveOf nodeOf termLength newRule largestExcess largestShortfall
   ready =
       record {
         index = omega (arith, term-le F rs);
         giver = giver-lt F S rs;
         receiver = receiver-lt F S rs;
-        found = found-some F S rs G gain holder run R;
+        found = subst (λ (p : ℕ). p < 2 ^ termLength F rs) lowest (place-found F S rs G gain);
         held = omega (arith, new-giver F S rs G gain, kept-share F rs L K (giver F rs) (giver-lt F S rs));
         taken = kept-few F rs L K (valid .few-bits) (receiver F rs) (receiver-lt F S rs);
-        rule = λ r w.
-            ap (λ (v : ℕ). record { len = k - term F rs; value = v; backend = receiver F rs })
-            (found-value F S rs G gain holder run R r w);
-        runs = found-runs F S rs G gain holder run R;
+        rule = ap (λ (p : ℕ). record { len = termLength F rs; value = place (termLength F rs) p; backend = receiver F rs }) (sym lowest);
+        holds = λ holder′ low′.
+            subst (λ (p : ℕ). Given (p * 2 ^ term F rs) (2 ^ term F rs) (receiver F rs) holder holder′
+            → low′ ≡ lowered low (giver F rs) (receiver F rs) (p * 2 ^ term F rs) (p * 2 ^ term F rs + 2 ^ term F rs)
+            → Holds k (newRule F rs ∷ rs) holder′ low′) lowest
+            (found-holds F S rs G gain holder low H (omega (arith, giver-lt F S rs, valid .few)) (omega (arith, receiver-lt F S rs, valid .few)) holder′ low′);
         moved = λ M e.
             kept-moved F rs (newRule F rs ∷ rs) L M K refl (giver F rs) (receiver F rs) (2 ^ term F rs) (apart F S rs gain)
             (new-giver F S rs G gain) (new-receiver F S rs G gain) (new-other F S rs G gain)
@@ -136,6 +141,9 @@ module _ (k tolerance : ℕ) (ws : List ℕ) (valid : Valid k tolerance ws) (hol
 
       S : Sound F
       S = sound k tolerance ws valid
+
+      lowest : lowestPlace F rs ≡ nodeOf k (moveOf F rs) holder low
+      lowest = found-lowest F S rs G gain holder low H
 
       over-some : 0 < excess F rs (giver F rs)
       over-some = some-excess F S rs gain

@@ -7,7 +7,7 @@ use native.Mathlib.Decide.{ℕ-discrete}
 use native.Mathlib.Numerals.{add-one}
 use native.Mathlib.Omega.{arith}
 use lib.Dec.{ltb, eqb, lit<, lit≤}
-use lib.ListN.{length, getD, set, replicate, length-replicate, getD-replicate}
+use lib.ListN.{length, getD, set, replicate, length-set, length-replicate, getD-replicate}
 use lib.Seq.{getD-set-same, getD-set-other}
 use borrow.Author.Tests.{ltb-true, ltb-false, eqb-true, eq-eqb}
 use Rattle.numerals.specs.Pick.{pick}
@@ -17,14 +17,14 @@ use Rattle.expansion.specs.Imbalance.{Frame, backends, weight, imbalance
 use Rattle.expansion.specs.Steps.{firstRule, frame, newRule, after, endOf, listOf}
 use Rattle.expansion.specs.Sound.{Sound}
 use Rattle.expansion.specs.Answer.{unit, listMade}
-use Rattle.expansion.specs.Kept.{over, Small, entryAt, errorAt, entryOf, nextOf, inBudget, Keeps, Runs, Leads, Given, noRule, newestFirst, Valid, Stands, Adds, Listed, Made}
+use Rattle.expansion.specs.Kept.{over, Small, entryAt, errorAt, entryOf, nextOf, inBudget, Keeps, Holds, lowered, nodeOf, Handed, noRule, newestFirst, Valid, Stands, Adds, Listed, Made}
 use Rattle.expansion.specs.declared.rule.Rule.{Rule}
 use Rattle.expansion.specs.declared.rule.Ended.{Ended}
 use Rattle.expansion.specs.declared.rule.Ended.the-variants.{Budget}
 use Rattle.expansion.specs.declared.ledger.Ledger.{Ledger}
 use Rattle.expansion.specs.declared.list.RuleList.{RuleList}
 use Rattle.expansion.specs.declared.run.State.{State}
-use Rattle.expansion.specs.declared.run.Move.{Move}
+use Rattle.expansion.specs.declared.rule.Move.{Move}
 use Rattle.expansion.specs.declared.run.Next.{Next}
 use Rattle.expansion.specs.declared.run.Next.the-variants.{Stop, Go}
 use Rattle.expansion.proofs.Searches.{same-test}
@@ -32,9 +32,9 @@ use Rattle.expansion.proofs.Moves.{term-falls}
 use Rattle.expansion.proofs.Turns.{after-suc, step-moves, listed, ended-budget, good-after}
 use Rattle.expansion.proofs.Base.{star-share, base-stair}
 use Rattle.expansion.proofs.Kept.{moveOf, nextBy, frame-small, frame-imbalance, frame-next}
-use Rattle.expansion.proofs.Runs.{runs-first}
+use Rattle.expansion.proofs.Holdings.{holds-first}
 use Rattle.expansion.proofs.Listing.{newest-more}
-use Rattle.expansion.proofs.Checks.{sound}
+use Rattle.expansion.proofs.Checks.{sound, first-lt}
 use Rattle.expansion.proofs.Ready.{next-stop, next-go, movedBy, Ready, ready}
 
 -- a move in the budget
@@ -77,15 +77,15 @@ module _ (k tolerance : ℕ) (ws : List ℕ) (valid : Valid k tolerance ws) wher
       → (L : Ledger) → Keeps (frame k unit tolerance ws) (firstRule ws) L
       → (sum : ℕ) → sum ≡ sumTo (length ws) (λ b. over (errorAt L b))
       → (next : Next) → next ≡ nextOf L (length ws) k tolerance (k - 1)
-      → Stands k tolerance ws (replicate 4096 first) (replicate 4096 (2 ^ k))
+      → Stands k tolerance ws (replicate 4096 first) (set (replicate 32 (2 ^ k)) first 0)
       (record { ledger = L; rule = record { len = 0; value = 0; backend = first }; count = 1; imbalance = sum; next = next })
   unfolding frame after
   stands-first first e L K sum s next t =
       record {
         some-rules = omega arith;
         keeps = K;
-        runs = runs-first k ws first e;
-        long = (length-replicate 4096 first, length-replicate 4096 (2 ^ k));
+        holds = holds-first k (valid .few-bits) ws first e (omega (arith, first-lt k tolerance ws valid, valid .few));
+        long = (length-replicate 4096 first, length-set (replicate 32 (2 ^ k)) first 0 ∙ length-replicate 32 (2 ^ k));
         stair = s ∙ frame-imbalance k tolerance ws (firstRule ws) L K;
         next = t;
       }
@@ -143,7 +143,7 @@ module _ (k tolerance : ℕ) (ws : List ℕ) (valid : Valid k tolerance ws) wher
           ∙ ap (λ (x : ℕ). imbalance F (after F x)) (sym d)
       stair c l (no d) = getD-set-other (list .stairs) (list .count) c sum 0 d ∙ L .stairs c (omega arith)
 
-  module _ (holder run : List ℕ) (st : State) (S : Stands k tolerance ws holder run st) where
+  module _ (holder low : List ℕ) (st : State) (S : Stands k tolerance ws holder low st) where
     pub stands-next : st .next ≡ nextBy (frame k unit tolerance ws) (rulesOf k tolerance ws st)
     stands-next = S .next ∙ frame-next k tolerance ws (rulesOf k tolerance ws st) (st .ledger) (S .keeps) (sound k tolerance ws valid)
 
@@ -205,13 +205,13 @@ module _ (k tolerance : ℕ) (ws : List ℕ) (valid : Valid k tolerance ws) wher
 
     -- the move that comes next can be made, and after it the state stands with its rule
     pub ready-go : (m : Move) → st .next ≡ Go m
-        → Ready k tolerance ws holder run (rulesOf k tolerance ws st) (st .ledger) m
+        → Ready k tolerance ws holder low (rulesOf k tolerance ws st) (st .ledger) m
     ready-go m n =
         let F : Frame = frame k unit tolerance ws in
         let rs : List Rule = rulesOf k tolerance ws st in
         let h = next-go F rs m (sym stands-next ∙ n) in
-        subst (Ready k tolerance ws holder run rs (st .ledger)) (sym (h .1))
-        (ready k tolerance ws valid holder run rs (st .ledger) (S .runs) (S .keeps) (good-after F (sound k tolerance ws valid) (st .count - 1)) (h .0 .gain))
+        subst (Ready k tolerance ws holder low rs (st .ledger)) (sym (h .1))
+        (ready k tolerance ws valid holder low rs (st .ledger) (S .holds) (S .long .1) (S .keeps) (good-after F (sound k tolerance ws valid) (st .count - 1)) (h .0 .gain))
 
     after-go : (m : Move) → st .next ≡ Go m
         → after (frame k unit tolerance ws) (st .count)
@@ -242,29 +242,30 @@ module _ (k tolerance : ℕ) (ws : List ℕ) (valid : Valid k tolerance ws) wher
           term-falls F S rs (good-after F S (st .count - 1)) (p .0 .gain) (q .0 .gain),
         )
 
-    module _ (m : Move) (n : st .next ≡ Go m) (at : ℕ) (found : Leads holder run (m .giver) (2 ^ m .index) (2 ^ k) 0 at) where
-      pub adds-rule : (value : ℕ) → value ≡ place k at
+    module _ (m : Move) (n : st .next ≡ Go m) where
+      pub adds-rule : (value : ℕ) → value ≡ place (k - m .index) (nodeOf k m holder low)
           → Adds k tolerance ws (st .count) (record { len = k - m .index; value = value; backend = m .receiver })
       adds-rule value v =
           record {
             rules =
                 after-go m n
                 ∙ ap (λ (r : Rule). r ∷ rulesOf k tolerance ws st)
-                (sym (ap (λ (x : ℕ). record { len = k - m .index; value = x; backend = m .receiver }) v ∙ ready-go m n .rule at found));
+                (sym (ap (λ (x : ℕ). record { len = k - m .index; value = x; backend = m .receiver }) v ∙ ready-go m n .rule));
           }
 
-      pub stands-moved : (holder′ run′ : List ℕ) → Given at (2 ^ m .index) (m .receiver) holder run holder′ run′
+      pub stands-moved : (value : ℕ) (holder′ low′ : List ℕ) → Handed k m value holder low holder′ low′
           → (M : Ledger) → M .at ≡ movedBy (st .ledger) m
           → (sum : ℕ) → sum ≡ sumTo (length ws) (λ b. over (errorAt M b))
           → (next : Next) → next ≡ nextOf M (length ws) k tolerance (k - 1)
           → (r : Rule)
-          → Stands k tolerance ws holder′ run′ (record { ledger = M; rule = r; count = st .count + 1; imbalance = sum; next = next })
-      stands-moved holder′ run′ given M e sum s next t r =
+          → Stands k tolerance ws holder′ low′ (record { ledger = M; rule = r; count = st .count + 1; imbalance = sum; next = next })
+      unfolding lowered
+      stands-moved value holder′ low′ handed M e sum s next t r =
           record {
             some-rules = omega arith;
             keeps = subst (λ (xs : List Rule). Keeps F xs M) now (R .moved M e);
-            runs = subst (λ (xs : List Rule). Runs k xs holder′ run′ 0) now (R .runs at found holder′ run′ given);
-            long = (given .long .0 ∙ S .long .0, given .long .1 ∙ S .long .1);
+            holds = subst (λ (xs : List Rule). Holds k xs holder′ low′) now (R .holds holder′ low′ (handed .given) (handed .lows));
+            long = (handed .given .long ∙ S .long .0, lows-long);
             stair = s ∙ frame-imbalance k tolerance ws (newRule F rs ∷ rs) M (R .moved M e) ∙ ap (imbalance F) now;
             next = t;
           }
@@ -275,8 +276,11 @@ module _ (k tolerance : ℕ) (ws : List ℕ) (valid : Valid k tolerance ws) wher
           rs : List Rule
           rs = rulesOf k tolerance ws st
 
-          R : Ready k tolerance ws holder run rs (st .ledger) m
+          R : Ready k tolerance ws holder low rs (st .ledger) m
           R = ready-go m n
+
+          lows-long : length low′ ≡ 32
+          lows-long = ap length (handed .lows) ∙ simp length-set (S .long .1)
 
           same : st .count ≡ st .count + 1 - 1
           same = omega arith

@@ -1,5 +1,5 @@
 -- What the program keeps while it makes a list, and how that stands to the definitions: each kept share and error is that of the count by first match.
-use Prim.Native.Nat.{ℕ, zero, suc, _+_, _-_, _*_, _^_, _≤_, _<_}
+use Prim.Native.Nat.{ℕ, zero, suc, _+_, _-_, _*_, _/_, _^_, _≤_, _<_, min}
 use mathlib.Core.Path.{_≡_}
 use mathlib.Core.Bool.{Bool, true, false}
 use mathlib.Core.List.{List, [], _∷_}
@@ -10,11 +10,10 @@ use lib.Signed.{mag}
 use lib.ListN.{length, getD, set}
 use Rattle.numerals.specs.Pick.{pick, both}
 use Rattle.numerals.specs.Suffix.{place}
-use Rattle.expansion.specs.Sums.{sumTo, argmax, lastmax}
+use Rattle.expansion.specs.Sums.{sumTo, allTo, firstTo, argmax, lastmax}
 use Rattle.expansion.specs.FirstMatch.{gives, share}
 use Rattle.expansion.specs.Imbalance.{Frame, backends, weight, imbalance}
 use Rattle.expansion.specs.Steps.{frame, reduction, after, stair, endOf}
-use Rattle.expansion.specs.Sound.{Lengths}
 use Rattle.expansion.specs.Answer.{unit, listMade}
 use Rattle.expansion.specs.declared.rule.Rule.{Rule}
 use Rattle.expansion.specs.declared.rule.Ended.the-variants.{Within, NoGain, Budget}
@@ -25,7 +24,7 @@ use Rattle.expansion.specs.declared.ledger.Survey.{Survey}
 use Rattle.expansion.specs.declared.list.RuleList.{RuleList}
 use Rattle.expansion.specs.declared.run.State.{State}
 use Rattle.expansion.specs.declared.run.Run.{Run}
-use Rattle.expansion.specs.declared.run.Move.{Move}
+use Rattle.expansion.specs.declared.rule.Move.{Move}
 use Rattle.expansion.specs.declared.run.Next.{Next}
 use Rattle.expansion.specs.declared.run.Next.the-variants.{Stop, Go}
 use Rattle.expansion.specs.declared.term.Term.{Term}
@@ -133,40 +132,42 @@ inBudget (Go m) c budget = pick (ltb c budget) (Go m) (Stop Budget)
 pub record Keeps (F : Frame) (rs : List Rule) (L : Ledger) : Type 0 where
   pub entries : (b : ℕ) → b < backends F → entryAt L b ≡ entryOf (F .unit) (F .k) (weight F b) (share (F .k) rs b)
 
--- who holds which k-bit suffixes after the rules rs, as runs in the order of their tree places, from the place `at` on. Each run is one holder's, and made of whole nodes of every length that no rule is above.
-pub data Runs (k : ℕ) (rs : List Rule) (holder run : List ℕ) : ℕ → Type 0 where
-  end : {at : ℕ} → at ≡ 2 ^ k → Runs k rs holder run at
-  link : {at : ℕ} → 0 < getD run at 0
-      → ((m : ℕ) → m ≤ k → Lengths m rs → (d : ℕ) × (getD run at 0 ≡ d * 2 ^ (k - m)))
-      → ((q : ℕ) → at ≤ q → q < at + getD run at 0 → gives rs (place k q) (getD holder at 0) ≡ true)
-      → Runs k rs holder run (at + getD run at 0)
-      → Runs k rs holder run at
+-- b holds each of the `size` suffixes of node j
+unfoldable pub heldBy : List ℕ → ℕ → ℕ → ℕ → Bool
+heldBy holder size b j = allTo size (λ i. eqb (getD holder (j * size + i) 0) b)
 
--- the walk over the runs, from the place `at` on: it comes to a run of the giver's, of `size` places at least, that starts at r
-pub data Leads (holder run : List ℕ) (giver size all : ℕ) : ℕ → ℕ → Type 0 where
-  here : {at r : ℕ} → at ≡ r → getD holder at 0 ≡ giver → size ≤ getD run at 0 → at + getD run at 0 ≤ all
-      → Leads holder run giver size all at r
-  on : {at r : ℕ} → at < all → getD holder at 0 ≢ giver → 0 < getD run at 0 → at + getD run at 0 ≤ all
-      → Leads holder run giver size all (at + getD run at 0) r
-      → Leads holder run giver size all at r
+-- the lowest node from `from` on that b holds wholly, or n where there is none below n
+unfoldable pub lowestHeld : List ℕ → ℕ → ℕ → ℕ → ℕ → ℕ
+lowestHeld holder size b from n = from + firstTo (n - from) (λ j. heldBy holder size b (from + j))
 
--- the runs after the first `size` places of the one at `at` went to a backend
-pub record Given (at size b : ℕ) (holder run holder′ run′ : List ℕ) : Type 0 where
-  pub long : (length holder′ ≡ length holder) × (length run′ ≡ length run)
-  pub taken : (getD holder′ at 0 ≡ b) × (getD run′ at 0 ≡ size)
-  pub left :
-      size < getD run at 0
-      → (getD holder′ (at + size) 0 ≡ getD holder at 0) × (getD run′ (at + size) 0 ≡ getD run at 0 - size)
-  pub other :
-      (j : ℕ) → (at ≤ j → at + getD run at 0 ≤ j)
-      → (getD holder′ j 0 ≡ getD holder j 0) × (getD run′ j 0 ≡ getD run j 0)
+-- who holds the k-bit suffix of each tree place after the rules rs, and for each backend a place below which it holds none
+pub record Holds (k : ℕ) (rs : List Rule) (holder low : List ℕ) : Type 0 where
+  pub holders : (p : ℕ) → p < 2 ^ k → gives rs (place k p) (getD holder p 0) ≡ true
+  pub lows : (b p : ℕ) → p < 2 ^ k → p < getD low b 0 → getD holder p 0 ≢ b
 
--- a move made on the runs: what the walk found went to the receiver, and the suffix has this value
-pub record Handed (k : ℕ) (m : Move) (value : ℕ) (holder run holder′ run′ : List ℕ) : Type 0 where
-  pub at : ℕ
-  pub found : Leads holder run (m .giver) (2 ^ m .index) (2 ^ k) 0 at
-  pub given : Given at (2 ^ m .index) (m .receiver) holder run holder′ run′
-  pub is : value ≡ place k at
+-- the holders after `size` places from `at` on went to b
+pub record Given (at size b : ℕ) (holder holder′ : List ℕ) : Type 0 where
+  pub long : length holder′ ≡ length holder
+  pub taken : (p : ℕ) → at ≤ p → p < at + size → getD holder′ p 0 ≡ b
+  pub other : (p : ℕ) → (at ≤ p → at + size ≤ p) → getD holder′ p 0 ≡ getD holder p 0
+
+-- the lows after the places from `at` up to `end` went from the giver to the receiver
+unfoldable pub lowered : List ℕ → ℕ → ℕ → ℕ → ℕ → List ℕ
+lowered low giver receiver at end = set (set low giver end) receiver (min (getD low receiver 0) at)
+
+-- the node of a move
+unfoldable pub nodeOf : ℕ → Move → List ℕ → List ℕ → ℕ
+nodeOf k m holder low =
+    lowestHeld holder (2 ^ m .index) (m .giver) (getD low (m .giver) 0 / 2 ^ m .index) (2 ^ (k - m .index))
+
+-- a move made: its node went to the receiver, and the suffix has this value
+pub record Handed (k : ℕ) (m : Move) (value : ℕ) (holder low holder′ low′ : List ℕ) : Type 0 where
+  pub given : Given (nodeOf k m holder low * 2 ^ m .index) (2 ^ m .index) (m .receiver) holder holder′
+  pub lows :
+      low′
+      ≡ lowered low (m .giver) (m .receiver) (nodeOf k m holder low * 2 ^ m .index)
+      (nodeOf k m holder low * 2 ^ m .index + 2 ^ m .index)
+  pub is : value ≡ place (k - m .index) (nodeOf k m holder low)
 
 abbrev pub noRule : Rule
 noRule = record { len = 0; value = 0; backend = 0 }
@@ -185,12 +186,12 @@ pub record Valid (k tolerance : ℕ) (ws : List ℕ) : Type 0 where
   pub few : length ws ≤ 32
   pub balanced : sumTo (length ws) (λ b. getD ws b 0) ≡ unit
 
--- the state of the program after its rules, those of document 01's run: the ledger and the runs that go with them, and what comes next
-pub record Stands (k tolerance : ℕ) (ws holder run : List ℕ) (st : State) : Type 0 where
+-- the state of the program after its rules, those of document 01's run: the ledger and the holders that go with them, and what comes next
+pub record Stands (k tolerance : ℕ) (ws holder low : List ℕ) (st : State) : Type 0 where
   pub some-rules : 1 ≤ st .count
   pub keeps : Keeps (frame k unit tolerance ws) (after (frame k unit tolerance ws) (st .count - 1)) (st .ledger)
-  pub runs : Runs k (after (frame k unit tolerance ws) (st .count - 1)) holder run 0
-  pub long : (length holder ≡ 4096) × (length run ≡ 4096)
+  pub holds : Holds k (after (frame k unit tolerance ws) (st .count - 1)) holder low
+  pub long : (length holder ≡ 4096) × (length low ≡ 32)
   pub stair : st .imbalance ≡ imbalance (frame k unit tolerance ws) (after (frame k unit tolerance ws) (st .count - 1))
   pub next : st .next ≡ nextOf (st .ledger) (length ws) k tolerance (k - 1)
 

@@ -1,53 +1,57 @@
-// Who holds which k-bit suffixes, as runs in the order of their tree places. `holder` and `run` mean something where a
-// run starts: holder[at] has the places from `at` up to at + run[at].
-use crate::run::Move;
+// Who holds which k-bit suffixes, in the order of their tree places: holder[p] has the one with place p. A node is a suffix
+// that covers `size` of them: node j has the places from j × size on.
+use crate::rule::Move;
 ghost use mathlib.Core.Path.{_≡_};
-ghost use Prim.Native.Nat.{ℕ, _+_, _^_, _≤_, _<_};
-ghost use lib.ListN.{length, getD};
+ghost use Prim.Native.Nat.{ℕ, _+_, _-_, _*_, _^_, _≤_, _<_};
+ghost use lib.ListN.{length};
 ghost use Rattle.numerals.specs.Suffix.{place, Places};
 ghost use Rattle.expansion.specs.Kept as kept;
 
-// The lowest tree place from which the giver holds `size` suffixes. The walk over the nodes leaves one at its first
-// mixed suffix, and ends at the first whole node.
-fn lowest_whole(holder: &[u8], run: &[u16], all: usize, size: usize, giver: u8) -> usize
-    requires { ⌜ (all ≤ 4096) × ((0 < size) × ((size ≤ 4096) × ((all ≤ length (now holder)) × (all ≤ length (now run))))) ⌝ }
-    requires { ⌜ ((r : ℕ) × kept.Leads (now holder) (now run) giver size all 0 r) ⌝ }
-    ensures { λ r. ⌜ kept.Leads (now (holder .entry)) (now (run .entry)) giver size all 0 r ⌝ }
+// The lowest of the nodes from `from` on that the giver holds wholly, or `nodes` where there is none. The walk over the
+// nodes leaves one at its first suffix of another's, and ends at the first whole node.
+fn lowest_whole(holder: &[u16], from: usize, nodes: usize, size: usize, giver: u16) -> usize
+    requires { ⌜ nodes * size ≤ length (now holder) ⌝ }
+    ensures { λ r. ⌜ r ≡ kept.lowestHeld (now (holder .entry)) size giver from nodes ⌝ }
 {
-    let mut found = 0;
-    let mut at = 0;
-    'nodes: while at < all {
-        let mut s = at;
-        while s < at + size {
-            let len = run[s] as usize;
-            if holder[s] != giver {
-                at = s + len;
+    let mut node = from;
+    'nodes: while node < nodes {
+        let at = node * size;
+        let mut left = size;
+        while 0 < left {
+            if holder[at + left - 1] != giver {
+                node += 1;
                 continue 'nodes;
             }
-            s += len;
+            left -= 1;
         }
-        found = at;
         break 'nodes;
     }
-    found
+    node
 }
 
-// The first `size` places of a run go to a backend.
-fn give(holder: &mut [u8], run: &mut [u16], at: usize, size: usize, receiver: u8)
-    requires { ⌜ (0 < size) × ((size ≤ getD (now run) at 0) × (at + getD (now run) at 0 ≤ 4096)) ⌝ }
-    requires { ⌜ (length (now holder) ≡ 4096) × (length (now run) ≡ 4096) ⌝ }
-    ensures { λ _. ⌜ kept.Given at size receiver (now (holder .entry)) (now (run .entry)) (now (holder .exit)) (now (run .exit)) ⌝ }
+// The places of a node go to a backend.
+fn give(holder: &mut [u16], at: usize, size: usize, receiver: u16)
+    requires { ⌜ at + size ≤ length (now holder) ⌝ }
+    ensures { λ _. ⌜ kept.Given at size receiver (now (holder .entry)) (now (holder .exit)) ⌝ }
 {
-    let len = run[at] as usize;
-    if size < len {
-        holder[at + size] = holder[at];
-        run[at + size] = (len - size) as u16;
+    let mut i = 0;
+    while i < size {
+        holder[at + i] = receiver;
+        i += 1;
     }
-    holder[at] = receiver;
-    run[at] = size as u16;
 }
 
-// The k-bit suffix that has a tree place, read from the listing of all twelve-bit ones.
+// No backend holds a place below its low. After a move the giver has none up to the end of the node that it gave.
+fn note_lows(low: &mut [u16], giver: usize, receiver: usize, at: usize, end: usize)
+    requires { ⌜ (giver < length (now low)) × ((receiver < length (now low)) × ((at ≤ 4096) × (end ≤ 4096))) ⌝ }
+    ensures { λ _. ⌜ now (low .exit) ≡ kept.lowered (now (low .entry)) giver receiver at end ⌝ }
+{
+    let had = low[receiver];
+    low[giver] = end as u16;
+    low[receiver] = if at < had as usize { at as u16 } else { had };
+}
+
+// The suffix of k bits that has a tree place, read from the listing of all twelve-bit ones.
 fn suffix_at(places: &[u16], k: usize, at: usize) -> usize
     requires { ⌜ (k ≤ 12) × ((at < 2 ^ k) × Places 12 (now places)) ⌝ }
     ensures { λ r. ⌜ r ≡ place k at ⌝ }
@@ -57,15 +61,20 @@ fn suffix_at(places: &[u16], k: usize, at: usize) -> usize
 
 // Step 6: of the suffixes that cover 2^index and that the giver holds wholly, the one with the lowest tree place goes to
 // the receiver. Its value.
-pub fn hand_over(holder: &mut [u8], run: &mut [u16], places: &[u16], k: usize, m: Move) -> usize
+pub fn hand_over(holder: &mut [u16], low: &mut [u16], places: &[u16], k: usize, m: Move) -> usize
     requires { ⌜ (k ≤ 12) × ((m .index ≤ k) × ((m .giver < 32) × (m .receiver < 32))) ⌝ }
-    requires { ⌜ (length (now holder) ≡ 4096) × ((length (now run) ≡ 4096) × Places 12 (now places)) ⌝ }
-    requires { ⌜ ((at : ℕ) × kept.Leads (now holder) (now run) (m .giver) (2 ^ m .index) (2 ^ k) 0 at) ⌝ }
-    ensures { λ r. ⌜ kept.Handed k m r (now (holder .entry)) (now (run .entry)) (now (holder .exit)) (now (run .exit)) ⌝ }
+    requires { ⌜ (length (now holder) ≡ 4096) × ((length (now low) ≡ 32) × Places 12 (now places)) ⌝ }
+    requires { ⌜ kept.nodeOf k m (now holder) (now low) < 2 ^ (k - m .index) ⌝ }
+    ensures { λ r. ⌜ kept.Handed k m r (now (holder .entry)) (now (low .entry)) (now (holder .exit)) (now (low .exit)) ⌝ }
 {
     let size: usize = 1 << m.index;
-    let at = lowest_whole(holder, run, 1 << k, size, m.giver as u8);
-    give(holder, run, at, size, m.receiver as u8);
-    let value = suffix_at(places, k, at);
+    let len = k - m.index;
+    let giver = m.giver;
+    let from = (low[giver] as usize) >> m.index;
+    let node = lowest_whole(holder, from, 1 << len, size, giver as u16);
+    let at = node * size;
+    give(holder, at, size, m.receiver as u16);
+    note_lows(low, giver, m.receiver, at, at + size);
+    let value = suffix_at(places, len, node);
     value
 }

@@ -7,6 +7,13 @@ pub struct Rule {
     pub backend: usize,
 }
 
+// A term of 2^index suffixes from giver to receiver.
+pub struct Move {
+    pub giver: usize,
+    pub receiver: usize,
+    pub index: usize,
+}
+
 // How a list of rules ended.
 pub enum Ended {
     Within,

@@ -3,10 +3,11 @@ use crate::ledger::Extreme;
 use crate::ledger::Ledger;
 use crate::list::RuleList;
 use crate::rule::Ended;
+use crate::rule::Move;
 use crate::rule::Rule;
 ghost use mathlib.Core.Path.{_≡_};
 ghost use Prim.Native.Nat.{ℕ, _+_, _^_, _≤_, _<_};
-ghost use lib.ListN.{length, getD, replicate};
+ghost use lib.ListN.{length, getD, set, replicate};
 ghost use Rattle.numerals.specs.Suffix.{Places};
 ghost use Rattle.expansion.specs.Sums.{argmax};
 ghost use Rattle.expansion.specs.Answer.{unit};
@@ -25,13 +26,6 @@ pub struct State {
     pub count: usize,
     pub imbalance: u64,
     pub next: Next,
-}
-
-// A term of 2^index suffixes from giver to receiver.
-pub struct Move {
-    pub giver: usize,
-    pub receiver: usize,
-    pub index: usize,
 }
 
 pub enum Next {
@@ -82,8 +76,8 @@ fn decide(give: Extreme, take: Extreme, k: usize, tolerance: u64, cap: usize) ->
 
 // Step 6: the move is made, and its rule is the newest.
 fn advance(
-    holder: &mut [u8],
-    run: &mut [u16],
+    holder: &mut [u16],
+    low: &mut [u16],
     places: &[u16],
     state: State,
     weights: &[u64],
@@ -91,13 +85,13 @@ fn advance(
     tolerance: u64,
     m: Move,
 ) -> State
-    requires { ⌜ kept.Valid k tolerance (now weights) × (kept.Stands k tolerance (now weights) (now holder) (now run) state × Places 12 (now places)) ⌝ }
+    requires { ⌜ kept.Valid k tolerance (now weights) × (kept.Stands k tolerance (now weights) (now holder) (now low) state × Places 12 (now places)) ⌝ }
     requires { ⌜ (state .count < 32) × (state .next ≡ Next.Go m) ⌝ }
-    ensures stands { λ r. ⌜ kept.Stands k tolerance (now (weights .entry)) (now (holder .exit)) (now (run .exit)) r ⌝ }
+    ensures stands { λ r. ⌜ kept.Stands k tolerance (now (weights .entry)) (now (holder .exit)) (now (low .exit)) r ⌝ }
     ensures adds { λ r. ⌜ (r .count ≡ state .count + 1) × kept.Adds k tolerance (now (weights .entry)) (state .count) (r .rule) ⌝ }
 {
     let n = weights.len();
-    let value = crate::holders::hand_over(holder, run, places, k, m);
+    let value = crate::holders::hand_over(holder, low, places, k, m);
     let before = state.ledger;
     let ledger = crate::ledger::moved(before, m.giver, m.receiver, 1 << m.index);
     let seen = crate::ledger::survey_of(ledger, n);
@@ -119,7 +113,7 @@ fn advance(
 fn begin(weights: &[u64], k: usize, tolerance: u64, first: usize) -> State
     requires { ⌜ kept.Valid k tolerance (now weights) ⌝ }
     requires { ⌜ first ≡ argmax (λ b. getD (now weights) b 0) (length (now weights)) ⌝ }
-    ensures stands { λ r. ⌜ kept.Stands k tolerance (now (weights .entry)) (replicate 4096 first) (replicate 4096 (2 ^ k)) r ⌝ }
+    ensures stands { λ r. ⌜ kept.Stands k tolerance (now (weights .entry)) (replicate 4096 first) (set (replicate 32 (2 ^ k)) first 0) r ⌝ }
     ensures one { λ r. ⌜ (r .count ≡ 1) × (r .rule ≡ record { len = 0; value = 0; backend = first }) ⌝ }
 {
     let n = weights.len();
@@ -162,8 +156,9 @@ pub fn make_list(k: usize, tolerance: u64, budget: usize, weights: &[u64]) -> Ru
     let places = numerals::all_places();
     let first = heaviest(weights);
     let all: usize = 1 << k;
-    let mut holder = [first as u8; 4096];
-    let mut run = [all as u16; 4096];
+    let mut holder = [first as u16; 4096];
+    let mut low = [all as u16; 32];
+    low[first] = 0;
     let mut state = begin(weights, k, tolerance, first);
     let star = state.rule;
     let mut list = crate::list::of_one(star, state.imbalance);
@@ -178,7 +173,7 @@ pub fn make_list(k: usize, tolerance: u64, budget: usize, weights: &[u64]) -> Ru
             Next::Go(m) => {
                 state = advance(
                     &mut holder,
-                    &mut run,
+                    &mut low,
                     &places,
                     state,
                     weights,

@@ -1,65 +1,104 @@
 -- `holders::hand_over` meets its contract.
-use Prim.Native.Nat.{ℕ, _*_, _%_, _^_, _≤_}
-use mathlib.Core.Path.{_≡_}
+use Prim.Native.Nat.{ℕ, _+_, _-_, _*_, _%_, _^_, _≤_, _<_}
+use mathlib.Core.List.{List}
+use mathlib.Core.Path.{_≡_, ap, _∙_, subst}
+use native.Mathlib.Nat.{suc-mul, mul-le-mul-right}
 use native.Mathlib.Omega.{arith}
-use lib.Pow.{pow-pos}
+use lib.ListN.{length, length-set}
 use borrow.Author.Needs.{needs}
-use Rattle.expansion.specs.Kept.{Leads}
+use Rattle.numerals.specs.Suffix.{place}
+use Rattle.expansion.specs.Kept.{Given, lowered, nodeOf}
 use Rattle.expansion.proofs.Powers.{pow-few, shifted}
-use Rattle.expansion.proofs.Runs.{leads-end}
+use Rattle.expansion.proofs.Count.{pow-split}
 use Rattle.expansion.proofs.holders.hand_over.Statement.{statement}
 use Rattle.expansion.proofs.holders.hand_over.Tie as tie
 
-shl-size : tie.Need-shl-size
-shl-size c = search needs
-
-shl-lowest-whole : tie.Need-shl-lowest-whole
-shl-lowest-whole c = search needs
-
-cast-lowest-whole : tie.Need-cast-lowest-whole
-cast-lowest-whole c = search needs
-
 -- the code's powers
-all-is : (s : tie.Start) → (1 * 2 ^ (s .args .k)) % 2 ^ 64 ≡ 2 ^ (s .args .k)
-all-is s = shifted (s .args .k) (s .pre .0 .0)
+nodes-is : (s : tie.Start) → (1 * 2 ^ (s .args .k - s .args .m .index)) % 2 ^ 64 ≡ 2 ^ (s .args .k - s .args .m .index)
+nodes-is s = shifted (s .args .k - s .args .m .index) (omega arith)
 
 size-is : (s : tie.Start) → (1 * 2 ^ (s .args .m .index)) % 2 ^ 64 ≡ 2 ^ (s .args .m .index)
 size-is s = shifted (s .args .m .index) (omega arith)
 
-few : (s : tie.Start) → (2 ^ (s .args .k) ≤ 4096) × (2 ^ (s .args .m .index) ≤ 4096)
-few s = (pow-few (s .args .k) (s .pre .0 .0), pow-few (s .args .m .index) (omega arith))
+-- all places are those of the nodes
+all-is : (s : tie.Start) → 2 ^ (s .args .k - s .args .m .index) * 2 ^ (s .args .m .index) ≤ 4096
+all-is s = omega (arith, pow-split (s .args .m .index) (s .args .k) (s .pre .0 .1 .0), pow-few (s .args .k) (s .pre .0 .0))
+
+shl-size : tie.Need-shl-size
+shl-size c = search needs
+
+sub-len : tie.Need-sub-len
+sub-len c = search needs
+
+mul-from : tie.Need-mul-from
+mul-from c = search needs
+
+slice-read-from : tie.Need-slice-read-from
+slice-read-from c = omega arith
+
+cast-from : tie.Need-cast-from
+cast-from c = omega (arith, c .slice-known3 .given (c .before .before .before .before .before .before .args .m .giver))
+
+shr-from : tie.Need-shr-from
+shr-from c = omega arith
+
+shl-lowest-whole : tie.Need-shl-lowest-whole
+shl-lowest-whole c = omega arith
+
+cast-lowest-whole : tie.Need-cast-lowest-whole
+cast-lowest-whole c = omega arith
 
 lowest-whole-requires : tie.Need-lowest-whole-requires
 lowest-whole-requires c κs =
-    let s = c .before .before .before .before .before .before .before in
-    rw (all-is s)
-    (rw (size-is s)
-    ((few s .0, (pow-pos (s .args .m .index), (few s .1, (omega (arith, few s .0), omega (arith, few s .0))))), s .pre .1 .1))
+    let s = c .before .before .before .before .before .before .before .before in
+    rw (nodes-is s) (rw (size-is s) (omega (arith, all-is s)))
 
 -- what was found
 abbrev begun : tie.After-lowest-whole → tie.Start
-begun c = c .before .before .before .before .before .before .before .before
+begun c = c .before .before .before .before .before .before .before .before .before
 
-found : (c : tie.After-lowest-whole)
-    → let a = begun c .args in Leads (a .holder .now) (a .run .now) (a .m .giver) (2 ^ (a .m .index)) (2 ^ (a .k)) 0 (c .lowest-whole .result)
-found c = simp (all-is (begun c), size-is (begun c)) at (c .lowest-whole .ensures)
+abbrev node : tie.After-lowest-whole → ℕ
+node c = let a = begun c .args in nodeOf (a .k) (a .m) (a .holder .now) (a .low .now)
+
+found : (c : tie.After-lowest-whole) → c .lowest-whole .result ≡ node c
+unfolding nodeOf
+found c = simp (nodes-is (begun c), size-is (begun c)) at (c .lowest-whole .ensures)
+
+inside : (c : tie.After-lowest-whole) → let i = begun c .args .m .index in c .lowest-whole .result * 2 ^ i + 2 ^ i ≤ 4096
+inside c =
+    let s = begun c in
+    let i = s .args .m .index in
+    let below : c .lowest-whole .result < 2 ^ (s .args .k - i) = omega (arith, found c, s .pre .1 .1) in
+    omega (arith, mul-le-mul-right (2 ^ i) below, suc-mul (c .lowest-whole .result) (2 ^ i), all-is s)
+
+mul-at : tie.Need-mul-at
+mul-at c = rw (size-is (begun c)) (omega (arith, inside c))
 
 cast-give : tie.Need-cast-give
-cast-give c = search needs
+cast-give c = omega arith
 
 give-requires : tie.Need-give-requires
 give-requires c κs =
-    let w = c .before .before .before in
+    let w = c .before .before in
     let s = begun w in
-    let e = leads-end (found w) in
-    rw (size-is s) ((pow-pos (s .args .m .index), (e .1, omega (arith, e .2, few s .0))), (s .pre .1 .0 .0, s .pre .1 .0 .1 .0))
+    rw (size-is s) (omega (arith, inside w, s .pre .1 .0 .0))
+
+add-note-lows : tie.Need-add-note-lows
+add-note-lows c =
+    let w = c .before .before .before .before .before .before in
+    rw (size-is (begun w)) (omega (arith, inside w))
+
+note-lows-requires : tie.Need-note-lows-requires
+note-lows-requires c κs =
+    let w = c .before .before .before .before .before .before in
+    let s = begun w in
+    rw (size-is s) (omega arith, (omega arith, (omega (arith, inside w), omega (arith, inside w))))
 
 suffix-at-requires : tie.Need-suffix-at-requires
 suffix-at-requires c κs =
-    let w = c .before .before .before .before .before .before .before .before in
+    let w = c .before .before .before .before .before .before .before .before .before in
     let s = begun w in
-    let e = leads-end (found w) in
-    (s .pre .0 .0, (omega (arith, e .1, e .2, pow-pos (s .args .m .index)), s .pre .1 .0 .1 .1))
+    (omega arith, (omega (arith, found w, s .pre .1 .1), s .pre .1 .0 .1 .1))
 
 same-length : tie.Need-same-length
 same-length c = search needs
@@ -69,13 +108,19 @@ same-length-2 c = search needs
 
 returns : tie.Need-returns
 returns c =
-    let g = c .before .before .before .before .before in
-    let w = g .before .before .before .before in
+    let n = c .before .before .before in
+    let g = n .before .before .before .before in
+    let w = g .before .before .before in
+    let a = begun w .args in
+    let i = a .m .index in
     record {
-      at = w .lowest-whole .result;
-      found = found w;
-      given = simp (size-is (begun w)) at (g .give .ensures);
-      is = c .suffix-at .ensures;
+      given =
+          subst (λ (x : ℕ). Given (x * 2 ^ i) (2 ^ i) (a .m .receiver) (a .holder .now) (g .give .last .0)) (found w)
+          (simp (size-is (begun w)) at (g .give .ensures));
+      lows =
+          subst (λ (x : ℕ). n .note-lows .last .0 ≡ lowered (a .low .now) (a .m .giver) (a .m .receiver) (x * 2 ^ i) (x * 2 ^ i + 2 ^ i)) (found w)
+          (simp (size-is (begun w)) at (n .note-lows .ensures));
+      is = c .suffix-at .ensures ∙ ap (place (a .k - i)) (found w);
     }
 
 pub hand-over-spec : {M : Type 1} → statement M
@@ -83,11 +128,19 @@ hand-over-spec =
     tie.close
     (tie.spec
     shl-size
+    sub-len
+    mul-from
+    slice-read-from
+    cast-from
+    shr-from
     shl-lowest-whole
     cast-lowest-whole
     lowest-whole-requires
+    mul-at
     cast-give
     give-requires
+    add-note-lows
+    note-lows-requires
     suffix-at-requires
     same-length
     same-length-2

@@ -1,102 +1,118 @@
--- `holders::lowest_whole` meets its contract. The outer loop's invariant: the walks from the start and from `at` come to the same run. The inner one's: it is at its node's start, or past the node, which the giver holds.
-use Prim.Native.Nat.{ℕ, _+_, _-_, _≤_, _<_}
-use mathlib.Core.Path.{_≡_, refl, ap, sym, _∙_, subst}
+-- `holders::lowest_whole` meets its contract. The outer loop's invariant: no node passed is the giver's. The inner one's: the giver holds the node's suffixes from `left` on.
+use Prim.Native.Nat.{ℕ, _+_, _-_, _*_, _≤_, _<_}
+use mathlib.Core.Bool.{false}
+use mathlib.Core.Logic.{_≢_}
+use mathlib.Core.Path.{_≡_, refl, ap, sym, _∙_}
+use native.Mathlib.Decide.{ℕ-discrete}
+use native.Mathlib.Nat.{suc-mul, mul-le-mul-right}
 use native.Mathlib.Omega.{arith}
 use lib.ListN.{getD}
-use Rattle.expansion.specs.Kept.{Leads}
-use Rattle.expansion.proofs.Runs.{leads-inside, leads-here, leads-on}
+use Rattle.expansion.specs.Kept.{heldBy}
+use Rattle.expansion.proofs.Holdings.{held-not, held-all, lowest-is}
 use Rattle.expansion.proofs.holders.lowest_whole.Statement.{statement}
 use Rattle.expansion.proofs.holders.lowest_whole.Tie as tie
 
 abbrev Inv-loop : tie.InvT-loop
-Inv-loop holder run all size giver found at₀ s₀ at s =
-    (at ≡ at₀) × (s < at + size → s ≡ at) × (at < s → getD holder at 0 ≡ giver)
+Inv-loop holder from nodes size giver node₀ at left₀ node left =
+    (node ≡ node₀) × (left ≤ size) × ((i : ℕ) → left ≤ i → i < size → getD holder (at + i) 0 ≡ giver)
 
 abbrev μ-loop : tie.MeasureT-loop
-μ-loop holder run all size giver found at₀ s₀ at s = at + size - s
+μ-loop holder from nodes size giver node₀ at left₀ node left = left
 
 abbrev Inv-nodes : tie.InvT-nodes
-Inv-nodes holder run all size giver found₀ at₀ found at =
-    (r : ℕ) × Leads holder run giver size all 0 r × Leads holder run giver size all at r
+Inv-nodes holder from nodes size giver node₀ node =
+    (from ≤ node) × (node - from ≤ nodes - from) × ((j : ℕ) → from ≤ j → j < node → heldBy holder size giver j ≡ false)
 
 abbrev μ-nodes : tie.MeasureT-nodes
-μ-nodes holder run all size giver found₀ at₀ found at = all - at
+μ-nodes holder from nodes size giver node₀ node = nodes - node
+
+-- what holds at one place and at all others asked for
+one-more : {A : Type 0} {v : A} (f : ℕ → A) (i j : ℕ) → f i ≡ v → (j ≢ i → f j ≡ v) → f j ≡ v
+one-more {A} {v} f i j here else = go (ℕ-discrete j i)
+  where
+    go : Dec (j ≡ i) → f j ≡ v
+    go (yes e) = ap f e ∙ here
+    go (no d) = else d
 
 nodes-holds : tie.Need-nodes-holds Inv-loop μ-loop Inv-nodes μ-nodes
-nodes-holds c = (c .pre .1 .0, c .pre .1 .1, c .pre .1 .1)
+nodes-holds c = (omega arith, omega arith, λ j l m. absurd (omega arith))
+
+-- a node below the last is inside
+inside : (c : tie.In-nodes Inv-loop μ-loop Inv-nodes μ-nodes)
+    → let a = c .before .before .args in c .before .nodes .node * a .size + a .size ≤ a .nodes * a .size
+inside c =
+    let a = c .before .before .args in
+    omega (arith, mul-le-mul-right (a .size) (c .nodes-test .taken), suc-mul (c .before .nodes .node) (a .size))
+
+mul-at : tie.Need-mul-at Inv-loop μ-loop Inv-nodes μ-nodes
+mul-at c = omega (arith, inside c)
 
 loop-holds : tie.Need-loop-holds Inv-loop μ-loop Inv-nodes μ-nodes
-loop-holds c = (refl, λ m. refl, λ m. absurd (omega arith))
+loop-holds c = (refl, omega arith, λ i l m. absurd (omega arith))
 
-add-loop : tie.Need-add-loop Inv-loop μ-loop Inv-nodes μ-nodes
-add-loop c = omega arith
+add-if1 : tie.Need-add-if1 Inv-loop μ-loop Inv-nodes μ-nodes
+add-if1 c = omega (arith, inside (c .before .before))
 
--- the walk from where the inner loop is
-walk : (c : tie.In-loop Inv-loop μ-loop Inv-nodes μ-nodes)
-    → let a = c .before .before .before .before .args in
-    Leads (a .holder .now) (a .run .now) (a .giver) (a .size) (a .all) (c .before .loop .s) (c .before .before .before .nodes .inv .0)
-walk c =
-    let a = c .before .before .before .before .args in
-    let o = c .before .before .before .nodes in
-    let l = c .before .loop in
-    subst (λ (x : ℕ). Leads (a .holder .now) (a .run .now) (a .giver) (a .size) (a .all) x (o .inv .0))
-    (sym (l .inv .1 (c .loop-test .taken) ∙ l .inv .0)) (o .inv .2)
+sub-if1 : tie.Need-sub-if1 Inv-loop μ-loop Inv-nodes μ-nodes
+sub-if1 c = omega arith
 
-inside : (c : tie.In-loop Inv-loop μ-loop Inv-nodes μ-nodes) → c .before .loop .s < c .before .before .before .before .args .all
-inside c = leads-inside (c .before .before .before .before .pre .0 .1 .0) (walk c)
-
-mul-len : tie.Need-mul-len Inv-loop μ-loop Inv-nodes μ-nodes
-mul-len c = omega (arith, inside c)
-
-shared-slice-read-len : tie.Need-shared-slice-read-len Inv-loop μ-loop Inv-nodes μ-nodes
-shared-slice-read-len c = omega (arith, inside (c .before))
-
-cast-len : tie.Need-cast-len Inv-loop μ-loop Inv-nodes μ-nodes
-cast-len c = omega (arith, c .shared-slice-known .given (c .before .before .loop .s))
+mul-if1 : tie.Need-mul-if1 Inv-loop μ-loop Inv-nodes μ-nodes
+mul-if1 c = omega (arith, inside (c .before .before))
 
 shared-slice-read-if1 : tie.Need-shared-slice-read-if1 Inv-loop μ-loop Inv-nodes μ-nodes
-shared-slice-read-if1 c = omega (arith, inside (c .before .before))
+shared-slice-read-if1 c = omega (arith, inside (c .before .before .before))
 
-add-at : tie.Need-add-at Inv-loop μ-loop Inv-nodes μ-nodes
-add-at c = let w = leads-on (walk (c .before .before .before)) (c .if1 .taken) in omega (arith, w .1)
+add-node : tie.Need-add-node Inv-loop μ-loop Inv-nodes μ-nodes
+add-node c = omega arith
 
 nodes-less : tie.Need-nodes-less Inv-loop μ-loop Inv-nodes μ-nodes
-nodes-less c =
-    let w = leads-on (walk (c .before .before .before)) (c .if1 .taken) in
-    let l = c .before .before .before .before .loop in
-    let at-start : l .s ≡ l .at = l .inv .1 (c .before .before .before .loop-test .taken) in
-    omega (arith, w .0)
+nodes-less c = omega arith
 
 nodes-again : tie.Need-nodes-again Inv-loop μ-loop Inv-nodes μ-nodes
 nodes-again c =
-    let o = c .before .before .before .before .before .before .nodes in
-    (o .inv .0, o .inv .1, leads-on (walk (c .before .before .before)) (c .if1 .taken) .2)
+    let a = c .before .before .before .before .before .before .args in
+    let o = c .before .before .before .before .before .nodes in
+    let l = c .before .before .before .loop in
+    let i : ℕ = l .left - 1 in
+    let place : o .node * a .size + l .left - 1 ≡ o .node * a .size + i = omega arith in
+    let mixed : heldBy (a .holder .now) (a .size) (a .giver) (o .node) ≡ false =
+    held-not (a .holder .now) (a .size) (a .giver) (o .node) i (omega arith)
+    (λ e. c .if1 .taken (ap (λ (x : ℕ). getD (a .holder .now) x 0) place ∙ e)) in
+    (omega arith, omega arith, λ j m n. one-more (heldBy (a .holder .now) (a .size) (a .giver)) (o .node) j mixed (λ x. o .inv .2 j m (omega arith)))
 
-add-s : tie.Need-add-s Inv-loop μ-loop Inv-nodes μ-nodes
-add-s c = let w = leads-here (walk (c .before .before .before)) (c .if1 .left) in omega (arith, w .2)
+sub-left : tie.Need-sub-left Inv-loop μ-loop Inv-nodes μ-nodes
+sub-left c = omega arith
 
 loop-less : tie.Need-loop-less Inv-loop μ-loop Inv-nodes μ-nodes
-loop-less c = let w = leads-here (walk (c .before .before .before)) (c .if1 .left) in omega (arith, w .1)
+loop-less c = omega arith
 
 loop-again : tie.Need-loop-again Inv-loop μ-loop Inv-nodes μ-nodes
 loop-again c =
-    let a = c .before .before .before .before .before .before .before .args in
-    let l = c .before .before .before .before .loop in
-    let at-start : l .s ≡ l .at = l .inv .1 (c .before .before .before .loop-test .taken) in
-    let w = leads-here (walk (c .before .before .before)) (c .if1 .left) in
-    (l .inv .0, λ m. absurd (omega (arith, w .1)), λ m. ap (λ (x : ℕ). getD (a .holder .now) x 0) (sym at-start) ∙ c .if1 .left)
+    let a = c .before .before .before .before .before .before .args in
+    let o = c .before .before .before .before .before .nodes in
+    let l = c .before .before .before .loop in
+    let place : o .node * a .size + l .left - 1 ≡ o .node * a .size + (l .left - 1) = omega arith in (
+      l .inv .0,
+      omega arith,
+      λ i m n.
+          one-more (λ (x : ℕ). getD (a .holder .now) (o .node * a .size + x) 0) (l .left - 1) i
+          (ap (λ (x : ℕ). getD (a .holder .now) x 0) (sym place) ∙ c .if1 .left) (λ d. l .inv .2 i (omega arith) n),
+    )
 
 returns : tie.Need-returns Inv-loop μ-loop Inv-nodes μ-nodes
-returns c = absurd (omega (arith, leads-inside (c .before .before .pre .0 .1 .0) (c .before .nodes .inv .2)))
+returns c =
+    let a = c .before .before .args in
+    let o = c .before .nodes in
+    lowest-is (a .holder .now) (a .size) (a .giver) (a .from) (a .nodes) (o .node) (o .inv .0) (o .inv .1) (o .inv .2) (λ l. absurd (omega arith))
 
 returns-2 : tie.Need-returns-2 Inv-loop μ-loop Inv-nodes μ-nodes
 returns-2 c =
     let a = c .before .before .before .before .args in
     let o = c .before .before .before .nodes in
     let l = c .before .loop in
-    let held : getD (a .holder .now) (o .at) 0 ≡ a .giver = ap (λ (x : ℕ). getD (a .holder .now) x 0) (sym (l .inv .0)) ∙ l .inv .2 (omega arith) in
-    subst (λ (x : ℕ). Leads (a .holder .now) (a .run .now) (a .giver) (a .size) (a .all) 0 x)
-    (sym (l .inv .0 ∙ leads-here (o .inv .2) held .0)) (o .inv .1)
+    l .inv .0
+    ∙ lowest-is (a .holder .now) (a .size) (a .giver) (a .from) (a .nodes) (o .node) (o .inv .0) (o .inv .1) (o .inv .2)
+    (λ m. held-all (a .holder .now) (a .size) (a .giver) (o .node) (λ i n. l .inv .2 i (omega arith) n))
 
 pub lowest-whole-spec : {M : Type 1} → statement M
 lowest-whole-spec =
@@ -107,16 +123,16 @@ lowest-whole-spec =
     Inv-nodes
     μ-nodes
     nodes-holds
+    mul-at
     loop-holds
-    add-loop
-    mul-len
-    shared-slice-read-len
-    cast-len
+    add-if1
+    sub-if1
+    mul-if1
     shared-slice-read-if1
-    add-at
+    add-node
     nodes-less
     nodes-again
-    add-s
+    sub-left
     loop-less
     loop-again
     returns

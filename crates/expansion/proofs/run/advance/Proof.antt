@@ -8,7 +8,7 @@ use borrow.Author.Needs.{needs}
 use Rattle.expansion.specs.Answer.{unit}
 use Rattle.expansion.specs.Steps.{frame, newRule, after}
 use Rattle.expansion.specs.Kept.{Small, errorAt, nextFor}
-use Rattle.expansion.specs.declared.run.Move.{Move}
+use Rattle.expansion.specs.declared.rule.Move.{Move}
 use Rattle.expansion.specs.declared.run.Next.the-variants.{Go}
 use Rattle.expansion.proofs.Powers.{pow-few, shifted}
 use Rattle.expansion.proofs.Ready.{Ready, movedBy, next-fewer}
@@ -19,11 +19,11 @@ use Rattle.expansion.proofs.run.advance.Tie as tie
 
 ready : (s : tie.Start)
     → let a = s .args in
-    Ready (a .k) (a .tolerance) (a .weights .now) (a .holder .now) (a .run .now)
+    Ready (a .k) (a .tolerance) (a .weights .now) (a .holder .now) (a .low .now)
     (after (frame (a .k) unit (a .tolerance) (a .weights .now)) (a .state .count - 1)) (a .state .ledger) (a .m)
 ready s =
     let a = s .args in
-    ready-go (a .k) (a .tolerance) (a .weights .now) (s .pre .0 .0) (a .holder .now) (a .run .now) (a .state) (s .pre .0 .1 .0) (a .m) (s .pre .1 .1)
+    ready-go (a .k) (a .tolerance) (a .weights .now) (s .pre .0 .0) (a .holder .now) (a .low .now) (a .state) (s .pre .0 .1 .0) (a .m) (s .pre .1 .1)
 
 smalls : (s : tie.Start) (b : ℕ) → b < length (s .args .weights .now) → Small (errorAt (s .args .state .ledger) b)
 smalls s =
@@ -112,20 +112,20 @@ returns c =
     let next = surveyed-next (M .moved .result) (length (a .weights .now)) (w .survey-of .result) S (a .k) (a .tolerance) (a .k - 1) in
     let falls : (x : Move) → nextFor (w .survey-of .result .give) (w .survey-of .result .take) (a .k) (a .tolerance) (a .k - 1) ≡ Go x → x .index ≤ a .m .index =
     λ x h.
-    index-falls (a .k) (a .tolerance) (a .weights .now) (s .pre .0 .0) (a .holder .now) (a .run .now) (a .state) (s .pre .0 .1 .0) (a .m) (s .pre .1 .1)
+    index-falls (a .k) (a .tolerance) (a .weights .now) (s .pre .0 .0) (a .holder .now) (a .low .now) (a .state) (s .pre .0 .1 .0) (a .m) (s .pre .1 .1)
     (M .moved .result) (moved-at M) x (sym next ∙ h) in
     let g = M .before .before .before .before .before .before in
     let H = g .hand-over .ensures in (
-      stands-moved (a .k) (a .tolerance) (a .weights .now) (s .pre .0 .0) (a .holder .now) (a .run .now) (a .state) (s .pre .0 .1 .0) (a .m) (s .pre .1 .1)
-          (H .at) (H .found) (g .hand-over .last .0) (g .hand-over .last .1 .0) (H .given)
+      stands-moved (a .k) (a .tolerance) (a .weights .now) (s .pre .0 .0) (a .holder .now) (a .low .now) (a .state) (s .pre .0 .1 .0) (a .m) (s .pre .1 .1)
+          (g .hand-over .result) (g .hand-over .last .0) (g .hand-over .last .1 .0) H
           (M .moved .result) (moved-at M)
           (w .survey-of .result .imbalance) (S .imbalance)
           (c .decide .result) (c .decide .ensures ∙ next-fewer (w .survey-of .result .give) (w .survey-of .result .take) (a .k) (a .tolerance) (a .k - 1) (a .m .index) (ready s .index) falls ∙ next)
           (record { len = a .k - a .m .index; value = g .hand-over .result; backend = a .m .receiver }),
       (
         refl,
-        adds-rule (a .k) (a .tolerance) (a .weights .now) (s .pre .0 .0) (a .holder .now) (a .run .now) (a .state) (s .pre .0 .1 .0) (a .m) (s .pre .1 .1)
-            (H .at) (H .found) (g .hand-over .result) (H .is),
+        adds-rule (a .k) (a .tolerance) (a .weights .now) (s .pre .0 .0) (a .holder .now) (a .low .now) (a .state) (s .pre .0 .1 .0) (a .m) (s .pre .1 .1)
+            (g .hand-over .result) (H .is),
       ),
     )
 

@@ -2,7 +2,7 @@
 use Prim.Native.Nat.{ℕ, _+_, _-_, _≤_, _<_}
 use mathlib.Core.Path.{_≡_, ap, sym, _∙_, subst}
 use native.Mathlib.Omega.{arith}
-use lib.ListN.{length, length-set, length-replicate}
+use lib.ListN.{length, set, replicate, length-set, length-replicate}
 use borrow.Author.Needs.{needs}
 use Rattle.expansion.specs.Imbalance.{imbalance}
 use Rattle.expansion.specs.Steps.{frame, after}
@@ -17,12 +17,12 @@ use Rattle.expansion.proofs.run.make_list.Statement.{statement}
 use Rattle.expansion.proofs.run.make_list.Tie as tie
 
 abbrev Inv-loop : tie.InvT-loop
-Inv-loop k tolerance budget weights places first all holder₀ run₀ state₀ list₀ holder run state list =
-    Stands k tolerance weights holder run state × Listed k tolerance weights list
+Inv-loop k tolerance budget weights places first all holder₀ low₀ state₀ list₀ holder low state list =
+    Stands k tolerance weights holder low state × Listed k tolerance weights list
     × (state .count ≡ list .count) × (list .count ≤ budget) × (length (list .rules) ≡ 32) × (length (list .stairs) ≡ 32)
 
 abbrev μ-loop : tie.MeasureT-loop
-μ-loop k tolerance budget weights places first all holder₀ run₀ state₀ list₀ holder run state list = budget - list .count
+μ-loop k tolerance budget weights places first all holder₀ low₀ state₀ list₀ holder low state list = budget - list .count
 
 all-places-requires : tie.Need-all-places-requires Inv-loop μ-loop
 all-places-requires c κs = search needs
@@ -33,16 +33,25 @@ heaviest-requires c κs = c .before .before .pre .0 .someone
 shl-all : tie.Need-shl-all Inv-loop μ-loop
 shl-all c = omega (arith, c .before .before .before .pre .0 .few-bits)
 
-cast-holder : tie.Need-cast-holder Inv-loop μ-loop
-cast-holder c =
+first-in : (c : tie.After-heaviest Inv-loop μ-loop) → c .heaviest .result < 32
+first-in c =
     let s = c .before .before .before in
     omega (arith, c .heaviest .ensures, first-lt (s .args .k) (s .args .tolerance) (s .args .weights .now) (s .pre .0), s .pre .0 .few)
 
-cast-run : tie.Need-cast-run Inv-loop μ-loop
-cast-run c =
+cast-holder : tie.Need-cast-holder Inv-loop μ-loop
+cast-holder c = omega (arith, first-in c)
+
+cast-low : tie.Need-cast-low Inv-loop μ-loop
+cast-low c =
     let s = c .before .before .before in
     let few = s .pre .0 .few-bits in
     omega (arith, shifted (s .args .k) few, pow-few (s .args .k) few)
+
+mul-low : tie.Need-mul-low Inv-loop μ-loop
+mul-low c = omega (arith, first-in c)
+
+array-write-low : tie.Need-array-write-low Inv-loop μ-loop
+array-write-low c = first-in c
 
 begin-requires : tie.Need-begin-requires Inv-loop μ-loop
 begin-requires c κs = (c .before .before .before .pre .0, c .heaviest .ensures)
@@ -59,7 +68,8 @@ loop-holds c =
     let b = c .before .before .begin in
     let stair : b .result .imbalance ≡ imbalance F (after F 0) = b .ensures .0 .stair ∙ ap (λ (n : ℕ). imbalance F (after F (n - 1))) (b .ensures .1 .0) in
     let is = c .of-one .ensures in (
-      rw (shifted (a .k) (s .pre .0 .few-bits)) (b .ensures .0),
+      subst (λ (n : ℕ). Stands (a .k) (a .tolerance) (a .weights .now) (replicate 4096 (h .heaviest .result)) (set (replicate 32 n) (h .heaviest .result) 0) (b .result))
+          (sym (shifted (a .k) (s .pre .0 .few-bits))) (b .ensures .0),
       subst (Listed (a .k) (a .tolerance) (a .weights .now)) (sym is)
           (listed-one (a .k) (a .tolerance) (a .weights .now) (s .pre .0) (h .heaviest .result) (h .heaviest .ensures)
           (b .result .rule) (b .ensures .1 .1) (b .result .imbalance) stair),
@@ -80,7 +90,7 @@ returns c =
     let b = c .before .before .before in
     let l = b .before .loop in
     let s = b .before .before .before .before .before .before .before .before in
-    made-ended (s .args .k) (s .args .tolerance) (s .args .weights .now) (s .pre .0) (l .holder) (l .run) (l .state) (l .inv .0)
+    made-ended (s .args .k) (s .args .tolerance) (s .args .weights .now) (s .pre .0) (l .holder) (l .low) (l .state) (l .inv .0)
     (l .list) (l .inv .1) (l .inv .2) (s .args .budget) (l .inv .3) (c .before .next .given .0 .0) (sym (b .in-budget .ensures) ∙ c .before .next .given .1)
 
 enum-known-next-2 : tie.Need-enum-known-next-2 Inv-loop μ-loop
@@ -174,7 +184,9 @@ make-list-spec =
     heaviest-requires
     shl-all
     cast-holder
-    cast-run
+    cast-low
+    mul-low
+    array-write-low
     begin-requires
     of-one-requires
     loop-holds
