@@ -8,4 +8,3 @@ pub mod Cases
 pub mod Refusals
 pub mod Answer
 pub mod Kept
-pub mod Counting

@@ -6,7 +6,6 @@ mod list;
 mod refusal;
 mod rule;
 mod run;
-mod shares;
 mod term;
 
 pub use call::Checked;
@@ -18,5 +17,3 @@ pub use refusal::refusal_number;
 pub use rule::Ended;
 pub use rule::Record;
 pub use rule::Rule;
-pub use shares::Counted;
-pub use shares::count_shares;

@@ -186,7 +186,7 @@ by-matches old new p q n =
     rw (has-match old p n 0, has-match new q n 0)
     (by-less 0 n
     (λ h.
-    let same : moved old new (n - 1) ≡ movedOf (old .k) (old .lines) (new .lines) n =
+    let same : moved old new (n - 1) ≡ movedOf (2 ^ (old .k)) (old .lines) (new .lines) n =
     count-ext (2 ^ (old .k)) _ _ (λ v l. rw (of-number (old .lines) n v h, of-number (new .lines) n v h)) in
     rw same)
     (λ h. rw (of-zero (old .lines) n 0 h)))

@@ -23,6 +23,7 @@ pub mod TableHanded
 pub mod OneCall
 pub mod HadTables
 pub mod Steps
+pub mod Sharing
 pub mod Memory
 pub mod Packable
 pub mod Cases
