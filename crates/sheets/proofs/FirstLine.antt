@@ -166,7 +166,7 @@ pub of-number : (ls : List Line) (n v : ℕ) → 0 < n → firstOf ls n v ≡ fi
 unfolding firstOf
 of-number ls n v h = rw (lt-ltb 0 n h)
 
-of-zero : (ls : List Line) (n v : ℕ) → n ≤ 0 → firstOf ls n v ≡ 0
+pub of-zero : (ls : List Line) (n v : ℕ) → n ≤ 0 → firstOf ls n v ≡ 0
 unfolding firstOf
 of-zero ls n v h = rw (le-ltb 0 n h)
 

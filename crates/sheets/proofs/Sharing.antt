@@ -11,7 +11,7 @@ use lib.ListN.{length, getD, set, take, replicate, length-set, length-replicate,
 use lib.Seq.{take-suc, take-all, getD-set-same, getD-set-other}
 use borrow.Author.Tests.{ltb-true, eq-eqb, ne-eqb}
 use Rattle.numerals.specs.Pick.{pick}
-use Rattle.numerals.proofs.Choice.{both-left}
+use Rattle.numerals.proofs.Choice.{both-left, by-less}
 use Rattle.expansion.specs.Sums.{sumTo, countTo}
 use Rattle.expansion.specs.FirstMatch.{gives, share}
 use Rattle.expansion.specs.Sound.{Complete}
@@ -30,7 +30,7 @@ use Rattle.sheets.specs.declared.answer.Counted.the-variants.{Shares, Re
 use Rattle.sheets.specs.declared.rule_sheet.TableHead.{TableHead}
 use Rattle.sheets.proofs.Steps.{sum-more}
 use Rattle.sheets.proofs.TableChecks.{InOrder, formed, Proper}
-use Rattle.sheets.proofs.FirstLine.{first-gives, gives-first, has-match, of-number}
+use Rattle.sheets.proofs.FirstLine.{first-gives, gives-first, has-match, of-number, of-zero}
 use Rattle.sheets.proofs.HadTables.{Had}
 
 -- counts that are f 0, f 1, ..
@@ -136,6 +136,10 @@ shares-sum t p n h =
           sym (gives-own (t .lines) s v b) ∙ first-gives s v b (t .lines) is,
         )
 
+-- a service with a first match has a number from 1
+pub numbered : {r : ℕ} (ls : List Line) (n v : ℕ) → r ≡ firstOf ls n v → 0 < r → 0 < n
+numbered ls n v e h = by-less 0 n (λ some. some) (λ none. absurd (omega (arith, of-zero ls n v none)))
+
 -- what a caller has of the shares of a sheet that was read
 module _ (text : List ℕ) (h : TableHead) (numbers : List ℕ) (H : Had text h numbers) (n : ℕ) where
   bits : h .k ≡ H .table .k
@@ -148,9 +152,9 @@ module _ (text : List ℕ) (h : TableHead) (numbers : List ℕ) (H : Had text h 
   unfolding countAnswer countIn
   had-answer room = rw (H .read, has-match (H .table) (H .proper) n 0, H .lines, bits)
 
-  pub had-shares : sharesBelow (2 ^ (h .k)) (linesIn numbers (h .n)) (n - 1) ≡ textOf (readTable text) (λ t. sharesOf t n)
+  pub had-shares : (all : ℕ) → all ≡ 2 ^ (h .k) → sharesBelow all (linesIn numbers (h .n)) (n - 1) ≡ textOf (readTable text) (λ t. sharesOf t n)
   unfolding sharesOf
-  had-shares = rw (H .read, H .lines, bits)
+  had-shares all e = rw (e, H .read, H .lines, bits)
 
   pub had-few : 0 < n → (v : ℕ) → firstOf (linesIn numbers (h .n)) n v ≤ 32
   had-few positive v =
