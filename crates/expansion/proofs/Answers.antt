@@ -13,8 +13,8 @@ use Rattle.expansion.specs.Steps.{frame, stair, stairsTo}
 use Rattle.expansion.specs.Answer.{unit, checkCall, listMade, stairsMade, recordMade, answer}
 use Rattle.expansion.specs.Kept.{Made}
 use Rattle.expansion.specs.declared.rule.Rule.{Rule}
-use Rattle.expansion.specs.declared.refusal.Refusal.{Refusal}
-use Rattle.expansion.specs.declared.refusal.Refusal.the-variants.{ShortLoan}
+use Rattle.numerals.specs.declared.refusal.Refusal.{Refusal}
+use Rattle.numerals.specs.declared.refusal.Refusal.the-variants.{ShortLoan}
 use Rattle.expansion.specs.declared.run.Run.{Run}
 use Rattle.expansion.specs.declared.call.Checked.the-variants.{Sound as Passed, Refused as Turned}
 use Rattle.expansion.specs.declared.call.Expanded.the-variants.{Made as Answered, Refused}

@@ -13,8 +13,8 @@ use Rattle.expansion.specs.Steps.{frame}
 use Rattle.expansion.specs.Sound.{Sound}
 use Rattle.expansion.specs.Answer.{unit, andThen, orElse, inLimits, checkWeights, checkCall}
 use Rattle.expansion.specs.Kept.{Valid}
-use Rattle.expansion.specs.declared.refusal.Refusal.{Refusal}
-use Rattle.expansion.specs.declared.refusal.Refusal.the-variants.{BadField, Unbalanced, TooMany}
+use Rattle.numerals.specs.declared.refusal.Refusal.{Refusal}
+use Rattle.numerals.specs.declared.refusal.Refusal.the-variants.{BadField, Unbalanced, TooMany}
 use Rattle.expansion.specs.declared.call.Checked.{Checked}
 use Rattle.expansion.specs.declared.call.Checked.the-variants.{Sound as Passed, Refused as Turned}
 use Rattle.expansion.proofs.Bounds.{weight-le}

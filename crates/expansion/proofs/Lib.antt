@@ -7,7 +7,6 @@ pub mod Count
 pub mod Balance
 pub mod Within
 pub mod Reduction
-pub mod Refusals
 pub mod NoGain
 pub mod Bounds
 pub mod Moves

@@ -10,8 +10,8 @@ use Rattle.expansion.specs.Sums.{sumTo, allTo}
 use Rattle.expansion.specs.Steps.{frame, listOf, endOf, stairsTo}
 use Rattle.expansion.specs.declared.rule.Rule.{Rule}
 use Rattle.expansion.specs.declared.rule.Record.{Record}
-use Rattle.expansion.specs.declared.refusal.Refusal.{Refusal}
-use Rattle.expansion.specs.Refusals.{no}
+use Rattle.numerals.specs.declared.refusal.Refusal.{Refusal}
+use Rattle.numerals.specs.Refusals.{no2, no3, no4, no7}
 use Rattle.expansion.specs.declared.call.Checked.{Checked}
 use Rattle.expansion.specs.declared.call.Checked.the-variants.{Sound as Passed, Refused as Turned}
 use Rattle.expansion.specs.declared.call.Expanded.{Expanded}
@@ -43,17 +43,17 @@ inLimits least most x = both (leb least x) (leb x most)
 -- backends (0 is 2, a 33rd is 4), then each weight, then the sum
 unfoldable pub checkWeights : List ℕ → Checked
 checkWeights ws =
-    andThen (orElse (ltb 0 (length ws)) (no 2))
-    (andThen (orElse (leb (length ws) 32) (no 4))
-    (andThen (orElse (allTo (length ws) (λ b. leb (getD ws b 0) unit)) (no 2))
-    (orElse (eqb (sumTo (length ws) (λ b. getD ws b 0)) unit) (no 3))))
+    andThen (orElse (ltb 0 (length ws)) no2)
+    (andThen (orElse (leb (length ws) 32) no4)
+    (andThen (orElse (allTo (length ws) (λ b. leb (getD ws b 0) unit)) no2)
+    (orElse (eqb (sumTo (length ws) (λ b. getD ws b 0)) unit) no3)))
 
 -- k, tolerance, budget, then the weights
 unfoldable pub checkCall : ℕ → ℕ → ℕ → List ℕ → Checked
 checkCall k tolerance budget ws =
-    andThen (orElse (inLimits 1 12 k) (no 2))
-    (andThen (orElse (leb tolerance unit) (no 2))
-    (andThen (orElse (inLimits 1 32 budget) (no 2))
+    andThen (orElse (inLimits 1 12 k) no2)
+    (andThen (orElse (leb tolerance unit) no2)
+    (andThen (orElse (inLimits 1 32 budget) no2)
     (checkWeights ws)))
 
 -- the list of a call
@@ -76,7 +76,7 @@ recordMade k tolerance budget ws =
 unfoldable pub answer : ℕ → ℕ → ℕ → List ℕ → ℕ → ℕ → Expanded
 answer k tolerance budget ws at room =
     onChecked (checkCall k tolerance budget ws)
-    (pick (leb (at + length (listMade k tolerance budget ws)) room) (Made (recordMade k tolerance budget ws)) (Refused (no 7)))
+    (pick (leb (at + length (listMade k tolerance budget ws)) room) (Made (recordMade k tolerance budget ws)) (Refused no7))
 
 -- a lent buffer afterwards: the values from that position on, where the list was made; else as it was
 abbrev pub filled : Expanded → List ℕ → ℕ → List ℕ → List ℕ

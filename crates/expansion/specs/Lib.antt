@@ -5,6 +5,5 @@ pub mod Imbalance
 pub mod Steps
 pub mod Sound
 pub mod Cases
-pub mod Refusals
 pub mod Answer
 pub mod Kept

@@ -1,7 +1,7 @@
 // The expansion without a text, into lent buffers.
 use crate::list::RuleList;
-use crate::refusal::Refusal;
 use crate::rule::Record;
+use numerals::Refusal;
 ghost use mathlib.Core.Path.{_≡_};
 ghost use mathlib.Core.List.{map};
 ghost use Prim.Native.Nat.{_+_, _≤_, min};

@@ -4,9 +4,9 @@ use mathlib.Core.Path.{_≡_, sym, ap, _∙_, subst⁻¹}
 use mathlib.Core.List.{List}
 use native.Mathlib.Omega.{arith}
 use lib.ListN.{take}
-use Rattle.expansion.specs.Refusals.{numberOf}
-use Rattle.expansion.specs.declared.refusal.Refusal.{Refusal}
-use Rattle.expansion.specs.declared.refusal.Refusal.the-variants.{Malformed, BadField, Unbalanced, TooMany, NoService, TableShort, ShortLoan, UnknownService, Order, Miscount, TooLong, Depth}
+use Rattle.numerals.specs.Refusals.{numberOf}
+use Rattle.numerals.specs.declared.refusal.Refusal.{Refusal}
+use Rattle.numerals.specs.declared.refusal.Refusal.the-variants.{Malformed, BadField, Unbalanced, TooMany, NoService, TableShort, ShortLoan, UnknownService, Order, Miscount, TooLong, Depth}
 use Rattle.sheets.specs.Demand.{Demand3, owed}
 use Rattle.sheets.specs.declared.answer.Printed.{Printed}
 use Rattle.sheets.specs.declared.answer.Printed.the-variants.{End, Refused}

@@ -1,7 +1,7 @@
 -- The answers of crate `sheets` in plain numbers: 0 and a value, or document 01's number of a refusal and where it is.
 use Prim.Native.Nat.{ℕ}
 use mathlib.Core.List.{List}
-use Rattle.expansion.specs.Refusals.{no, numberOf}
+use Rattle.numerals.specs.Refusals.{numberOf}
 use Rattle.sheets.specs.PercentageSheet.{readSheet}
 use Rattle.sheets.specs.Calls.{printRead, sheetText}
 use Rattle.sheets.specs.declared.answer.Refused.{Refused}

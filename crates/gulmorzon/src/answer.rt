@@ -1,5 +1,5 @@
 // The answers of the exported calls, in plain numbers and laid out as C lays them out.
-use expansion::refusal_number;
+use numerals::refusal_number;
 use sheets::Churned;
 use sheets::Looked;
 use sheets::Planned;

@@ -1,5 +1,6 @@
 -- Laws that the functions' proofs and the crates above share.
 pub mod Choice
+pub mod Refusals
 pub mod Slice
 pub mod Lists
 pub mod Base

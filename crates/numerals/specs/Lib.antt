@@ -1,5 +1,6 @@
 -- What document 01 says of numbers, percentages, suffixes, fields and lines.
 pub mod Pick
+pub mod Refusals
 pub mod Digits
 pub mod Decimal
 pub mod Text

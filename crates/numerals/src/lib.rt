@@ -3,6 +3,7 @@ mod digits;
 mod numbers;
 mod percentages;
 mod places;
+mod refusal;
 mod suffixes;
 mod text;
 
@@ -13,6 +14,8 @@ pub use numbers::read_number;
 pub use numbers::write_number;
 pub use percentages::read_percentage;
 pub use places::all_places;
+pub use refusal::Refusal;
+pub use refusal::refusal_number;
 pub use suffixes::SuffixRead;
 pub use suffixes::read_suffix;
 pub use suffixes::suffix_place;

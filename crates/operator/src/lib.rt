@@ -69,7 +69,7 @@ pub fn print_number(n: usize) -> bool {
 pub fn print_refused(r: Refused) -> bool {
     let why = r.why;
     say(b"REFUSED ")
-        && print_number(expansion::refusal_number(why) as usize)
+        && print_number(numerals::refusal_number(why) as usize)
         && say(b" ")
         && print_number(r.line)
 }

@@ -9,8 +9,8 @@ use lib.ListN.{length, getD, take, drop, length-drop}
 use lib.Seq.{drop-cons, drop-drop, drop-length, length-take-le}
 use borrow.Author.Tests.{lt-ltb, le-ltb, lt-leb, le-leb, eq-eqb, leb-true, ltb-true, eqb-true}
 use Rattle.expansion.specs.Answer.{unit, andThen, orElse, inLimits, checkWeights}
-use Rattle.expansion.specs.declared.refusal.Refusal.{Refusal}
-use Rattle.expansion.specs.declared.refusal.Refusal.the-variants.{Malformed, BadField, TooMany, NoService, TableShort}
+use Rattle.numerals.specs.declared.refusal.Refusal.{Refusal}
+use Rattle.numerals.specs.declared.refusal.Refusal.the-variants.{Malformed, BadField, TooMany, NoService, TableShort}
 use Rattle.expansion.specs.declared.call.Checked.the-variants.{Sound as Passed, Refused as Turned}
 use Rattle.expansion.proofs.Checks.{both-passed, test-passed, limits, weights-passed, call-weights}
 use Rattle.expansion.proofs.Searches.{true-both}

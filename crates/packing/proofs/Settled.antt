@@ -6,7 +6,7 @@ use native.Mathlib.Omega.{arith}
 use lib.ListN.{length}
 use borrow.Author.Tests.{le-leb, lt-leb}
 use Rattle.expansion.specs.Sums.{sumTo}
-use Rattle.expansion.specs.declared.refusal.Refusal.{Refusal}
+use Rattle.numerals.specs.declared.refusal.Refusal.{Refusal}
 use Rattle.expansion.specs.declared.call.Checked.the-variants.{Sound as Passed, Refused as Turned}
 use Rattle.packing.specs.Grants.{total}
 use Rattle.packing.specs.Count.{services, volume}

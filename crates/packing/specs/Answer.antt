@@ -7,7 +7,7 @@ use lib.Seq.{sets}
 use Rattle.numerals.specs.Pick.{pick}
 use Rattle.expansion.specs.Answer.{unit, andThen, orElse, inLimits, checkWeights}
 use Rattle.expansion.specs.Steps.{endOf}
-use Rattle.expansion.specs.Refusals.{no}
+use Rattle.numerals.specs.Refusals.{no1, no2, no4, no5, no6}
 use Rattle.expansion.specs.declared.rule.Ended.{Ended}
 use Rattle.expansion.specs.declared.rule.Ended.the-variants.{Within, NoGain, Budget}
 use Rattle.expansion.specs.declared.call.Checked.{Checked}
@@ -30,39 +30,39 @@ servicesOf k volumes sizes ws = record { k = k; unit = unit; volumes = volumes; 
 -- one service: the number of its weights (none is 1, a 33rd is 4), the volume, the weights and their sum
 unfoldable pub checkService : ℕ → List ℕ → Checked
 checkService v ws =
-    andThen (orElse (ltb 0 (length ws)) (no 1))
-    (andThen (orElse (leb (length ws) 32) (no 4))
-    (andThen (orElse (leb v 10000) (no 2))
+    andThen (orElse (ltb 0 (length ws)) no1)
+    (andThen (orElse (leb (length ws) 32) no4)
+    (andThen (orElse (leb v 10000) no2)
     (checkWeights ws)))
 
 -- the services from s on; a row of weights that ends early or goes on is 1
 unfoldable pub checkFrom : List ℕ → ℕ → List ℕ → List ℕ → Checked
-checkFrom volumes s [] ws = orElse (eqb (length ws) 0) (no 1)
+checkFrom volumes s [] ws = orElse (eqb (length ws) 0) no1
 checkFrom volumes s (n ∷ ns) ws =
-    andThen (orElse (ltb s 64) (no 4))
-    (andThen (orElse (leb n (length ws)) (no 1))
+    andThen (orElse (ltb s 64) no4)
+    (andThen (orElse (leb n (length ws)) no1)
     (andThen (checkService (getD volumes s 0) (take n ws))
     (checkFrom volumes (suc s) ns (drop n ws))))
 
 unfoldable pub checkServices : List ℕ → List ℕ → List ℕ → Checked
 checkServices volumes sizes ws =
-    andThen (orElse (eqb (length volumes) (length sizes)) (no 1))
+    andThen (orElse (eqb (length volumes) (length sizes)) no1)
     (andThen (checkFrom volumes 0 sizes ws)
-    (orElse (ltb 0 (length sizes)) (no 5)))
+    (orElse (ltb 0 (length sizes)) no5))
 
 -- the first line: k, tolerance and capacity
 unfoldable pub checkHead : ℕ → ℕ → ℕ → Checked
 checkHead k tolerance capacity =
-    andThen (orElse (inLimits 1 12 k) (no 2))
-    (andThen (orElse (leb tolerance unit) (no 2))
-    (orElse (inLimits 1 2048 capacity) (no 2)))
+    andThen (orElse (inLimits 1 12 k) no2)
+    (andThen (orElse (leb tolerance unit) no2)
+    (orElse (inLimits 1 2048 capacity) no2))
 
 -- the first line, the services line by line, no service, and a capacity below their number
 unfoldable pub checkAll : ℕ → ℕ → ℕ → List ℕ → List ℕ → List ℕ → Checked
 checkAll k tolerance capacity volumes sizes ws =
     andThen (checkHead k tolerance capacity)
     (andThen (checkServices volumes sizes ws)
-    (orElse (leb (length sizes) capacity) (no 6)))
+    (orElse (leb (length sizes) capacity) no6))
 
 -- how a list ended, as a number
 abbrev pub endNumber : Ended → ℕ

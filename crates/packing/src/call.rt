@@ -1,6 +1,6 @@
 // The packing of services into one table, into lent buffers.
 use expansion::Checked;
-use expansion::Refusal;
+use numerals::Refusal;
 ghost use mathlib.Core.Path.{_≡_};
 ghost use lib.ListN.{length};
 ghost use Rattle.packing.specs.Answer as specified;

@@ -1,6 +1,6 @@
 // The numbers of a packing, checked in the order of the percentage sheet that would hold them.
 use expansion::Checked;
-use expansion::Refusal;
+use numerals::Refusal;
 ghost use mathlib.Core.Path.{_≡_};
 ghost use Rattle.packing.specs.Answer.{checkHead, checkService, checkServices, checkAll};
 

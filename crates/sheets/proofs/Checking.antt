@@ -7,8 +7,8 @@ use lib.Dec.{eqb}
 use lib.ListN.{length, replicate, length-replicate}
 use lib.Seq.{slice}
 use borrow.Author.Tests.{eq-eqb, ne-eqb}
-use Rattle.expansion.specs.declared.refusal.Refusal.{Refusal}
-use Rattle.expansion.specs.declared.refusal.Refusal.the-variants.{BadField, Order}
+use Rattle.numerals.specs.declared.refusal.Refusal.{Refusal}
+use Rattle.numerals.specs.declared.refusal.Refusal.the-variants.{BadField, Order}
 use Rattle.packing.specs.Count.{Line}
 use Rattle.sheets.specs.Reading.{got, turned, then, unless}
 use Rattle.sheets.specs.RuleSheet.{closed, isLine, checkLines}

@@ -12,7 +12,7 @@ use Rattle.numerals.specs.Pick.{pick, both}
 use Rattle.numerals.proofs.Choice.{both-right, both-false, by-less}
 use Rattle.expansion.specs.FirstMatch.{matches}
 use Rattle.expansion.proofs.Sums.{count-ext}
-use Rattle.expansion.specs.declared.refusal.Refusal.the-variants.{UnknownService}
+use Rattle.numerals.specs.declared.refusal.Refusal.the-variants.{UnknownService}
 use Rattle.packing.specs.Count.{Line, matchesLine, givesLine}
 use Rattle.sheets.specs.Reading.{got}
 use Rattle.sheets.specs.RuleSheet.{Table, countOf, inOrder, closed}

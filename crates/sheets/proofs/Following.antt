@@ -11,8 +11,8 @@ use lib.Seq.{getD-set-same, getD-set-other}
 use borrow.Author.Tests.{eqb-true, eqb-false, eq-eqb, ne-eqb, le-ltb, lt-ltb}
 use Rattle.numerals.specs.Pick.{pick, both}
 use Rattle.packing.specs.Count.{Line}
-use Rattle.expansion.specs.declared.refusal.Refusal.{Refusal}
-use Rattle.expansion.specs.declared.refusal.Refusal.the-variants.{TooMany, Order}
+use Rattle.numerals.specs.declared.refusal.Refusal.{Refusal}
+use Rattle.numerals.specs.declared.refusal.Refusal.the-variants.{TooMany, Order}
 use Rattle.sheets.specs.Reading.{Reading, got, turned, unless}
 use Rattle.sheets.specs.RuleSheet.{countOf, inOrder, placed}
 use Rattle.sheets.specs.Behind.{lastOf, Behind, placing}

@@ -5,7 +5,7 @@ use mathlib.Core.List.{List}
 use native.Mathlib.Omega.{arith}
 use lib.ListN.{length}
 use borrow.Author.Tests.{le-leb, lt-leb}
-use Rattle.expansion.specs.declared.refusal.Refusal.the-variants.{ShortLoan}
+use Rattle.numerals.specs.declared.refusal.Refusal.the-variants.{ShortLoan}
 use Rattle.sheets.specs.Calls.{refusedAt, printText, printFilled}
 use Rattle.sheets.specs.Writing.{Wrote}
 use Rattle.sheets.specs.declared.answer.Printed.the-variants.{End, Refused}

@@ -11,8 +11,8 @@ use lib.Seq.{slice, take-length, sets, sets-eq, length-sets, take-at, length-tak
 use borrow.Author.Tests.{le-leb, lt-leb}
 use Rattle.packing.specs.Count.{Line}
 use Rattle.packing.specs.Answer.{cells}
-use Rattle.expansion.specs.declared.refusal.Refusal.{Refusal}
-use Rattle.expansion.specs.declared.refusal.Refusal.the-variants.{Malformed, NoService, Order, Miscount, TooLong}
+use Rattle.numerals.specs.declared.refusal.Refusal.{Refusal}
+use Rattle.numerals.specs.declared.refusal.Refusal.the-variants.{Malformed, NoService, Order, Miscount, TooLong}
 use Rattle.numerals.specs.Text.{split, indexOf}
 use Rattle.numerals.proofs.Slice.{slice-none, slice-length}
 use Rattle.numerals.proofs.Fields.{cut, cut-last, split-some}

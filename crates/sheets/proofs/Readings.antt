@@ -11,7 +11,7 @@ use Rattle.numerals.specs.declared.digits.Number.the-variants.{Value, Bad}
 use Rattle.numerals.specs.declared.suffixes.SuffixRead.{SuffixRead}
 use Rattle.numerals.specs.declared.suffixes.SuffixRead.the-variants.{Suffix, Bad as NoSuffix}
 use Rattle.numerals.proofs.Choice.{both-left, both-right}
-use Rattle.expansion.specs.declared.refusal.Refusal.{Refusal}
+use Rattle.numerals.specs.declared.refusal.Refusal.{Refusal}
 use Rattle.sheets.specs.Reading.{Reading, got, turned, then, unless, onField, same}
 use Rattle.sheets.specs.RuleSheet.{onSuffix}
 

@@ -11,7 +11,7 @@ use Rattle.numerals.specs.Percentage.{fraction, atMostAll, percentOf, percentag
 use Rattle.numerals.specs.Suffix.{suffix}
 use Rattle.numerals.specs.Text.{onto, split}
 use Rattle.expansion.specs.Answer.{unit}
-use Rattle.expansion.specs.Refusals.{no}
+use Rattle.numerals.specs.Refusals.{no1, no2, no4, no5, no8, no9, no10, no11, no12}
 use Rattle.expansion.specs.FirstMatch.{matches}
 use Rattle.expansion.specs.Sums.{sumTo, countTo}
 use Rattle.packing.specs.Cases.{line}
@@ -45,37 +45,37 @@ cases =
     -- gaps between services, an equal suffix twice
     reads "TABLE 2 4 0\n1 * 1\n64 *0 2\n64 *0 3\n64 * 32\n" (accepted 2 (0 ∷ 0 ∷ 0 ∷ 0 ∷ 63 ∷ 1 ∷ 0 ∷ 1 ∷ 63 ∷ 1 ∷ 0 ∷ 2 ∷ 63 ∷ 0 ∷ 0 ∷ 31 ∷ []))
     -- 1: nothing, LF missing, keyword, too few and too many fields, a blank line
-    ∷ reads "" (turned (no 1) 1)
-    ∷ reads "TABLE 1 1 0" (turned (no 1) 1)
-    ∷ reads "TABLE 1 1 0\n1 * 1" (turned (no 1) 2)
-    ∷ reads "SHEET 1 1 0\n1 * 1\n" (turned (no 1) 1)
-    ∷ reads "TABLE 1 1\n1 * 1\n" (turned (no 1) 1)
-    ∷ reads "TABLE 1 1 0\n1 * 1 1\n" (turned (no 1) 2)
-    ∷ reads "TABLE 1 1 0\n1 * 1\n\n" (turned (no 1) 3)
+    ∷ reads "" (turned no1 1)
+    ∷ reads "TABLE 1 1 0" (turned no1 1)
+    ∷ reads "TABLE 1 1 0\n1 * 1" (turned no1 2)
+    ∷ reads "SHEET 1 1 0\n1 * 1\n" (turned no1 1)
+    ∷ reads "TABLE 1 1\n1 * 1\n" (turned no1 1)
+    ∷ reads "TABLE 1 1 0\n1 * 1 1\n" (turned no1 2)
+    ∷ reads "TABLE 1 1 0\n1 * 1\n\n" (turned no1 3)
     -- 2: k, n and the total out of their limits, CR, service, a suffix longer than k, backend, an empty field
-    ∷ reads "TABLE 13 1 0\n1 * 1\n" (turned (no 2) 1)
-    ∷ reads "TABLE 1 0 0\n1 * 1\n" (turned (no 2) 1)
-    ∷ reads "TABLE 1 2049 0\n1 * 1\n" (turned (no 2) 1)
-    ∷ reads "TABLE 1 1 2621440000000001\n1 * 1\n" (turned (no 2) 1)
-    ∷ reads "TABLE 1 1 0\r\n1 * 1\n" (turned (no 2) 1)
-    ∷ reads "TABLE 1 1 0\n65 * 1\n" (turned (no 2) 2)
-    ∷ reads "TABLE 1 1 0\n1 *00 1\n" (turned (no 2) 2)
-    ∷ reads "TABLE 1 1 0\n1 * 33\n" (turned (no 2) 2)
-    ∷ reads "TABLE 1 1 0\n1  1\n" (turned (no 2) 2)
+    ∷ reads "TABLE 13 1 0\n1 * 1\n" (turned no2 1)
+    ∷ reads "TABLE 1 0 0\n1 * 1\n" (turned no2 1)
+    ∷ reads "TABLE 1 2049 0\n1 * 1\n" (turned no2 1)
+    ∷ reads "TABLE 1 1 2621440000000001\n1 * 1\n" (turned no2 1)
+    ∷ reads "TABLE 1 1 0\r\n1 * 1\n" (turned no2 1)
+    ∷ reads "TABLE 1 1 0\n65 * 1\n" (turned no2 2)
+    ∷ reads "TABLE 1 1 0\n1 *00 1\n" (turned no2 2)
+    ∷ reads "TABLE 1 1 0\n1 * 33\n" (turned no2 2)
+    ∷ reads "TABLE 1 1 0\n1  1\n" (turned no2 2)
     -- 5: only line 1
-    ∷ reads "TABLE 1 1 0\n" (turned (no 5) 1)
+    ∷ reads "TABLE 1 1 0\n" (turned no5 1)
     -- 9: services fall, a second `*`, a service begun while the one before has no `*`, a longer suffix, a last line without `*`
-    ∷ reads "TABLE 1 2 0\n2 * 1\n1 * 1\n" (turned (no 9) 3)
-    ∷ reads "TABLE 1 2 0\n1 * 1\n1 * 1\n" (turned (no 9) 3)
-    ∷ reads "TABLE 1 2 0\n1 *0 1\n2 * 1\n" (turned (no 9) 3)
-    ∷ reads "TABLE 2 3 0\n1 *0 1\n1 *00 1\n1 * 1\n" (turned (no 9) 3)
-    ∷ reads "TABLE 1 1 0\n1 *0 1\n" (turned (no 9) 2)
+    ∷ reads "TABLE 1 2 0\n2 * 1\n1 * 1\n" (turned no9 3)
+    ∷ reads "TABLE 1 2 0\n1 * 1\n1 * 1\n" (turned no9 3)
+    ∷ reads "TABLE 1 2 0\n1 *0 1\n2 * 1\n" (turned no9 3)
+    ∷ reads "TABLE 2 3 0\n1 *0 1\n1 *00 1\n1 * 1\n" (turned no9 3)
+    ∷ reads "TABLE 1 1 0\n1 *0 1\n" (turned no9 2)
     -- 10, and before 9
-    ∷ reads "TABLE 1 2 0\n1 * 1\n" (turned (no 10) 1)
-    ∷ reads "TABLE 1 2 0\n1 *0 1\n" (turned (no 10) 1)
+    ∷ reads "TABLE 1 2 0\n1 * 1\n" (turned no10 1)
+    ∷ reads "TABLE 1 2 0\n1 *0 1\n" (turned no10 1)
     -- 4: a 33rd rule, which comes before 9
-    ∷ record { text = bytes "TABLE 1 33 0\n" ++ times 33 (bytes "1 *0 1\n"); is = turned (no 4) 34 }
-    ∷ record { text = bytes "TABLE 1 34 0\n" ++ times 31 (bytes "1 *0 1\n") ++ bytes "1 * 1\n2 * 1\n1 * 1\n"; is = turned (no 4) 35 }
+    ∷ record { text = bytes "TABLE 1 33 0\n" ++ times 33 (bytes "1 *0 1\n"); is = turned no4 34 }
+    ∷ record { text = bytes "TABLE 1 34 0\n" ++ times 31 (bytes "1 *0 1\n") ++ bytes "1 * 1\n2 * 1\n1 * 1\n"; is = turned no4 35 }
     ∷ []
 
 abbrev AllRight : List Case → Type 0
@@ -95,9 +95,9 @@ pub record Lookups : Type 0 where
   pub matching : lookupAnswer tableBytes 1 0 ≡ looked.Backend 2
   pub star : lookupAnswer tableBytes 1 1 ≡ looked.Backend 3
   pub second : lookupAnswer tableBytes 2 4294967294 ≡ looked.Backend 1
-  pub zeroth : lookupAnswer tableBytes 0 0 ≡ looked.Refused (refusedAt (no 8) 0)
-  pub unknown : lookupAnswer tableBytes 3 0 ≡ looked.Refused (refusedAt (no 8) 0)
-  pub malformed : lookupAnswer (bytes "TABLE 5 5 293333920") 3 0 ≡ looked.Refused (refusedAt (no 1) 1)
+  pub zeroth : lookupAnswer tableBytes 0 0 ≡ looked.Refused (refusedAt no8 0)
+  pub unknown : lookupAnswer tableBytes 3 0 ≡ looked.Refused (refusedAt no8 0)
+  pub malformed : lookupAnswer (bytes "TABLE 5 5 293333920") 3 0 ≡ looked.Refused (refusedAt no1 1)
 
 pub lookups : Lookups
 unfolding lookupAnswer lookupIn hasService firstBackend matchesLine matches bytes readTable textLimit tableLines wholeTable closed ruleLines ruleFields placed inOrder countOf onSuffix tableFields totalLimit same onField unless then number isNumeral noLeadingZero allDigits isDigit value valueFrom suffix split onto
@@ -111,11 +111,11 @@ churns old new n = churnAnswer (bytes old) (bytes new) n
 pub record Churns : Type 0 where
   pub all : churns "TABLE 1 1 0\n1 * 1\n" "TABLE 1 1 0\n1 * 2\n" 1 ≡ churned.Moved 2
   pub half : churns "TABLE 1 1 0\n1 * 1\n" "TABLE 1 2 0\n1 *1 2\n1 * 1\n" 1 ≡ churned.Moved 1
-  pub first : churns "TABLE 1 1 0\n2 * 1\n" "TABLE 2 1 0\n3 * 2\n" 1 ≡ churned.Refused (refusedAt (no 8) 0) 1
-  pub second : churns "TABLE 1 1 0\n1 * 1\n" "TABLE 2 1 0\n2 * 2\n" 1 ≡ churned.Refused (refusedAt (no 8) 0) 2
-  pub neither : churns "TABLE 1 1 0\n1 * 1\n" "TABLE 2 1 0\n1 * 1\n" 1 ≡ churned.Refused (refusedAt (no 12) 0) 0
-  pub old : churns "TABLE 1 1 0\n1 * 1" "TABLE 1 1 0" 1 ≡ churned.Refused (refusedAt (no 1) 2) 1
-  pub new : churns "TABLE 1 1 0\n2 * 1\n" "TABLE 1 1 0" 1 ≡ churned.Refused (refusedAt (no 1) 1) 2
+  pub first : churns "TABLE 1 1 0\n2 * 1\n" "TABLE 2 1 0\n3 * 2\n" 1 ≡ churned.Refused (refusedAt no8 0) 1
+  pub second : churns "TABLE 1 1 0\n1 * 1\n" "TABLE 2 1 0\n2 * 2\n" 1 ≡ churned.Refused (refusedAt no8 0) 2
+  pub neither : churns "TABLE 1 1 0\n1 * 1\n" "TABLE 2 1 0\n1 * 1\n" 1 ≡ churned.Refused (refusedAt no12 0) 0
+  pub old : churns "TABLE 1 1 0\n1 * 1" "TABLE 1 1 0" 1 ≡ churned.Refused (refusedAt no1 2) 1
+  pub new : churns "TABLE 1 1 0\n2 * 1\n" "TABLE 1 1 0" 1 ≡ churned.Refused (refusedAt no1 1) 2
 
 pub all-churns : Churns
 unfolding churnAnswer churnOf moved sumTo countTo hasService firstBackend matchesLine matches bytes readTable textLimit tableLines wholeTable closed ruleLines ruleFields placed inOrder countOf onSuffix tableFields totalLimit same onField unless then number isNumeral noLeadingZero allDigits isDigit value valueFrom suffix split onto
@@ -125,31 +125,31 @@ all-churns = record { all = refl; half = refl; first = refl; second = refl; neit
 
 pub record Handed : Type 0 where
   pub accepted : tableHanded 1 0 (0 ∷ 1 ∷ 0 ∷ 1 ∷ 0 ∷ 0 ∷ 0 ∷ 0 ∷ []) ≡ got (record { k = 1; total = 0; lines = line 0 1 0 1 ∷ line 0 0 0 0 ∷ [] })
-  pub ragged : tableHanded 1 0 (0 ∷ 0 ∷ 0 ∷ 0 ∷ 1 ∷ []) ≡ turned (no 1) 0
-  pub none : tableHanded 1 0 [] ≡ turned (no 2) 0
-  pub bits : tableHanded 13 0 (0 ∷ 0 ∷ 0 ∷ 0 ∷ []) ≡ turned (no 2) 0
-  pub amount : tableHanded 1 2621440000000001 (0 ∷ 0 ∷ 0 ∷ 0 ∷ []) ≡ turned (no 2) 0
-  pub wide : tableHanded 1 0 (0 ∷ 1 ∷ 2 ∷ 0 ∷ []) ≡ turned (no 2) 0
-  pub star : tableHanded 1 0 (0 ∷ 1 ∷ 0 ∷ 0 ∷ []) ≡ turned (no 9) 0
+  pub ragged : tableHanded 1 0 (0 ∷ 0 ∷ 0 ∷ 0 ∷ 1 ∷ []) ≡ turned no1 0
+  pub none : tableHanded 1 0 [] ≡ turned no2 0
+  pub bits : tableHanded 13 0 (0 ∷ 0 ∷ 0 ∷ 0 ∷ []) ≡ turned no2 0
+  pub amount : tableHanded 1 2621440000000001 (0 ∷ 0 ∷ 0 ∷ 0 ∷ []) ≡ turned no2 0
+  pub wide : tableHanded 1 0 (0 ∷ 1 ∷ 2 ∷ 0 ∷ []) ≡ turned no2 0
+  pub star : tableHanded 1 0 (0 ∷ 1 ∷ 0 ∷ 0 ∷ []) ≡ turned no9 0
 
 pub all-handed : Handed
 unfolding tableHanded linesFrom checkTable checkLines isLine placed inOrder countOf closed totalLimit unless then
 all-handed = record { accepted = refl; ragged = refl; none = refl; bits = refl; amount = refl; wide = refl; star = refl }
 
 -- 11 for both sheets: every text over the limit.
-pub long-table : (text : List ℕ) → textLimit < length text → readTable text ≡ turned (no 11) 0
+pub long-table : (text : List ℕ) → textLimit < length text → readTable text ≡ turned no11 0
 unfolding readTable unless
 long-table text h = rw (lt-leb (length text) textLimit h)
 
-pub long-sheet : (text : List ℕ) → textLimit < length text → readSheet text ≡ turned (no 11) 0
+pub long-sheet : (text : List ℕ) → textLimit < length text → readSheet text ≡ turned no11 0
 unfolding readSheet unless
 long-sheet text h = rw (lt-leb (length text) textLimit h)
 
 -- 4 for percentage sheets: a 33rd weight, before its fields, and a 65th service, after its keyword and before its fields
 pub record TooManies : Type 0 where
-  pub weights : readSheet (bytes "SHEET 1 0 1\nSERVICE x" ++ times 33 (bytes " 100") ++ 10 ∷ []) ≡ turned (no 4) 2
-  pub services : readSheet (bytes "SHEET 1 0 1\n" ++ times 64 (bytes "SERVICE 1 100\n") ++ bytes "SERVICE\n") ≡ turned (no 4) 66
-  pub keyword : readSheet (bytes "SHEET 1 0 1\n" ++ times 64 (bytes "SERVICE 1 100\n") ++ bytes "SERVIC\n") ≡ turned (no 1) 66
+  pub weights : readSheet (bytes "SHEET 1 0 1\nSERVICE x" ++ times 33 (bytes " 100") ++ 10 ∷ []) ≡ turned no4 2
+  pub services : readSheet (bytes "SHEET 1 0 1\n" ++ times 64 (bytes "SERVICE 1 100\n") ++ bytes "SERVICE\n") ≡ turned no4 66
+  pub keyword : readSheet (bytes "SHEET 1 0 1\n" ++ times 64 (bytes "SERVICE 1 100\n") ++ bytes "SERVIC\n") ≡ turned no1 66
 
 pub too-manies : TooManies
 unfolding bytes readSheet textLimit sheetLines whole serviceLines serviceFields sum weightFields headFields same onField unless then unit percentage percentOf split onto number isNumeral noLeadingZero allDigits isDigit value valueFrom onValue fraction atMostAll

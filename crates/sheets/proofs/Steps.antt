@@ -10,8 +10,8 @@ use borrow.Author.Tests.{ne-eqb, le-leb, lt-leb}
 use Rattle.numerals.specs.Text.{split}
 use Rattle.numerals.specs.Percentage.{percentage}
 use Rattle.numerals.specs.declared.digits.Number.the-variants.{Value, Bad}
-use Rattle.expansion.specs.declared.refusal.Refusal.{Refusal}
-use Rattle.expansion.specs.declared.refusal.Refusal.the-variants.{Malformed, BadField, TooLong}
+use Rattle.numerals.specs.declared.refusal.Refusal.{Refusal}
+use Rattle.numerals.specs.declared.refusal.Refusal.the-variants.{Malformed, BadField, TooLong}
 use Rattle.sheets.specs.Reading.{Reading, got, turned, then, unless, onField}
 use Rattle.sheets.specs.PercentageSheet.{headFields, weightFields, sum, serviceFields, serviceLines, whole, sheetLines, textLimit, readSheet}
 

@@ -11,7 +11,7 @@ use borrow.Author.Tests.{eq-eqb, ne-eqb, le-leb, eqb-true}
 use Rattle.numerals.specs.Pick.{both}
 use Rattle.expansion.specs.declared.call.Checked.{Checked}
 use Rattle.expansion.specs.declared.call.Checked.the-variants.{Sound, Refused}
-use Rattle.expansion.specs.declared.refusal.Refusal.the-variants.{Malformed, BadField, Order}
+use Rattle.numerals.specs.declared.refusal.Refusal.the-variants.{Malformed, BadField, Order}
 use Rattle.packing.specs.Count.{Line}
 use Rattle.sheets.specs.Reading.{Reading, got, turned, then, unless}
 use Rattle.sheets.specs.RuleSheet.{Table, totalLimit, closed, checkLines, checkTable}

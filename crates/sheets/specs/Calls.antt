@@ -8,8 +8,8 @@ use lib.Seq.{sets}
 use Rattle.numerals.specs.Pick.{pick, both}
 use Rattle.expansion.specs.Sums.{countTo}
 use Rattle.expansion.specs.Answer.{unit}
-use Rattle.expansion.specs.declared.refusal.Refusal.{Refusal}
-use Rattle.expansion.specs.Refusals.{no}
+use Rattle.numerals.specs.declared.refusal.Refusal.{Refusal}
+use Rattle.numerals.specs.Refusals.{no1, no7, no8, no12}
 use Rattle.packing.specs.Grants.{total}
 use Rattle.packing.specs.Count.{Line, Services, services, matchesLine}
 use Rattle.packing.specs.Table.{problem, granted}
@@ -89,7 +89,7 @@ cellsFor S = cells (tableFor S .lines)
 -- a text for a lent buffer: written from its start on if there is room, else 7
 unfoldable pub printText : List ℕ → ℕ → printed.Printed
 printText bytes room =
-    pick (leb (length bytes) room) (printed-variants.End (length bytes)) (printed-variants.Refused (refusedAt (no 7) 0))
+    pick (leb (length bytes) room) (printed-variants.End (length bytes)) (printed-variants.Refused (refusedAt no7 0))
 
 abbrev pub printRead : {A : Type 0} → Reading A → (A → List ℕ) → ℕ → printed.Printed
 printRead (got a) text room = printText (text a) room
@@ -118,7 +118,7 @@ linesFrom (s ∷ l ∷ v ∷ b ∷ cs) = record { service = s; rule = record { l
 -- a table that was handed in numbers: a line of too few is 1
 unfoldable pub tableHanded : ℕ → ℕ → List ℕ → Reading Table
 tableHanded k total cs =
-    unless (eqb (4 * length (linesFrom cs)) (length cs)) (no 1) 0
+    unless (eqb (4 * length (linesFrom cs)) (length cs)) no1 0
     (checkTable (record { k = k; total = total; lines = linesFrom cs }))
 
 -- the table of a rule sheet's text, into a lent buffer
@@ -126,7 +126,7 @@ unfoldable pub readIn : Reading Table → ℕ → table-read.TableRead
 readIn (got t) room =
     pick (leb (4 * length (t .lines)) room)
     (table-read-variants.Made (record { k = t .k; rules = length (t .lines); total = t .total }))
-    (table-read-variants.Refused (refusedAt (no 7) 0))
+    (table-read-variants.Refused (refusedAt no7 0))
 readIn (turned why line) room = table-read-variants.Refused (refusedAt why line)
 
 unfoldable pub readAnswer : List ℕ → ℕ → table-read.TableRead
@@ -150,7 +150,7 @@ unfoldable pub lookupIn : Reading Table → ℕ → ℕ → looked.Looked
 lookupIn (turned why line) n address = looked-variants.Refused (refusedAt why line)
 lookupIn (got t) n address =
     pick (hasService t n) (looked-variants.Backend (firstBackend (t .lines) (n - 1) address))
-    (looked-variants.Refused (refusedAt (no 8) 0))
+    (looked-variants.Refused (refusedAt no8 0))
 
 unfoldable pub lookupAnswer : List ℕ → ℕ → ℕ → looked.Looked
 lookupAnswer text n address = lookupIn (readTable text) n address
@@ -168,9 +168,9 @@ churnOf (got old) (got new) n =
     pick (hasService old n)
     (pick (hasService new n)
     (pick (eqb (old .k) (new .k)) (churned-variants.Moved (moved old new (n - 1)))
-    (churned-variants.Refused (refusedAt (no 12) 0) 0))
-    (churned-variants.Refused (refusedAt (no 8) 0) 2))
-    (churned-variants.Refused (refusedAt (no 8) 0) 1)
+    (churned-variants.Refused (refusedAt no12 0) 0))
+    (churned-variants.Refused (refusedAt no8 0) 2))
+    (churned-variants.Refused (refusedAt no8 0) 1)
 
 unfoldable pub churnAnswer : List ℕ → List ℕ → ℕ → churned.Churned
 churnAnswer old new n = churnOf (readTable old) (readTable new) n

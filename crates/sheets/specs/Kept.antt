@@ -8,7 +8,7 @@ use lib.Seq.{slice}
 use Rattle.numerals.specs.Pick.{pick}
 use Rattle.numerals.specs.Text.{split}
 use Rattle.expansion.specs.Answer.{unit}
-use Rattle.expansion.specs.Refusals.{no}
+use Rattle.numerals.specs.Refusals.{no3, no5, no6}
 use Rattle.sheets.specs.Reading.{Reading, got, turned, then, unless}
 use Rattle.sheets.specs.PercentageSheet.{Sheet, Service, headFields, weightFields, serviceFields, serviceLines, sum}
 use Rattle.sheets.specs.PercentageSheet as sheet
@@ -56,7 +56,7 @@ pub record Opened (i : ℕ) (fs : List (List ℕ)) (v : ℕ) : Type 0 where
   pub rest :
       serviceFields i fs
       ≡ then (weightFields (i + 2) (drop 2 fs)) (λ ws.
-      unless (eqb (sum ws) unit) (no 3) (i + 2) (got (record { volume = v; weights = ws })))
+      unless (eqb (sum ws) unit) no3 (i + 2) (got (record { volume = v; weights = ws })))
 
 abbrev pub VolumeOf : volume-read.VolumeRead → ℕ → List (List ℕ) → Type 0
 VolumeOf (volume-variants.Volume v) i fs = Opened i fs v
@@ -131,5 +131,5 @@ SheetOf (sheet-variants.Refused r) reading vs zs ws = reading ≡ turned (r .why
 unfoldable pub finished : Head → ℕ → ℕ → sheet-read.SheetRead
 finished head n row =
     pick (ltb 0 n)
-    (pick (leb n (head .capacity)) (sheet-variants.Sheet head n row) (sheet-variants.Refused (refusedAt (no 6) 1)))
-    (sheet-variants.Refused (refusedAt (no 5) 1))
+    (pick (leb n (head .capacity)) (sheet-variants.Sheet head n row) (sheet-variants.Refused (refusedAt no6 1)))
+    (sheet-variants.Refused (refusedAt no5 1))

@@ -8,7 +8,7 @@ use Rattle.numerals.specs.Decimal.{number}
 use Rattle.numerals.specs.Percentage.{percentage}
 use Rattle.numerals.specs.Text.{split}
 use Rattle.expansion.specs.Answer.{unit}
-use Rattle.expansion.specs.Refusals.{no}
+use Rattle.numerals.specs.Refusals.{no1, no3, no4, no5, no6, no11}
 use Rattle.sheets.specs.Reading.{Reading, got, turned, then, unless, onField, same, field}
 
 -- what a percentage sheet says
@@ -41,8 +41,8 @@ serviceWord = 83 ∷ 69 ∷ 82 ∷ 86 ∷ 73 ∷ 67 ∷ 69 ∷ []
 -- line 1, by its fields: SHEET k tolerance C
 unfoldable pub headFields : List (List ℕ) → Reading Head
 headFields fs =
-    unless (same (field fs 0) sheetWord) (no 1) 1
-    (unless (eqb (length fs) 4) (no 1) 1
+    unless (same (field fs 0) sheetWord) no1 1
+    (unless (eqb (length fs) 4) no1 1
     (onField (number 1 12 (field fs 1)) 1 (λ k.
     onField (percentage 4 (field fs 2)) 1 (λ t.
     onField (number 1 2048 (field fs 3)) 1 (λ c.
@@ -60,19 +60,19 @@ sum (w ∷ ws) = w + sum ws
 -- the line of service i from 0, by its fields: SERVICE volume p1 .. pM
 unfoldable pub serviceFields : ℕ → List (List ℕ) → Reading Service
 serviceFields i fs =
-    unless (same (field fs 0) serviceWord) (no 1) (i + 2)
-    (unless (ltb i 64) (no 4) (i + 2)
-    (unless (leb 3 (length fs)) (no 1) (i + 2)
-    (unless (leb (length fs) 34) (no 4) (i + 2)
+    unless (same (field fs 0) serviceWord) no1 (i + 2)
+    (unless (ltb i 64) no4 (i + 2)
+    (unless (leb 3 (length fs)) no1 (i + 2)
+    (unless (leb (length fs) 34) no4 (i + 2)
     (onField (number 0 10000 (field fs 1)) (i + 2) (λ v.
     then (weightFields (i + 2) (drop 2 fs)) (λ ws.
-    unless (eqb (sum ws) unit) (no 3) (i + 2)
+    unless (eqb (sum ws) unit) no3 (i + 2)
     (got (record { volume = v; weights = ws }))))))))
 
 -- the lines of the services from service i on; what stands behind the last LF is a line without one, and no line if it is empty
 unfoldable pub serviceLines : ℕ → List (List ℕ) → Reading (List Service)
 serviceLines i [] = got []
-serviceLines i (l ∷ []) = unless (eqb (length l) 0) (no 1) (i + 2) (got [])
+serviceLines i (l ∷ []) = unless (eqb (length l) 0) no1 (i + 2) (got [])
 serviceLines i (l ∷ m ∷ ls) =
     then (serviceFields i (split 32 l)) (λ s. then (serviceLines (suc i) (m ∷ ls)) (λ ss. got (s ∷ ss)))
 
@@ -87,14 +87,14 @@ weightsOf (s ∷ ss) = s .weights ∷ weightsOf ss
 -- after the lines: no service, then a capacity below their number
 unfoldable pub whole : Head → List Service → Reading Sheet
 whole h ss =
-    unless (ltb 0 (length ss)) (no 5) 1
-    (unless (leb (length ss) (h .capacity)) (no 6) 1
+    unless (ltb 0 (length ss)) no5 1
+    (unless (leb (length ss) (h .capacity)) no6 1
     (got (record { k = h .k; tolerance = h .tolerance; capacity = h .capacity; volumes = volumesOf ss; weights = weightsOf ss })))
 
 -- a text by its lines
 unfoldable pub sheetLines : List (List ℕ) → Reading Sheet
-sheetLines [] = turned (no 1) 1
-sheetLines (l ∷ []) = turned (no 1) 1
+sheetLines [] = turned no1 1
+sheetLines (l ∷ []) = turned no1 1
 sheetLines (l ∷ m ∷ ls) = then (headFields (split 32 l)) (λ h. then (serviceLines 0 (m ∷ ls)) (whole h))
 
 -- the limit of a text in bytes
@@ -102,4 +102,4 @@ unfoldable pub textLimit : ℕ
 textLimit = 65536
 
 unfoldable pub readSheet : List ℕ → Reading Sheet
-readSheet text = unless (leb (length text) textLimit) (no 11) 0 (sheetLines (split 10 text))
+readSheet text = unless (leb (length text) textLimit) no11 0 (sheetLines (split 10 text))

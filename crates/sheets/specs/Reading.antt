@@ -7,8 +7,8 @@ use lib.ListN.{getD}
 use Rattle.numerals.specs.Pick.{both}
 use Rattle.numerals.specs.declared.digits.Number.{Number}
 use Rattle.numerals.specs.declared.digits.Number.the-variants.{Value, Bad}
-use Rattle.expansion.specs.declared.refusal.Refusal.{Refusal}
-use Rattle.expansion.specs.Refusals.{no}
+use Rattle.numerals.specs.declared.refusal.Refusal.{Refusal}
+use Rattle.numerals.specs.Refusals.{no2}
 
 pub data Reading (A : Type 0) : Type 0 where
   got : A → Reading A
@@ -27,7 +27,7 @@ unless false why line next = turned why line
 -- a field that was read as a number
 unfoldable pub onField : {A : Type 0} → Number → ℕ → (ℕ → Reading A) → Reading A
 onField (Value v) line f = f v
-onField Bad line f = turned (no 2) line
+onField Bad line f = turned no2 line
 
 -- two texts are the same
 unfoldable pub same : List ℕ → List ℕ → Bool

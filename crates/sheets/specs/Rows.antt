@@ -7,7 +7,7 @@ use lib.Dec.{ltb, eqb}
 use lib.ListN.{length, getD, take}
 use Rattle.numerals.specs.Pick.{pick}
 use Rattle.expansion.specs.Sums.{countTo}
-use Rattle.expansion.specs.Refusals.{no}
+use Rattle.numerals.specs.Refusals.{no8, no12}
 use Rattle.packing.specs.Count.{Line}
 use Rattle.packing.specs.Answer.{cells}
 use Rattle.sheets.specs.Reading.{Reading, got, turned, then}
@@ -54,9 +54,9 @@ comparedOf k old k′ new n =
     pick (ltb 0 (firstOf old n 0))
     (pick (ltb 0 (firstOf new n 0))
     (pick (eqb k k′) (churned-variants.Moved (movedOf (2 ^ k) old new n))
-    (churned-variants.Refused (refusedAt (no 12) 0) 0))
-    (churned-variants.Refused (refusedAt (no 8) 0) 2))
-    (churned-variants.Refused (refusedAt (no 8) 0) 1)
+    (churned-variants.Refused (refusedAt no12 0) 0))
+    (churned-variants.Refused (refusedAt no8 0) 2))
+    (churned-variants.Refused (refusedAt no8 0) 1)
 
 -- what reading a rule sheet answers
 unfoldable pub sheetAnswer : Reading Table → sheet-lines.SheetLines

@@ -11,7 +11,7 @@ use Rattle.numerals.specs.Text.{split}
 use Rattle.numerals.specs.declared.suffixes.SuffixRead.{SuffixRead}
 use Rattle.numerals.specs.declared.suffixes.SuffixRead.the-variants.{Suffix, Bad}
 use Rattle.expansion.specs.declared.rule.Rule.{Rule}
-use Rattle.expansion.specs.Refusals.{no}
+use Rattle.numerals.specs.Refusals.{no1, no2, no4, no5, no9, no10, no11}
 use Rattle.packing.specs.Count.{Line}
 use Rattle.sheets.specs.Reading.{Reading, got, turned, then, unless, onField, same, field}
 use Rattle.sheets.specs.PercentageSheet.{textLimit}
@@ -56,8 +56,8 @@ pub record TableHead : Type 0 where
 
 unfoldable pub tableFields : List (List ℕ) → Reading TableHead
 tableFields fs =
-    unless (same (field fs 0) tableWord) (no 1) 1
-    (unless (eqb (length fs) 4) (no 1) 1
+    unless (same (field fs 0) tableWord) no1 1
+    (unless (eqb (length fs) 4) no1 1
     (onField (number 1 12 (field fs 1)) 1 (λ k.
     onField (number 1 2048 (field fs 2)) 1 (λ n.
     onField (number 0 totalLimit (field fs 3)) 1 (λ t.
@@ -65,7 +65,7 @@ tableFields fs =
 
 unfoldable pub onSuffix : {A : Type 0} → SuffixRead → ℕ → (ℕ → ℕ → Reading A) → Reading A
 onSuffix (Suffix l v) line f = f l v
-onSuffix Bad line f = turned (no 2) line
+onSuffix Bad line f = turned no2 line
 
 -- how many of the lines are of a service
 unfoldable pub countOf : ℕ → List Line → ℕ
@@ -81,12 +81,12 @@ inOrder (p ∷ ps) l =
 
 -- a line behind these: the 33rd rule of a service, then the order
 unfoldable pub placed : {A : Type 0} → List Line → Line → ℕ → Reading A → Reading A
-placed before l at next = unless (ltb (countOf (l .service) before) 32) (no 4) at (unless (inOrder before l) (no 9) at next)
+placed before l at next = unless (ltb (countOf (l .service) before) 32) no4 at (unless (inOrder before l) no9 at next)
 
 -- a rule line by its fields, behind these lines
 unfoldable pub ruleFields : ℕ → List Line → ℕ → List (List ℕ) → Reading Line
 ruleFields k before at fs =
-    unless (eqb (length fs) 3) (no 1) at
+    unless (eqb (length fs) 3) no1 at
     (onField (number 1 64 (field fs 0)) at (λ s.
     onSuffix (suffix k (field fs 1)) at (λ l v.
     onField (number 1 32 (field fs 2)) at (λ b.
@@ -96,7 +96,7 @@ ruleFields k before at fs =
 -- the rule lines behind these, the last of them first: all lines, the last first
 unfoldable pub ruleLines : ℕ → List Line → List (List ℕ) → Reading (List Line)
 ruleLines k before [] = got before
-ruleLines k before (l ∷ []) = unless (eqb (length l) 0) (no 1) (length before + 2) (got before)
+ruleLines k before (l ∷ []) = unless (eqb (length l) 0) no1 (length before + 2) (got before)
 ruleLines k before (l ∷ m ∷ ls) =
     then (ruleFields k before (length before + 2) (split 32 l)) (λ line. ruleLines k (line ∷ before) (m ∷ ls))
 
@@ -108,18 +108,18 @@ closed (l ∷ ls) = eqb (l .rule .len) 0
 -- after the lines, the last first: no service, then another number of lines than n, then a last line without `*`
 unfoldable pub wholeTable : TableHead → List Line → Reading Table
 wholeTable h ls =
-    unless (ltb 0 (length ls)) (no 5) 1
-    (unless (eqb (length ls) (h .n)) (no 10) 1
-    (unless (closed ls) (no 9) (length ls + 1)
+    unless (ltb 0 (length ls)) no5 1
+    (unless (eqb (length ls) (h .n)) no10 1
+    (unless (closed ls) no9 (length ls + 1)
     (got (record { k = h .k; total = h .total; lines = reverse ls }))))
 
 unfoldable pub tableLines : List (List ℕ) → Reading Table
-tableLines [] = turned (no 1) 1
-tableLines (l ∷ []) = turned (no 1) 1
+tableLines [] = turned no1 1
+tableLines (l ∷ []) = turned no1 1
 tableLines (l ∷ m ∷ ls) = then (tableFields (split 32 l)) (λ h. then (ruleLines (h .k) [] (m ∷ ls)) (wholeTable h))
 
 unfoldable pub readTable : List ℕ → Reading Table
-readTable text = unless (leb (length text) textLimit) (no 11) 0 (tableLines (split 10 text))
+readTable text = unless (leb (length text) textLimit) no11 0 (tableLines (split 10 text))
 
 -- a table that is no text, checked as its sheet would be: the numbers of line 1, then line by line, then the end
 unfoldable pub isLine : ℕ → Line → Bool
@@ -130,12 +130,12 @@ isLine k l =
 
 unfoldable pub checkLines : ℕ → List Line → List Line → Reading (List Line)
 checkLines k before [] = got before
-checkLines k before (l ∷ ls) = unless (isLine k l) (no 2) 0 (placed before l 0 (checkLines k (l ∷ before) ls))
+checkLines k before (l ∷ ls) = unless (isLine k l) no2 0 (placed before l 0 (checkLines k (l ∷ before) ls))
 
 unfoldable pub checkTable : Table → Reading Table
 checkTable t =
-    unless (both (leb 1 (t .k)) (leb (t .k) 12)) (no 2) 0
-    (unless (both (leb 1 (length (t .lines))) (leb (length (t .lines)) 2048)) (no 2) 0
-    (unless (leb (t .total) totalLimit) (no 2) 0
+    unless (both (leb 1 (t .k)) (leb (t .k) 12)) no2 0
+    (unless (both (leb 1 (length (t .lines))) (leb (length (t .lines)) 2048)) no2 0
+    (unless (leb (t .total) totalLimit) no2 0
     (then (checkLines (t .k) [] (t .lines)) (λ ls.
-    unless (closed ls) (no 9) 0 (got t)))))
+    unless (closed ls) no9 0 (got t)))))

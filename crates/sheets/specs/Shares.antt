@@ -5,7 +5,7 @@ use lib.Dec.{leb}
 use lib.Seq.{sets}
 use Rattle.numerals.specs.Pick.{pick}
 use Rattle.expansion.specs.Sums.{countTo}
-use Rattle.expansion.specs.Refusals.{no}
+use Rattle.numerals.specs.Refusals.{no7, no8}
 use Rattle.packing.specs.Count.{Line, givesLine}
 use Rattle.sheets.specs.Reading.{Reading, got, turned}
 use Rattle.sheets.specs.RuleSheet.{Table, readTable}
@@ -30,7 +30,7 @@ sharesOf t n = sharesBelow (2 ^ (t .k)) (t .lines) (n - 1)
 unfoldable pub countIn : Reading Table → ℕ → ℕ → counted.Counted
 countIn (turned why line) n room = Refused (refusedAt why line)
 countIn (got t) n room =
-    pick (hasService t n) (pick (leb 32 room) (Shares (t .k)) (Refused (refusedAt (no 7) 0))) (Refused (refusedAt (no 8) 0))
+    pick (hasService t n) (pick (leb 32 room) (Shares (t .k)) (Refused (refusedAt no7 0))) (Refused (refusedAt no8 0))
 
 unfoldable pub countAnswer : List ℕ → ℕ → ℕ → counted.Counted
 countAnswer text n room = countIn (readTable text) n room

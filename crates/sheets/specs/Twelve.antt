@@ -7,7 +7,7 @@ use Rattle.numerals.specs.Percentage.{percentage}
 use Rattle.numerals.specs.Suffix.{suffix, place}
 use Rattle.expansion.specs.Cases.{Worked, Shows, p1, p2, p3, p4, p5, p6}
 use Rattle.expansion.specs.Imbalance.{largestExcess, largestShortfall}
-use Rattle.expansion.specs.Refusals.{no}
+use Rattle.numerals.specs.Refusals.{no2}
 use Rattle.packing.specs.Cases.{P7}
 use Rattle.sheets.specs.Reading.{Reading, got, turned, onField}
 use Rattle.sheets.specs.RuleSheet.{onSuffix}
@@ -42,8 +42,8 @@ twelve =
     ∷ leaves p6 333334 666666
     ∷ packs
     ∷ stands "*00100" 4
-    ∷ reads "18.4.2" (turned (no 2) 1)
+    ∷ reads "18.4.2" (turned no2 1)
     ∷ reads "100.0000" (got 1000000)
-    ∷ reads "100.0001" (turned (no 2) 1)
-    ∷ reads "018.4" (turned (no 2) 1)
+    ∷ reads "100.0001" (turned no2 1)
+    ∷ reads "018.4" (turned no2 1)
     ∷ []

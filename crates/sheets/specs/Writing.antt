@@ -7,7 +7,7 @@ use lib.Seq.{sets, slice}
 use Rattle.numerals.specs.Decimal.{width, decimal}
 use Rattle.numerals.specs.declared.digits.Written.{Written}
 use Rattle.numerals.specs.declared.digits.Written.the-variants.{End, Short}
-use Rattle.expansion.specs.Refusals.{no}
+use Rattle.numerals.specs.Refusals.{no9}
 use Rattle.expansion.specs.declared.call.Checked.{Checked}
 use Rattle.expansion.specs.declared.call.Checked.the-variants.{Sound, Refused}
 use Rattle.packing.specs.Count.{Line}
@@ -54,7 +54,7 @@ CheckedAs (Refused why) r a = r ≡ turned why 0
 
 -- the lines behind these, the last of them first, each in its limits and in order, and the last a `*`
 unfoldable pub checkedFrom : ℕ → List Line → List Line → Reading (Unit {0})
-checkedFrom k before ls = then (checkLines k before ls) (λ all. unless (closed all) (no 9) 0 (got tt))
+checkedFrom k before ls = then (checkLines k before ls) (λ all. unless (closed all) no9 0 (got tt))
 
 -- what the check of one line answers, and leaves
 abbrev pub CheckedLine : ℕ → List Line → Line → Placed → List ℕ → Type 0

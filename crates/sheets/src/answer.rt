@@ -1,5 +1,5 @@
 // What the calls answer.
-use expansion::Refusal;
+use numerals::Refusal;
 
 // Why a sheet, a call or a buffer is turned back, and the line from 1, or 0 where the line isn't the reason.
 pub struct Refused {

@@ -1,5 +1,5 @@
 // The order of the lines of a rule sheet: what a line may follow.
-use expansion::Refusal;
+use numerals::Refusal;
 ghost use mathlib.Core.Path.{_≡_};
 ghost use mathlib.Core.List.{List};
 ghost use Prim.Native.Nat.{ℕ, _≤_, _<_};

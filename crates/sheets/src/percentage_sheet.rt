@@ -1,8 +1,8 @@
 // The reader of the percentage sheet, into memory of the library's own: the volume of each service, how many weights it
 // has, and the weights of all in one row.
 use crate::answer::Refused;
-use expansion::Refusal;
 use numerals::Number;
+use numerals::Refusal;
 ghost use mathlib.Core.Path.{_≡_};
 ghost use Prim.Native.Nat.{_+_, _*_, _≤_, _<_};
 ghost use lib.ListN.{length};

@@ -4,7 +4,7 @@ use crate::answer::Planned;
 use crate::answer::Printed;
 use crate::answer::Refused;
 use crate::percentage_sheet::SheetRead;
-use expansion::Refusal;
+use numerals::Refusal;
 use packing::Packing;
 ghost use mathlib.Core.Path.{_≡_};
 ghost use lib.ListN.{length};

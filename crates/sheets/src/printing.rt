@@ -4,7 +4,7 @@ use crate::answer::Refused;
 use crate::order::Last;
 use crate::order::Placed;
 use expansion::Checked;
-use expansion::Refusal;
+use numerals::Refusal;
 use numerals::Written;
 ghost use mathlib.Core.Path.{_≡_};
 ghost use mathlib.Core.List.{List, [], _∷_, _++_};

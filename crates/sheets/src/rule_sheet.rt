@@ -2,8 +2,8 @@
 use crate::answer::Refused;
 use crate::order::Last;
 use crate::order::Placed;
-use expansion::Refusal;
 use numerals::Number;
+use numerals::Refusal;
 use numerals::SuffixRead;
 ghost use mathlib.Core.Path.{_≡_};
 ghost use mathlib.Core.List.{List, [], _∷_};

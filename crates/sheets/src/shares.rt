@@ -2,7 +2,7 @@
 use crate::answer::Counted;
 use crate::answer::Refused;
 use crate::rule_sheet::SheetLines;
-use expansion::Refusal;
+use numerals::Refusal;
 ghost use mathlib.Core.Path.{_≡_};
 ghost use Prim.Native.Nat.{ℕ, _-_, _≤_, _<_};
 ghost use lib.ListN.{length};

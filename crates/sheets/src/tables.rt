@@ -6,7 +6,7 @@ use crate::answer::TableRead;
 use crate::answer::TableRecord;
 use crate::rule_sheet::SheetLines;
 use crate::rule_sheet::TableHead;
-use expansion::Refusal;
+use numerals::Refusal;
 ghost use mathlib.Core.Path.{_≡_};
 ghost use Prim.Native.Nat.{_≤_};
 ghost use lib.ListN.{length, take};

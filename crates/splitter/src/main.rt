@@ -8,7 +8,7 @@ use sheets::Refused;
 fn print_refused(r: Refused) -> bool {
     let why = r.why;
     io::write_all(STDOUT_FILENO, b"REFUSED ")
-        && io::print_decimal(STDOUT_FILENO, expansion::refusal_number(why))
+        && io::print_decimal(STDOUT_FILENO, numerals::refusal_number(why))
         && io::write_all(STDOUT_FILENO, b" ")
         && io::print_decimal(STDOUT_FILENO, r.line as u64)
         && io::write_all(STDOUT_FILENO, b"\n")

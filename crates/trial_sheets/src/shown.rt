@@ -7,7 +7,7 @@ use vectors::walk;
 pub fn refused(r: Refused) {
     let why = r.why;
     print::bytes(b"REFUSED");
-    print::field(expansion::refusal_number(why));
+    print::field(numerals::refusal_number(why));
     print::field(r.line as u64);
 }
 

@@ -1,7 +1,7 @@
 // Parts of an answer, on standard output.
 use crate::walk;
-use expansion::Refusal;
 use libc::STDOUT_FILENO;
+use numerals::Refusal;
 use numerals::Written;
 
 pub fn bytes(s: &[u8]) {
@@ -45,7 +45,7 @@ pub fn suffix(len: usize, value: usize) {
 // The answer to numbers that are turned back.
 pub fn refused(why: Refusal) {
     bytes(b"refused");
-    field(expansion::refusal_number(why));
+    field(numerals::refusal_number(why));
 }
 
 // A number that counts from 1, by its place from 0.

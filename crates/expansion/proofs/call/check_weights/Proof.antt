@@ -9,7 +9,7 @@ use lib.ListN.{length, getD}
 use borrow.Author.Tests.{le-leb, eq-eqb, ne-eqb}
 use Rattle.expansion.specs.Sums.{sumTo, allTo}
 use Rattle.expansion.specs.Answer.{unit, orElse, checkWeights}
-use Rattle.expansion.specs.declared.refusal.Refusal.the-variants.{Unbalanced}
+use Rattle.numerals.specs.declared.refusal.Refusal.the-variants.{Unbalanced}
 use Rattle.expansion.proofs.Sums.{sum-suc}
 use Rattle.expansion.proofs.Searches.{true-both, all-suc}
 use Rattle.expansion.proofs.Checks.{weights-none, weights-many, weights-over, weights-sum}

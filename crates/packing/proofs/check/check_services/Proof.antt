@@ -7,7 +7,7 @@ use lib.ListN.{length, getD, take, drop}
 use borrow.Author.Needs.{needs}
 use borrow.Author.Tests.{lt-ltb, le-ltb, eq-eqb, ne-eqb}
 use Rattle.expansion.specs.Answer.{andThen, orElse}
-use Rattle.expansion.specs.declared.refusal.Refusal.the-variants.{Malformed, NoService}
+use Rattle.numerals.specs.declared.refusal.Refusal.the-variants.{Malformed, NoService}
 use Rattle.packing.specs.Answer.{checkService, checkFrom, checkServices}
 use Rattle.packing.proofs.Checks.{services-many, services-early, services-turned, services-passed, services-end}
 use Rattle.packing.proofs.check.check_services.Statement.{statement}

@@ -11,7 +11,7 @@ use borrow.Author.Tests.{lt-ltb, le-ltb, lt-leb, le-leb, not-true, not-false}
 use Rattle.numerals.specs.Decimal.{number}
 use Rattle.numerals.specs.Text.{split}
 use Rattle.expansion.specs.Answer.{unit}
-use Rattle.expansion.specs.declared.refusal.Refusal.the-variants.{Unbalanced}
+use Rattle.numerals.specs.declared.refusal.Refusal.the-variants.{Unbalanced}
 use Rattle.sheets.specs.Reading.{got, then, same, field, unless, onField}
 use Rattle.sheets.specs.PercentageSheet.{serviceWord, weightFields, sum, serviceFields}
 use Rattle.sheets.proofs.percentage_sheet.read_volume.Statement.{statement}

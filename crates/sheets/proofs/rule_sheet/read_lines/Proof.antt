@@ -10,8 +10,8 @@ use mir.Val.{Fits}
 use borrow.Author.Needs.{needs}
 use Rattle.numerals.specs.Text.{split}
 use Rattle.packing.specs.Count.{Line}
-use Rattle.expansion.specs.declared.refusal.Refusal.{Refusal}
-use Rattle.expansion.specs.declared.refusal.Refusal.the-variants.{Malformed}
+use Rattle.numerals.specs.declared.refusal.Refusal.{Refusal}
+use Rattle.numerals.specs.declared.refusal.Refusal.the-variants.{Malformed}
 use Rattle.sheets.specs.Reading.{Reading, turned}
 use Rattle.sheets.specs.RuleSheet.{Table, TableHead}
 use Rattle.sheets.specs.Rows.{headOf, Passed, sheetAnswer, tableFrom}

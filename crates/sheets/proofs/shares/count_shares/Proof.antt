@@ -7,7 +7,7 @@ use lib.ListN.{length}
 use lib.Seq.{sets}
 use borrow.Author.Tests.{lt-ltb, lt-leb, le-leb}
 use Rattle.numerals.specs.Pick.{pick}
-use Rattle.expansion.specs.declared.refusal.Refusal.the-variants.{ShortLoan, UnknownService}
+use Rattle.numerals.specs.declared.refusal.Refusal.the-variants.{ShortLoan, UnknownService}
 use Rattle.expansion.proofs.Powers.{shifted}
 use Rattle.sheets.specs.Calls.{refusedAt}
 use Rattle.sheets.specs.Shares.{countIn, countAnswer}

@@ -6,7 +6,7 @@ use native.Mathlib.Omega.{arith}
 use lib.Dec.{ltb}
 use borrow.Author.Tests.{lt-ltb}
 use Rattle.numerals.specs.Pick.{pick}
-use Rattle.expansion.specs.declared.refusal.Refusal.the-variants.{UnknownService}
+use Rattle.numerals.specs.declared.refusal.Refusal.the-variants.{UnknownService}
 use Rattle.packing.specs.Count.{Line}
 use Rattle.sheets.specs.Reading.{Reading}
 use Rattle.sheets.specs.RuleSheet.{Table}

@@ -1,6 +1,6 @@
 // Why a sheet, a call or a buffer is turned back (document 01, "Turned-back work").
 ghost use mathlib.Core.Path.{_≡_};
-ghost use Rattle.expansion.specs.Refusals.{numberOf};
+ghost use Rattle.numerals.specs.Refusals.{numberOf};
 
 pub enum Refusal {
     Malformed,

@@ -1,8 +1,8 @@
 -- `refusal_number` meets its contract, case by case.
 use borrow.Author.Needs.{needs}
-use Rattle.expansion.specs.Refusals.{numberOf}
-use Rattle.expansion.proofs.refusal.refusal_number.Statement.{statement}
-use Rattle.expansion.proofs.refusal.refusal_number.Tie as tie
+use Rattle.numerals.specs.Refusals.{numberOf}
+use Rattle.numerals.proofs.refusal.refusal_number.Statement.{statement}
+use Rattle.numerals.proofs.refusal.refusal_number.Tie as tie
 
 pub refusal-number-spec : {M : Type 1} → statement M
 unfolding numberOf
