@@ -29,5 +29,4 @@ pub mod Checks
 pub mod Ready
 pub mod Standing
 pub mod Answers
-pub mod Counting
 pub mod Cases

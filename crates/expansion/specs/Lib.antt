@@ -7,4 +7,3 @@ pub mod Sound
 pub mod Cases
 pub mod Answer
 pub mod Kept
-pub mod Counting

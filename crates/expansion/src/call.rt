@@ -50,7 +50,7 @@ pub fn check_weights(weights: &[u64]) -> Checked
 }
 
 // Whether least ≤ x ≤ most.
-pub fn in_limits(least: usize, most: usize, x: usize) -> bool
+fn in_limits(least: usize, most: usize, x: usize) -> bool
     ensures { λ r. ⌜ r ≡ inLimits least most x ⌝ }
 {
     if x < least {

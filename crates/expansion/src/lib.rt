@@ -5,7 +5,6 @@ mod ledger;
 mod list;
 mod rule;
 mod run;
-mod shares;
 mod term;
 
 pub use call::Checked;
@@ -15,5 +14,3 @@ pub use call::expand;
 pub use rule::Ended;
 pub use rule::Record;
 pub use rule::Rule;
-pub use shares::Counted;
-pub use shares::count_shares;

@@ -166,7 +166,7 @@ pub of-number : (ls : List Line) (n v : ℕ) → 0 < n → firstOf ls n v ≡ fi
 unfolding firstOf
 of-number ls n v h = rw (lt-ltb 0 n h)
 
-of-zero : (ls : List Line) (n v : ℕ) → n ≤ 0 → firstOf ls n v ≡ 0
+pub of-zero : (ls : List Line) (n v : ℕ) → n ≤ 0 → firstOf ls n v ≡ 0
 unfolding firstOf
 of-zero ls n v h = rw (le-ltb 0 n h)
 
@@ -186,7 +186,7 @@ by-matches old new p q n =
     rw (has-match old p n 0, has-match new q n 0)
     (by-less 0 n
     (λ h.
-    let same : moved old new (n - 1) ≡ movedOf (old .k) (old .lines) (new .lines) n =
+    let same : moved old new (n - 1) ≡ movedOf (2 ^ (old .k)) (old .lines) (new .lines) n =
     count-ext (2 ^ (old .k)) _ _ (λ v l. rw (of-number (old .lines) n v h, of-number (new .lines) n v h)) in
     rw same)
     (λ h. rw (of-zero (old .lines) n 0 h)))

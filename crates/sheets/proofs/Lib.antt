@@ -24,6 +24,7 @@ pub mod HandedSheet
 pub mod OneCall
 pub mod HadTables
 pub mod Steps
+pub mod Sharing
 pub mod Memory
 pub mod Packable
 pub mod Cases

@@ -45,16 +45,16 @@ pub record Limited (table : List ℕ) (n : ℕ) : Type 0 where
 unfoldable pub firstOf : List Line → ℕ → ℕ → ℕ
 firstOf ls n v = pick (ltb 0 n) (firstBackend ls (n - 1) v) 0
 
--- the number of k-bit suffixes for which that differs
+-- the number of those below `all` for which that differs
 unfoldable pub movedOf : ℕ → List Line → List Line → ℕ → ℕ
-movedOf k old new n = countTo (2 ^ k) (λ v. not (eqb (firstOf old n v) (firstOf new n v)))
+movedOf all old new n = countTo all (λ v. not (eqb (firstOf old n v) (firstOf new n v)))
 
 -- what churn finds between the lines of two tables
 unfoldable pub comparedOf : ℕ → List Line → ℕ → List Line → ℕ → churned.Churned
 comparedOf k old k′ new n =
     pick (ltb 0 (firstOf old n 0))
     (pick (ltb 0 (firstOf new n 0))
-    (pick (eqb k k′) (churned-variants.Moved (movedOf k old new n))
+    (pick (eqb k k′) (churned-variants.Moved (movedOf (2 ^ k) old new n))
     (churned-variants.Refused (refusedAt no12 0) 0))
     (churned-variants.Refused (refusedAt no8 0) 2))
     (churned-variants.Refused (refusedAt no8 0) 1)

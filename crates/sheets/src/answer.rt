@@ -50,3 +50,9 @@ pub enum Churned {
     Moved(usize),
     Refused(Refused, usize),
 }
+
+// The shares of a service were counted, of so many suffix bits.
+pub enum Counted {
+    Shares(usize),
+    Refused(Refused),
+}

@@ -1,4 +1,4 @@
-// The percentage sheet, the rule sheet, the one call, lookup and churn.
+// The percentage sheet, the rule sheet, the one call, lookup, churn and the count of shares.
 mod answer;
 mod fields;
 mod order;
@@ -6,9 +6,11 @@ mod percentage_sheet;
 mod planning;
 mod printing;
 mod rule_sheet;
+mod shares;
 mod tables;
 
 pub use answer::Churned;
+pub use answer::Counted;
 pub use answer::Looked;
 pub use answer::Plan;
 pub use answer::Planned;
@@ -19,6 +21,7 @@ pub use answer::TableRecord;
 pub use planning::plan;
 pub use planning::split_sheet;
 pub use printing::write_table;
+pub use shares::count_shares;
 pub use tables::churn;
 pub use tables::lookup;
 pub use tables::read_table;

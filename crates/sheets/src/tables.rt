@@ -57,24 +57,25 @@ fn copy(from: &[usize], to: &mut [usize], n: usize)
 }
 
 // The number from 1 of the backend of the first line of a service that matches an address; 0 where there is none.
-fn first_backend(table: &[usize], n: usize, service: usize, address: usize) -> usize
+pub fn first_backend(table: &[usize], n: usize, service: usize, address: usize) -> usize
     requires { ⌜ Limited (now table) n ⌝ }
     ensures { λ r. ⌜ r ≡ firstOf (linesIn (now (table .entry)) n) service address ⌝ }
 {
-    let mut i = 0;
-    while i < n {
+    let mut left = n;
+    while 0 < left {
+        let i = n - left;
         if table[4 * i] + 1 == service {
             let all: usize = 1 << table[4 * i + 1];
             if address % all == table[4 * i + 2] {
                 return table[4 * i + 3] + 1;
             }
         }
-        i += 1;
+        left -= 1;
     }
     0
 }
 
-fn unknown() -> Refused
+pub fn unknown() -> Refused
     ensures { λ r. ⌜ r ≡ calls.refusedAt Refusal.UnknownService 0 ⌝ }
 {
     Refused {
@@ -101,12 +102,18 @@ pub fn lookup(text: &[u8], service: usize, address: u32) -> Looked
     }
 }
 
-// How many of the 2^k suffixes the two tables give to unlike backends.
-fn count_moved(old: &[usize], n: usize, new: &[usize], m: usize, service: usize, k: usize) -> usize
-    requires { ⌜ (Limited (now old) n) × ((Limited (now new) m) × (k ≤ 12)) ⌝ }
-    ensures { λ r. ⌜ r ≡ movedOf k (linesIn (now (old .entry)) n) (linesIn (now (new .entry)) m) service ⌝ }
+// How many of the suffixes below `all` the two tables give to unlike backends.
+fn count_moved(
+    old: &[usize],
+    n: usize,
+    new: &[usize],
+    m: usize,
+    service: usize,
+    all: usize,
+) -> usize
+    requires { ⌜ (Limited (now old) n) × (Limited (now new) m) ⌝ }
+    ensures { λ r. ⌜ r ≡ movedOf all (linesIn (now (old .entry)) n) (linesIn (now (new .entry)) m) service ⌝ }
 {
-    let all: usize = 1 << k;
     let mut moved = 0;
     let mut s = 0;
     while s < all {
@@ -136,7 +143,8 @@ fn compare(old: &[usize], a: TableHead, new: &[usize], b: TableHead, service: us
         };
         return Churned::Refused(why, 0);
     }
-    Churned::Moved(count_moved(old, a.n, new, b.n, service, a.k))
+    let all: usize = 1 << a.k;
+    Churned::Moved(count_moved(old, a.n, new, b.n, service, all))
 }
 
 // How many suffixes of a service have another backend in the new rule sheet than in the old.

@@ -1,4 +1,4 @@
-// Answers the vectors of the expansion and of the count by first match that the Rust twin wrote, one line for each.
+// Answers the vectors of the expansion that the Rust twin wrote, one line for each.
 mod answers;
 
 // Reads a record into a buffer and answers it; false where none is left.

@@ -1,4 +1,5 @@
-// The answers to vectors of the sheets: the call that prints, the table of a rule sheet, lookup and churn.
+// The answers to vectors of the sheets: the call that prints, the table of a rule sheet, lookup, churn and shares.
+use crate::counts;
 use crate::plans;
 use crate::shown;
 use crate::writes;
@@ -131,6 +132,7 @@ pub fn answer(s: &[u8]) {
         b'H' => churn(h, text),
         b'P' => plans::plan(h, text),
         b'W' => writes::write(h, text),
+        b'C' => counts::count(h, text),
         _ => print::bytes(b"unknown vector"),
     }
     print::bytes(b"\n");

@@ -1,5 +1,6 @@
 // Answers the vectors of the sheets that the Rust twin wrote, one line for each.
 mod answers;
+mod counts;
 mod plans;
 mod shown;
 mod writes;

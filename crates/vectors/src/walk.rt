@@ -1,7 +1,7 @@
 // Walks over the fields and lines of a text.
 use numerals::Number;
 ghost use mathlib.Core.Path.{_≡_};
-ghost use Prim.Native.Nat.{_-_, min};
+ghost use Prim.Native.Nat.{min};
 ghost use lib.ListN.{length, take, drop};
 ghost use lib.Seq.{paste};
 ghost use Rattle.vectors.specs.Parts.{behind, part, fields, lines};
@@ -91,14 +91,6 @@ fn least(a: usize, b: usize) -> usize
     ensures { λ r. ⌜ r ≡ min a b ⌝ }
 {
     if a < b { a } else { b }
-}
-
-// The place from 0 of what the field that starts at a position numbers from 1.
-pub fn place(s: &[u8], from: usize) -> usize
-    ensures { λ r. ⌜ r ≡ numeral (part 32 from (now (s .entry))) - 1 ⌝ }
-{
-    let n = number(s, from);
-    if n == 0 { 0 } else { n as usize - 1 }
 }
 
 // How many lines a text has, each ended by LF.

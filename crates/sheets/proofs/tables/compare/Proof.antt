@@ -5,7 +5,9 @@ use mathlib.Core.Bool.{true, false}
 use native.Mathlib.Omega.{arith}
 use lib.Dec.{ltb}
 use borrow.Author.Tests.{le-ltb, lt-ltb, eq-eqb, ne-eqb}
-use Rattle.sheets.specs.Rows.{comparedOf}
+use Rattle.expansion.proofs.Powers.{shifted}
+use Rattle.sheets.specs.Writing.{linesIn}
+use Rattle.sheets.specs.Rows.{movedOf, comparedOf}
 use Rattle.sheets.specs.declared.answer.Churned.the-variants.{Moved, Refused}
 use borrow.Author.Needs.{needs}
 use Rattle.sheets.proofs.tables.compare.Statement.{statement}
@@ -45,14 +47,18 @@ unfolding comparedOf
 returns-3 c =
     sym (rw (has (c .before .before .before .before .before .before .first-backend .ensures) (c .before .before .before .before .before .if1 .left), has (c .before .before .before .before .first-backend2 .ensures) (c .before .before .before .if2 .left), ne-eqb _ _ (c .if3 .taken)))
 
+shl-all : tie.Need-shl-all
+shl-all c = omega (arith, c .before .before .before .before .before .before .before .before .before .before .pre .1 .1)
+
 count-moved-requires : tie.Need-count-moved-requires
 count-moved-requires c κs = search needs
 
 returns-4 : tie.Need-returns-4
 unfolding comparedOf
 returns-4 c =
-    ap Moved (c .count-moved .ensures)
-    ∙ sym (rw (has (c .before .before .before .before .before .before .before .first-backend .ensures) (c .before .before .before .before .before .before .if1 .left), has (c .before .before .before .before .before .first-backend2 .ensures) (c .before .before .before .before .if2 .left), eq-eqb _ _ (c .before .if3 .left)))
+    let start = c .before .before .before .before .before .before .before .before .before .before .before in
+    ap Moved (c .count-moved .ensures ∙ ap (λ (all : ℕ). movedOf all (linesIn (start .args .old .now) (start .args .a .n)) (linesIn (start .args .new .now) (start .args .b .n)) (start .args .service)) (shifted (start .args .a .k) (start .pre .1 .1)))
+    ∙ sym (rw (has (c .before .before .before .before .before .before .before .before .first-backend .ensures) (c .before .before .before .before .before .before .before .if1 .left), has (c .before .before .before .before .before .before .first-backend2 .ensures) (c .before .before .before .before .before .if2 .left), eq-eqb _ _ (c .before .before .if3 .left)))
 
 pub compare-spec : {M : Type 1} → statement M
 compare-spec =
@@ -65,5 +71,6 @@ compare-spec =
     unknown-requires-2
     returns-2
     returns-3
+    shl-all
     count-moved-requires
     returns-4)

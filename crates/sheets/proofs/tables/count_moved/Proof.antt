@@ -1,5 +1,5 @@
 -- `tables::count_moved` meets its contract. The invariant: the suffixes below s that moved are counted.
-use Prim.Native.Nat.{ℕ, _+_, _-_, _*_, _%_, _^_, _≤_}
+use Prim.Native.Nat.{ℕ, _+_, _-_, _≤_}
 use mathlib.Core.Path.{_≡_, sym, ap, _∙_}
 use mathlib.Core.Logic.{⊎-elim}
 use mathlib.Core.Bool.{Bool, true, false, not}
@@ -10,7 +10,6 @@ use lib.Dec.{eqb}
 use borrow.Author.Tests.{eq-eqb, ne-eqb}
 use Rattle.expansion.specs.Sums.{countTo}
 use Rattle.expansion.proofs.Sums.{sum-none, count-suc, count-le}
-use Rattle.expansion.proofs.Powers.{shifted, pow-few}
 use Rattle.sheets.specs.Writing.{linesIn}
 use Rattle.sheets.specs.Rows.{firstOf, movedOf}
 use Rattle.sheets.proofs.tables.count_moved.Statement.{statement}
@@ -20,24 +19,14 @@ abbrev differs : List ℕ → ℕ → List ℕ → ℕ → ℕ → ℕ → Bool
 differs old n new m service v = not (eqb (firstOf (linesIn old n) service v) (firstOf (linesIn new m) service v))
 
 abbrev Inv-loop : tie.InvT-loop
-Inv-loop old n new m service k all moved₀ s₀ moved s = (s ≤ all) × (moved ≡ countTo s (differs old n new m service))
+Inv-loop old n new m service all moved₀ s₀ moved s = (s ≤ all) × (moved ≡ countTo s (differs old n new m service))
 
 abbrev μ-loop : tie.MeasureT-loop
-μ-loop old n new m service k all moved₀ s₀ moved s = all - s
-
-shl-all : tie.Need-shl-all Inv-loop μ-loop
-shl-all c = omega (arith, c .before .before .pre .1 .1)
+μ-loop old n new m service all moved₀ s₀ moved s = all - s
 
 loop-holds : tie.Need-loop-holds Inv-loop μ-loop
 unfolding countTo
 loop-holds c = (omega arith, sym (sum-none _))
-
--- all suffixes, and how many they are
-all : (c : tie.At-loop Inv-loop μ-loop) → 1 * 2 ^ (c .before .before .before .args .k) % 2 ^ 64 ≡ 2 ^ (c .before .before .before .args .k)
-all c = shifted (c .before .before .before .args .k) (c .before .before .before .pre .1 .1)
-
-few : (c : tie.At-loop Inv-loop μ-loop) → 1 * 2 ^ (c .before .before .before .args .k) % 2 ^ 64 ≤ 4096
-few c = rw (all c) (pow-few (c .before .before .before .args .k) (c .before .before .before .pre .1 .1))
 
 -- one suffix more
 one : (s : ℕ) (t : ℕ → Bool) → t s ≡ true → countTo (s + 1) t ≡ countTo s t + 1
@@ -50,26 +39,26 @@ first-backend-requires : tie.Need-first-backend-requires Inv-loop μ-loop
 first-backend-requires c κs = c .before .before .before .before .pre .0
 
 first-backend-requires-2 : tie.Need-first-backend-requires-2 Inv-loop μ-loop
-first-backend-requires-2 c κs = c .before .before .before .before .before .pre .1 .0
+first-backend-requires-2 c κs = c .before .before .before .before .before .pre .1
 
 add-moved : tie.Need-add-moved Inv-loop μ-loop
 add-moved c =
     let a = c .before .before .before .before .before .before .before .args in
     let l = c .before .before .before .before .loop in
-    omega (arith, l .inv .1, count-le (l .s) (differs (a .old .now) (a .n) (a .new .now) (a .m) (a .service)), few (c .before .before .before .before), c .before .before .before .loop-test .taken)
+    omega (arith, l .inv .1, count-le (l .s) (differs (a .old .now) (a .n) (a .new .now) (a .m) (a .service)))
 
 add-s : tie.Need-add-s Inv-loop μ-loop
-add-s c = omega (arith, few (c .before .before .before .before), c .before .before .before .loop-test .taken)
+add-s c = omega arith
 
 loop-less : tie.Need-loop-less Inv-loop μ-loop
-loop-less c = omega (arith, c .before .before .before .loop-test .taken)
+loop-less c = omega arith
 
 loop-again : tie.Need-loop-again Inv-loop μ-loop
 loop-again c =
     let l = c .before .before .before .before .loop in
     let old = c .before .before .first-backend .ensures in
     let new = c .before .first-backend2 .ensures in (
-      omega (arith, c .before .before .before .loop-test .taken),
+      omega arith,
       ⊎-elim
           (λ w. w .1 ∙ ap (λ (n : ℕ). n + 1) (l .inv .1) ∙ sym (one (l .s) _ (ap not (ne-eqb _ _ (λ e. w .0 .taken (old ∙ e ∙ sym new))))))
           (λ w. w .1 ∙ l .inv .1 ∙ sym (none (l .s) _ (ap not (eq-eqb _ _ (sym old ∙ w .0 .left ∙ new)))))
@@ -79,8 +68,7 @@ loop-again c =
 returns : tie.Need-returns Inv-loop μ-loop
 unfolding movedOf
 returns c =
-    let a = c .before .before .before .before .args in
-    let end : c .before .loop .s ≡ 2 ^ (a .k) = omega (arith, all (c .before), c .loop-test .left) in
+    let end : c .before .loop .s ≡ c .before .before .before .before .args .all = omega arith in
     c .before .loop .inv .1 ∙ rw end
 
 pub count-moved-spec : {M : Type 1} → statement M
@@ -89,7 +77,6 @@ count-moved-spec =
     (tie.spec
     Inv-loop
     μ-loop
-    shl-all
     loop-holds
     first-backend-requires
     first-backend-requires-2

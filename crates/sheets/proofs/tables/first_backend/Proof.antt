@@ -1,12 +1,14 @@
--- `tables::first_backend` meets its contract. The invariant: the first match of all lines is that of the lines from i on.
-use Prim.Native.Nat.{_+_, _-_, _*_, _≤_, _<_}
-use mathlib.Core.Path.{_≡_, refl, sym, ap, _∙_}
+-- `tables::first_backend` meets its contract. The invariant: the first match of all lines is that of the lines that are left.
+use Prim.Native.Nat.{ℕ, _+_, _-_, _*_, _%_, _^_, _≤_, _<_}
+use mathlib.Core.Path.{_≡_, sym, ap, _∙_}
 use mathlib.Core.Logic.{⊎-elim}
 use mathlib.Core.List.{List, _∷_}
 use native.Mathlib.Omega.{arith}
 use lib.ListN.{getD}
 use lib.Pow.{pow-pos}
 use lib.Seq.{slice}
+use mir.Syntax.{w64}
+use mir.Val.{Fits}
 use Rattle.expansion.proofs.Powers.{shifted}
 use Rattle.packing.specs.Count.{Line}
 use Rattle.sheets.specs.Calls.{linesFrom}
@@ -17,37 +19,51 @@ use Rattle.sheets.proofs.FirstLine.{of-here, of-other, of-miss, of-none
 use Rattle.sheets.proofs.tables.first_backend.Statement.{statement}
 use Rattle.sheets.proofs.tables.first_backend.Tie as tie
 
+-- the first match from line i on
+abbrev from : List ℕ → ℕ → ℕ → ℕ → ℕ → ℕ
+from table n service address i = firstOf (linesFrom (slice (4 * i) (4 * n) table)) service address
+
 abbrev Inv-loop : tie.InvT-loop
-Inv-loop table n service address i₀ i =
-    (i ≤ n) × (firstOf (linesIn table n) service address ≡ firstOf (linesFrom (slice (4 * i) (4 * n) table)) service address)
+Inv-loop table n service address left₀ left =
+    (left ≤ n) × (firstOf (linesIn table n) service address ≡ from table n service address (n - left))
 
 abbrev μ-loop : tie.MeasureT-loop
-μ-loop table n service address i₀ i = n - i
+μ-loop table n service address left₀ left = left
 
 loop-holds : tie.Need-loop-holds Inv-loop μ-loop
-loop-holds c = (omega arith, refl)
-
--- the line is in its limits
-service : (c : tie.In-loop Inv-loop μ-loop) → getD (c .before .before .args .table .now) (4 * c .before .loop .i) 0 < 64
-service c = c .before .before .pre .service (c .before .loop .i) (c .loop-test .taken)
-
-short : (c : tie.In-loop Inv-loop μ-loop) → getD (c .before .before .args .table .now) (4 * c .before .loop .i + 1) 0 ≤ 12
-short c = c .before .before .pre .short (c .before .loop .i) (c .loop-test .taken)
-
-backend : (c : tie.In-loop Inv-loop μ-loop) → getD (c .before .before .args .table .now) (4 * c .before .loop .i + 3) 0 < 32
-backend c = c .before .before .pre .backend (c .before .loop .i) (c .loop-test .taken)
+loop-holds c =
+    let a = c .args in
+    let all : 0 ≡ a .n - a .n = omega arith in
+    (omega arith, ap (from (a .table .now) (a .n) (a .service) (a .address)) all)
 
 -- the line in front of those after it
 turn :
     (c : tie.In-loop Inv-loop μ-loop)
     → let a = c .before .before .args in
-    let i = c .before .loop .i in
+    let i = a .n - c .before .loop .left in
     firstOf (linesIn (a .table .now) (a .n)) (a .service) (a .address)
     ≡ firstOf (lineAt (a .table .now) i ∷ linesFrom (slice (4 * (i + 1)) (4 * a .n) (a .table .now))) (a .service) (a .address)
 turn c =
     let a = c .before .before .args in
     c .before .loop .inv .1
-    ∙ ap (λ (ls : List Line). firstOf ls (a .service) (a .address)) (rows-more (a .table .now) (a .n) (c .before .before .pre .room) (c .before .loop .i) (c .loop-test .taken))
+    ∙ ap (λ (ls : List Line). firstOf ls (a .service) (a .address)) (rows-more (a .table .now) (a .n) (c .before .before .pre .room) (a .n - c .before .loop .left) (omega arith))
+
+-- the line's suffix is short
+short : (c : tie.In-loop Inv-loop μ-loop) → getD (c .before .before .args .table .now) (4 * (c .before .before .args .n - c .before .loop .left) + 1) 0 ≤ 12
+short c = c .before .before .pre .short (c .before .before .args .n - c .before .loop .left) (omega arith)
+
+-- numbers in their limits: one more fits, and a suffix of so few bits has a power of two
+next : (m : ℕ) {x : ℕ} → m ≤ 64 → x < m → Fits w64 (x + 1)
+next m {x} few h = omega arith
+
+below : {l : ℕ} → l ≤ 12 → l < 64
+below {l} h = omega arith
+
+divisor : (l : ℕ) → l ≤ 12 → 0 < 1 * 2 ^ l % 2 ^ 64
+divisor l h = rw (shifted l h) (pow-pos l)
+
+sub-i : tie.Need-sub-i Inv-loop μ-loop
+sub-i c = omega arith
 
 mul-if1 : tie.Need-mul-if1 Inv-loop μ-loop
 mul-if1 c = omega arith
@@ -59,7 +75,7 @@ shared-slice-read-if1 : tie.Need-shared-slice-read-if1 Inv-loop μ-loop
 shared-slice-read-if1 c = omega arith
 
 add-if1 : tie.Need-add-if1 Inv-loop μ-loop
-add-if1 c = omega (arith, service (c .before))
+add-if1 c = next 64 (omega arith) (c .before .before .before .pre .service _ (omega arith))
 
 mul-all : tie.Need-mul-all Inv-loop μ-loop
 mul-all c = omega arith
@@ -74,10 +90,10 @@ shared-slice-read-all : tie.Need-shared-slice-read-all Inv-loop μ-loop
 shared-slice-read-all c = omega arith
 
 shl-all : tie.Need-shl-all Inv-loop μ-loop
-shl-all c = omega (arith, short (c .before .before .before))
+shl-all c = below (c .before .before .before .before .before .pre .short _ (omega arith))
 
 rem-if2 : tie.Need-rem-if2 Inv-loop μ-loop
-rem-if2 c = rw (shifted _ (short (c .before .before .before))) (pow-pos _)
+rem-if2 c = divisor _ (c .before .before .before .before .before .pre .short _ (omega arith))
 
 mul-if2 : tie.Need-mul-if2 Inv-loop μ-loop
 mul-if2 c = omega arith
@@ -104,24 +120,27 @@ shared-slice-read-result : tie.Need-shared-slice-read-result Inv-loop μ-loop
 shared-slice-read-result c = omega arith
 
 add-result-2 : tie.Need-add-result-2 Inv-loop μ-loop
-add-result-2 c = omega (arith, backend (c .before .before .before .before .before .before))
+add-result-2 c = next 32 (omega arith) (c .before .before .before .before .before .before .before .before .pre .backend _ (omega arith))
 
 returns : tie.Need-returns Inv-loop μ-loop
 returns c =
     let at = c .before .before .before .before .before .before in
     sym (turn at ∙ of-here _ _ _ _ (c .before .before .before .before .if1 .taken) (rw (shifted _ (short at)) at (c .before .if2 .taken)))
 
-add-i : tie.Need-add-i Inv-loop μ-loop
-add-i c = omega arith
+sub-left : tie.Need-sub-left Inv-loop μ-loop
+sub-left c = omega arith
 
 loop-less : tie.Need-loop-less Inv-loop μ-loop
 loop-less c = omega arith
 
 loop-again : tie.Need-loop-again Inv-loop μ-loop
 loop-again c =
-    let at = c .before .before in (
+    let at = c .before .before in
+    let a = at .before .before .args in
+    let i : a .n - at .before .loop .left + 1 ≡ a .n - (at .before .loop .left - 1) = omega arith in (
       omega arith,
-      ⊎-elim (λ w. turn at ∙ of-miss _ _ _ _ (rw (shifted _ (short at)) at (w .3 .left))) (λ w. turn at ∙ of-other _ _ _ _ (w .left)) (c .if1 .came),
+      ⊎-elim (λ w. turn at ∙ of-miss _ _ _ _ (rw (shifted _ (short at)) at (w .3 .left))) (λ w. turn at ∙ of-other _ _ _ _ (w .left)) (c .if1 .came)
+          ∙ ap (from (a .table .now) (a .n) (a .service) (a .address)) i,
     )
 
 returns-2 : tie.Need-returns-2 Inv-loop μ-loop
@@ -129,7 +148,7 @@ returns-2 c =
     let a = c .before .before .args in
     sym
     (c .before .loop .inv .1
-    ∙ ap (λ (ls : List Line). firstOf ls (a .service) (a .address)) (rows-none (a .table .now) (a .n) (c .before .before .pre .room) (c .before .loop .i) (omega arith))
+    ∙ ap (λ (ls : List Line). firstOf ls (a .service) (a .address)) (rows-none (a .table .now) (a .n) (c .before .before .pre .room) (a .n - c .before .loop .left) (omega arith))
     ∙ of-none (a .service) (a .address))
 
 pub first-backend-spec : {M : Type 1} → statement M
@@ -139,6 +158,7 @@ first-backend-spec =
     Inv-loop
     μ-loop
     loop-holds
+    sub-i
     mul-if1
     mul-if1-2
     shared-slice-read-if1
@@ -159,7 +179,7 @@ first-backend-spec =
     shared-slice-read-result
     add-result-2
     returns
-    add-i
+    sub-left
     loop-less
     loop-again
     returns-2)

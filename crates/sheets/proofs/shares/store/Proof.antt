@@ -1,22 +1,27 @@
--- `shares::store` meets its contract. The loop's invariant: the first b counts are stored.
-use Prim.Native.Nat.{ℕ, _-_, _≤_, _<_}
+-- `shares::store` meets its contract. The invariant: the first b counts are stored.
+use Prim.Native.Nat.{ℕ, _-_, _≤_}
 use mathlib.Core.List.{map-id}
 use mathlib.Core.Path.{_≡_, refl, _∙_}
 use native.Mathlib.Nat.{zero-add}
 use native.Mathlib.Omega.{arith}
-use lib.ListN.{length}
+use lib.ListN.{length, take}
+use lib.Seq.{take-all}
 use Rattle.expansion.proofs.Listing.{Copied, copied-length, copied-more}
-use Rattle.expansion.proofs.shares.store.Statement.{statement}
-use Rattle.expansion.proofs.shares.store.Tie as tie
+use Rattle.sheets.proofs.shares.store.Statement.{statement}
+use Rattle.sheets.proofs.shares.store.Tie as tie
 
 abbrev Inv-loop : tie.InvT-loop
-Inv-loop n shares₀ counts b₀ shares b = (b ≤ n) × Copied (λ (x : ℕ). x) counts 0 b shares₀ shares
+Inv-loop shares₀ counts b₀ shares b = (b ≤ 32) × Copied (λ (x : ℕ). x) counts 0 b shares₀ shares
 
 abbrev μ-loop : tie.MeasureT-loop
-μ-loop n shares₀ counts b₀ shares b = n - b
+μ-loop shares₀ counts b₀ shares b = 32 - b
 
 loop-holds : tie.Need-loop-holds Inv-loop μ-loop
 loop-holds c = (omega arith, record { is = refl })
+
+-- there are 32 counts
+long : (c : tie.At-loop Inv-loop μ-loop) → length (c .before .args .t1) ≡ 32
+long c = c .before .good .0 .1 .0 .1
 
 mul-shares : tie.Need-mul-shares Inv-loop μ-loop
 mul-shares c = omega arith
@@ -38,9 +43,7 @@ loop-less c = omega arith
 
 loop-again : tie.Need-loop-again Inv-loop μ-loop
 loop-again c =
-    let long : length (c .before .before .args .t1) ≡ 32 = c .before .before .good .0 .1 .0 .1 in
-    let inside : c .before .loop .b < length (c .before .before .args .t1) = omega arith in
-    (omega arith, rw zero-add at (copied-more 0 inside (c .before .loop .inv .1)))
+    (omega arith, rw zero-add at (copied-more 0 (omega (arith, long (c .before))) (c .before .loop .inv .1)))
 
 same-length : tie.Need-same-length Inv-loop μ-loop
 same-length c = copied-length (c .before .loop .inv .1)
@@ -48,8 +51,9 @@ same-length c = copied-length (c .before .loop .inv .1)
 returns : tie.Need-returns Inv-loop μ-loop
 returns c =
     let l = c .before .loop in
-    let all : l .b ≡ c .before .before .args .n = omega arith in
-    rw (← all) (l .inv .1 .is ∙ simp map-id)
+    let all : take (l .b) (c .before .before .args .t1) ≡ c .before .before .args .t1 =
+    take-all (l .b) (c .before .before .args .t1) (omega (arith, long (c .before))) in
+    l .inv .1 .is ∙ simp (map-id, all)
 
 pub store-spec : {M : Type 1} → statement M
 store-spec =
