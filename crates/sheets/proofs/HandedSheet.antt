@@ -120,13 +120,13 @@ module _ {A : Type 0} where
       (λ h. rw (le-leb 1 (n + 1) (omega arith), lt-leb (n + 1) most (omega arith), le-ltb n most h))
 
   suffix-read :
-      (k l v at : ℕ) (f : ℕ → ℕ → Reading A) → k ≤ 12 → v < 2 ^ l
+      (k l v at : ℕ) (f : ℕ → ℕ → Reading A) → 1 ≤ k → k ≤ 12 → v < 2 ^ l
       → onSuffix (suffix k (suffixText l v)) at f ≡ unless (leb l k) no2 at (f l v)
   unfolding onSuffix unless
-  suffix-read k l v at f few small =
+  suffix-read k l v at f some few small =
       by-less k l
       (λ h. rw (long (suffix k (suffixText l v)) refl h, lt-leb l k h))
-      (λ h. rw (suffix-back k l v (omega arith) h small, le-leb l k h))
+      (λ h. rw (suffix-back k l v some few h small, le-leb l k h))
     where
       long : (r : SuffixRead) → suffix k (suffixText l v) ≡ r → k < l → suffix k (suffixText l v) ≡ NoSuffix
       long (Suffix m w) e h =
@@ -162,7 +162,7 @@ merged true true b at end = refl
 merged true false b at end = refl
 merged false m b at end = refl
 
-module _ (k : ℕ) (few : k ≤ 12) where
+module _ (k : ℕ) (some : 1 ≤ k) (few : k ≤ 12) where
   line-read :
       (before : List Line) (at : ℕ) (l : Line) → l .rule .value < 2 ^ (l .rule .len)
       → ruleFields k before at (lineRow l) ≡ unless (isLine k l) no2 at (placed before l at (got l))
@@ -177,7 +177,7 @@ module _ (k : ℕ) (few : k ≤ 12) where
       let same : end (line (l .service + 1 - 1) (l .rule .len) (l .rule .value) (l .rule .backend + 1 - 1)) ≡ end l = rw (service, backend) in
       place-read 64 (l .service) at _
       ∙ ap (unless s no2 at)
-      (suffix-read k (l .rule .len) (l .rule .value) at _ few small
+      (suffix-read k (l .rule .len) (l .rule .value) at _ some few small
       ∙ ap (unless m no2 at) (place-read 32 (l .rule .backend) at _ ∙ ap (unless b no2 at) same))
       ∙ rw (lt-ltb (l .rule .value) (2 ^ (l .rule .len)) small) (sym (merged s m b at (placed before l at (got l))))
 
@@ -270,6 +270,6 @@ as-its-sheet k total cs fit =
     (rw (read, head-read k n total)
     (head-more (both (leb 1 k) (leb k 12)) (both (leb 1 n) (leb n 2048)) (leb total totalLimit) (record { k = k; n = n; total = total }) _
     (then (checkLines k [] ls) (checkEnd (length ss) t))
-    (λ bits some.
-    lines-read k (leb-true k 12 (both-right (leb 1 k) (leb k 12) bits)) [] ls ss (wholeTable (record { k = k; n = n; total = total })) t fit
-    (λ none. whole-end k n total ls (omega arith) (leb-true 1 n (both-left (leb 1 n) (leb n 2048) some))))))
+    (λ bits lines.
+    lines-read k (leb-true 1 k (both-left (leb 1 k) (leb k 12) bits)) (leb-true k 12 (both-right (leb 1 k) (leb k 12) bits)) [] ls ss (wholeTable (record { k = k; n = n; total = total })) t fit
+    (λ none. whole-end k n total ls (omega arith) (leb-true 1 n (both-left (leb 1 n) (leb n 2048) lines))))))
