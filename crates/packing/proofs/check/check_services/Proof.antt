@@ -1,5 +1,5 @@
 -- `check::check_services` meets its contract. The loop's invariant: the services before s passed, and the weights of service s begin at `at`.
-use Prim.Native.Nat.{ℕ, _+_, _-_, _≤_}
+use Prim.Native.Nat.{_+_, _-_, _≤_}
 use mathlib.Core.Path.{_≡_, refl, sym, ap, _∙_}
 use native.Mathlib.Omega.{arith}
 use lib.Dec.{ltb, eqb}

@@ -1,9 +1,12 @@
 -- `grants::enter` meets its contract: the key fits, since a saving is below 2 ^ 54.
 -- Assumes nothing.
-use Prim.Native.Nat.{_^_, _<_}
+use Prim.Native.Nat.{ℕ, _^_, _<_}
+use mathlib.Core.Path.{_≡_}
+use mathlib.Core.List.{List}
 use native.Mathlib.Omega.{arith}
 use borrow.Author.Needs.{needs}
 use Rattle.packing.specs.Stored.{savings}
+use Rattle.packing.specs.Tournament.{Replaced}
 use Rattle.packing.proofs.Payable.{saving-small}
 use Rattle.packing.proofs.grants.enter.Statement.{statement}
 use Rattle.packing.proofs.grants.enter.Tie as tie
@@ -52,9 +55,13 @@ add-replace c = omega (arith, small (c .before))
 replace-requires : tie.Need-replace-requires
 replace-requires c κs = search needs
 
+-- the same key in other words
+rekeyed : (before : List ℕ) (s key key′ : ℕ) (tree : List ℕ) → Replaced before s key tree → key ≡ key′ → Replaced before s key′ tree
+rekeyed before s key key′ tree r e = rw (← e) r
+
 returns : tie.Need-returns
 unfolding savings
-returns c = search needs
+returns c = rekeyed _ _ _ _ _ (c .replace .ensures) (omega (arith, c .before .before .saving .ensures))
 
 pub enter-spec : {M : Type 1} → statement M
 enter-spec =
