@@ -12,7 +12,8 @@ use Rattle.expansion.specs.Sums.{sumTo, countTo}
 use Rattle.packing.specs.Count.{matchesLine}
 use Rattle.sheets.specs.Reading.{then, unless, onField, same}
 use Rattle.sheets.specs.PercentageSheet.{textLimit}
-use Rattle.sheets.specs.RuleSheet.{totalLimit, tableFields, onSuffix, countOf, inOrder, placed, ruleFields, ruleLines, closed, wholeTable, tableLines, readTable}
+use Rattle.sheets.specs.RuleSheet.{totalLimit, tableFields, onSuffix, countOf, inOrder, placed, ruleFields, ruleLines, closed}
+use Rattle.sheets.specs.RuleSheet.{wholeTable, tableLines, readTable}
 use Rattle.sheets.specs.Calls.{firstBackend, hasService, lookupIn, lookupAnswer, moved, churnOf, churnAnswer}
 use Rattle.sheets.specs.Cases.{bytes}
 use Rattle.commands.specs.Said.{Said, prints, noNumber, onNumber}

@@ -1,4 +1,5 @@
--- What lookup prints, by what the table answers for an address of 32 bits: a refusal is one for every address, and an address above 32 bits is refused where another has a backend.
+-- What lookup prints, by what the table answers for an address of 32 bits: a refusal is one for every address, and where one has a backend,
+-- an address above 32 bits is refused.
 use Prim.Native.Nat.{ℕ, _≤_, _<_, min}
 use mathlib.Core.Path.{_≡_, refl, sym, ap, ap₂, _∙_}
 use mathlib.Core.Bool.{Bool, true, false}
@@ -93,11 +94,15 @@ module _ (table service address : List ℕ) where
   unfolding lookupSays onNumber
   no-service e = rw (capped-bad 64 (numeral service) e)
 
-  pub no-address : (n : ℕ) → capped 64 (numeral service) ≡ Value n → capped addressLimit (addressOf address) ≡ Bad → lookupSays table service address ≡ noNumber 3
+  pub no-address :
+      (n : ℕ) → capped 64 (numeral service) ≡ Value n → capped addressLimit (addressOf address) ≡ Bad
+      → lookupSays table service address ≡ noNumber 3
   unfolding lookupSays onNumber
   no-address n e f = rw (capped-value 64 n (numeral service) e .1, capped-bad addressLimit (addressOf address) f)
 
-  pub says : (n a : ℕ) → capped 64 (numeral service) ≡ Value n → capped addressLimit (addressOf address) ≡ Value a → lookupSays table service address ≡ prints (lookupText table n a)
+  pub says :
+      (n a : ℕ) → capped 64 (numeral service) ≡ Value n → capped addressLimit (addressOf address) ≡ Value a
+      → lookupSays table service address ≡ prints (lookupText table n a)
   unfolding lookupSays onNumber
   says n a e f =
       let v = capped-value 64 n (numeral service) e in

@@ -1,15 +1,15 @@
 -- Numerals of any length: found byte by byte, and read up to a limit.
-use Prim.Native.Nat.{ℕ, suc, _+_, _≤_, _<_, min}
+use Prim.Native.Nat.{ℕ, _+_, _≤_, _<_, min}
 use mathlib.Core.Path.{_≡_, refl, sym, ap, _∙_}
 use mathlib.Core.Bool.{true, false}
 use mathlib.Core.List.{List, [], _∷_}
 use native.Mathlib.Numerals.{add-one}
 use native.Mathlib.Omega.{arith}
-use lib.Dec.{leb, ltb}
+use lib.Dec.{leb}
 use lib.ListN.{length, getD, drop}
 use lib.Seq.{drop-cons}
 use borrow.Author.Tests.{le-leb, lt-leb, lt-ltb, le-ltb, ne-eqb}
-use Rattle.numerals.specs.Pick.{pick, both}
+use Rattle.numerals.specs.Pick.{both}
 use Rattle.numerals.specs.Digits.{isDigit, allDigits, value, onValue}
 use Rattle.numerals.specs.Decimal.{noLeadingZero, isNumeral, number}
 use Rattle.numerals.specs.declared.digits.Number.{Number}

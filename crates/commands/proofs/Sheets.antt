@@ -1,6 +1,6 @@
 -- What the splitting of a percentage sheet prints: its rule sheet, which is never longer than a text may be.
 use Prim.Native.Nat.{ℕ, _≤_}
-use mathlib.Core.Path.{_≡_, refl, sym, ap, _∙_}
+use mathlib.Core.Path.{_≡_, refl}
 use mathlib.Core.List.{List}
 use native.Mathlib.Omega.{arith}
 use lib.ListN.{length}
@@ -26,19 +26,27 @@ module _ (text : List ℕ) where
   prints S e = rw (le-leb (length (sheetText S)) 65536 (sheet-fits text S e))
 
   -- the rule sheet was printed
-  pub ended : (n : ℕ) → End n ≡ printRead (readSheet text) sheetText 65536 → (n ≡ length (splitPrints text)) × (textOf (readSheet text) sheetText ≡ splitPrints text)
+  pub ended :
+      (n : ℕ) → End n ≡ printRead (readSheet text) sheetText 65536
+      → (n ≡ length (splitPrints text)) × (textOf (readSheet text) sheetText ≡ splitPrints text)
   unfolding splitPrints splitOf
   ended n = go (readSheet text) refl
     where
-      go : (r : Reading Sheet) → readSheet text ≡ r → End n ≡ printRead r sheetText 65536 → (n ≡ length (splitOf r)) × (textOf r sheetText ≡ splitOf r)
+      go :
+          (r : Reading Sheet) → readSheet text ≡ r → End n ≡ printRead r sheetText 65536
+          → (n ≡ length (splitOf r)) × (textOf r sheetText ≡ splitOf r)
       go (got S) e h = (cc (prints S e), refl)
       go (turned why line) e h = absurd (let z : _≡_ {A = ℕ} 0 1 = cc in omega arith)
 
   -- it was turned back
-  pub refused : (r : answer.Refused) → Refused r ≡ printRead (readSheet text) sheetText 65536 → (splitPrints text ≡ refusedText r) × ((S : Sheet) → readSheet text ≡ got S → ⊥)
+  pub refused :
+      (r : answer.Refused) → Refused r ≡ printRead (readSheet text) sheetText 65536
+      → (splitPrints text ≡ refusedText r) × ((S : Sheet) → readSheet text ≡ got S → ⊥)
   unfolding splitPrints splitOf
   refused w = go (readSheet text) refl
     where
-      go : (r : Reading Sheet) → readSheet text ≡ r → Refused w ≡ printRead r sheetText 65536 → (splitOf r ≡ refusedText w) × ((S : Sheet) → r ≡ got S → ⊥)
+      go :
+          (r : Reading Sheet) → readSheet text ≡ r → Refused w ≡ printRead r sheetText 65536
+          → (splitOf r ≡ refusedText w) × ((S : Sheet) → r ≡ got S → ⊥)
       go (got S) e h = absurd (let z : _≡_ {A = ℕ} 0 1 = cc (prints S e) in omega arith)
       go (turned why line) e h = (cc, λ S g. not-got g)

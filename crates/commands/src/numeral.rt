@@ -38,9 +38,10 @@ pub fn read_numeral(s: &[u8], most: u64) -> Number
     if !is_numeral(s) {
         return Number::Bad;
     }
+    let above = most + 1;
     let read = numerals::read_number(s, 0, s.len(), 0, most);
     match read {
         Number::Value(v) => Number::Value(v),
-        Number::Bad => Number::Value(most + 1),
+        Number::Bad => Number::Value(above),
     }
 }

@@ -25,7 +25,8 @@ pub fn put_bytes(out: &mut [u8], at: usize, text: &[u8]) -> usize
 // A number, and a separator behind it; the position after them. No number has more than 20 digits, so it fits.
 fn put_number(out: &mut [u8], at: usize, n: u64, separator: u8) -> usize
     requires { ⌜ at + 21 ≤ length (now out) ⌝ }
-    ensures { λ r. ⌜ (Wrote (now (out .entry)) (now (out .exit)) at r (decimal n ++ separator ∷ [])) × (r ≤ at + 21) ⌝ }
+    ensures text { λ r. ⌜ Wrote (now (out .entry)) (now (out .exit)) at r (decimal n ++ separator ∷ []) ⌝ }
+    ensures end { λ r. ⌜ r ≤ at + 21 ⌝ }
 {
     let written = numerals::write_number(out, at, n);
     let Written::End(end) = written else {
@@ -46,7 +47,8 @@ pub fn put_answer(out: &mut [u8], n: usize) -> usize
 // Two numbers, a space between them and a separator behind them; the position after them.
 fn put_pair(out: &mut [u8], at: usize, first: u64, second: u64, separator: u8) -> usize
     requires { ⌜ at + 42 ≤ length (now out) ⌝ }
-    ensures { λ r. ⌜ (Wrote (now (out .entry)) (now (out .exit)) at r ((decimal first ++ 32 ∷ []) ++ (decimal second ++ separator ∷ []))) × (r ≤ at + 42) ⌝ }
+    ensures text { λ r. ⌜ Wrote (now (out .entry)) (now (out .exit)) at r ((decimal first ++ 32 ∷ []) ++ (decimal second ++ separator ∷ [])) ⌝ }
+    ensures end { λ r. ⌜ r ≤ at + 42 ⌝ }
 {
     let next = put_number(out, at, first, 32);
     put_number(out, next, second, separator)
@@ -55,7 +57,8 @@ fn put_pair(out: &mut [u8], at: usize, first: u64, second: u64, separator: u8) -
 // REFUSED number line, and a separator behind it; the position after them.
 fn put_refusal(out: &mut [u8], r: Refused, separator: u8) -> usize
     requires { ⌜ 50 ≤ length (now out) ⌝ }
-    ensures { λ end. ⌜ (Wrote (now (out .entry)) (now (out .exit)) 0 end (refusal r ++ separator ∷ [])) × (end ≤ 50) ⌝ }
+    ensures text { λ end. ⌜ Wrote (now (out .entry)) (now (out .exit)) 0 end (refusal r ++ separator ∷ []) ⌝ }
+    ensures end { λ end. ⌜ end ≤ 50 ⌝ }
 {
     let why = r.why;
     let at = put_bytes(out, 0, b"REFUSED ");

@@ -1,6 +1,5 @@
 -- `address::read_address` meets its contract: the numeral, or else the dotted quad, which is never above the limit.
 use mathlib.Core.Path.{sym, _∙_}
-use native.Mathlib.Omega.{arith}
 use borrow.Author.Needs.{needs}
 use Rattle.commands.specs.Address.{addressOf}
 use Rattle.commands.proofs.Numerals.{first, second}

@@ -1,5 +1,5 @@
 -- `churning::compare` meets its contract, by what `sheets::churn` answers.
-use mathlib.Core.Path.{_≡_, sym, _∙_}
+use mathlib.Core.Path.{sym, _∙_}
 use borrow.Author.Needs.{needs}
 use Rattle.commands.specs.Churn.{churnedText}
 use Rattle.commands.proofs.churning.compare.Statement.{statement}

@@ -24,7 +24,12 @@ same-requires-2 c κs = search needs
 
 returns-2 : tie.Need-returns-2
 unfolding commandOf bytes
-returns-2 c = rw (sym (c .before .before .before .before .same .ensures) ∙ c .before .before .before .if1 .left, sym (c .before .same2 .ensures) ∙ c .if2 .taken)
+returns-2 c =
+    let first = c .before .before .before in
+    rw (
+      sym (first .before .same .ensures) ∙ first .if1 .left,
+      sym (c .before .same2 .ensures) ∙ c .if2 .taken,
+    )
 
 slice-aggregate-same-3 : tie.Need-slice-aggregate-same-3
 slice-aggregate-same-3 c = search needs
@@ -34,7 +39,14 @@ same-requires-3 c κs = search needs
 
 returns-3 : tie.Need-returns-3
 unfolding commandOf bytes
-returns-3 c = rw (sym (c .before .before .before .before .before .before .before .same .ensures) ∙ c .before .before .before .before .before .before .if1 .left, sym (c .before .before .before .before .same2 .ensures) ∙ c .before .before .before .if2 .left, sym (c .before .same3 .ensures) ∙ c .if3 .taken)
+returns-3 c =
+    let second = c .before .before .before in
+    let first = second .before .before .before in
+    rw (
+      sym (first .before .same .ensures) ∙ first .if1 .left,
+      sym (second .before .same2 .ensures) ∙ second .if2 .left,
+      sym (c .before .same3 .ensures) ∙ c .if3 .taken,
+    )
 
 slice-aggregate-same-4 : tie.Need-slice-aggregate-same-4
 slice-aggregate-same-4 c = search needs
@@ -44,11 +56,29 @@ same-requires-4 c κs = search needs
 
 returns-4 : tie.Need-returns-4
 unfolding commandOf bytes
-returns-4 c = rw (sym (c .before .before .before .before .before .before .before .before .before .before .same .ensures) ∙ c .before .before .before .before .before .before .before .before .before .if1 .left, sym (c .before .before .before .before .before .before .before .same2 .ensures) ∙ c .before .before .before .before .before .before .if2 .left, sym (c .before .before .before .before .same3 .ensures) ∙ c .before .before .before .if3 .left, sym (c .before .same4 .ensures) ∙ c .if4 .taken)
+returns-4 c =
+    let third = c .before .before .before in
+    let second = third .before .before .before in
+    let first = second .before .before .before in
+    rw (
+      sym (first .before .same .ensures) ∙ first .if1 .left,
+      sym (second .before .same2 .ensures) ∙ second .if2 .left,
+      sym (third .before .same3 .ensures) ∙ third .if3 .left,
+      sym (c .before .same4 .ensures) ∙ c .if4 .taken,
+    )
 
 returns-5 : tie.Need-returns-5
 unfolding commandOf bytes
-returns-5 c = rw (sym (c .before .before .before .before .before .before .before .before .before .before .same .ensures) ∙ c .before .before .before .before .before .before .before .before .before .if1 .left, sym (c .before .before .before .before .before .before .before .same2 .ensures) ∙ c .before .before .before .before .before .before .if2 .left, sym (c .before .before .before .before .same3 .ensures) ∙ c .before .before .before .if3 .left, sym (c .before .same4 .ensures) ∙ c .if4 .left)
+returns-5 c =
+    let third = c .before .before .before in
+    let second = third .before .before .before in
+    let first = second .before .before .before in
+    rw (
+      sym (first .before .same .ensures) ∙ first .if1 .left,
+      sym (second .before .same2 .ensures) ∙ second .if2 .left,
+      sym (third .before .same3 .ensures) ∙ third .if3 .left,
+      sym (c .before .same4 .ensures) ∙ c .if4 .left,
+    )
 
 pub command-spec : {M : Type 1} → statement M
 command-spec =

@@ -1,7 +1,7 @@
 -- `looking::look` meets its contract: the table is asked for the address's 32 lowest bits, and the address itself where the service is there.
 use Prim.Native.Nat.{_%_, _≤_, _<_}
 use mathlib.Core.Path.{_≡_, sym, ap, _∙_}
-use native.Mathlib.Nat.{mod-lt, mod-eq-of-lt}
+use native.Mathlib.Nat.{mod-eq-of-lt}
 use native.Mathlib.Omega.{arith}
 use borrow.Author.Needs.{needs}
 use Rattle.sheets.specs.Calls.{lookupAnswer}
@@ -35,8 +35,9 @@ returns c =
     let k = c .before .before .before .before .before in
     let l = k .before .before .before in
     let a = l .before .before .before .args in
-    rw (above (a .table .now) (a .service) (a .address) (a .address % 4294967296) _ (sym (k .before .looked2 .given .1) ∙ l .lookup .ensures) (c .before .before .before .before .if1 .taken))
-    (c .before .before .put-refused2 .ensures)
+    let told = sym (k .before .looked2 .given .1) ∙ l .lookup .ensures in
+    let over = c .before .before .before .before .if1 .taken in
+    rw (above (a .table .now) (a .service) (a .address) (a .address % 4294967296) _ told over) (c .before .before .put-refused2 .ensures)
 
 put-answer-requires : tie.Need-put-answer-requires
 put-answer-requires c κs = search needs
@@ -48,8 +49,8 @@ returns-2 : tie.Need-returns-2
 returns-2 c =
     let l = c .before .before .before .before .before .before .before in
     let a = l .before .before .before .args in
-    rw (refused-too (a .table .now) (a .service) (a .address) (a .address % 4294967296) _ (sym (c .before .before .before .before .before .looked .given .1) ∙ l .lookup .ensures))
-    (c .before .before .put-refused .ensures)
+    let told = sym (c .before .before .before .before .before .looked .given .1) ∙ l .lookup .ensures in
+    rw (refused-too (a .table .now) (a .service) (a .address) (a .address % 4294967296) _ told) (c .before .before .put-refused .ensures)
 
 same-length-3 : tie.Need-same-length-3
 same-length-3 c = search needs
@@ -61,9 +62,9 @@ returns-3 c =
     let a = l .before .before .before .args in
     let low : a .address ≤ 4294967295 = c .before .before .before .before .if1 .left in
     let few : a .address < 4294967296 = omega arith in
-    let same : lookupAnswer (a .table .now) (a .service) (a .address % 4294967296) ≡ lookupAnswer (a .table .now) (a .service) (a .address) = ap (lookupAnswer (a .table .now) (a .service)) (mod-eq-of-lt few) in
-    rw (inside (a .table .now) (a .service) (a .address) _ (sym (k .before .looked2 .given .1) ∙ l .lookup .ensures ∙ same) low)
-    (c .before .before .put-answer .ensures)
+    let whole : a .address % 4294967296 ≡ a .address = mod-eq-of-lt few in
+    let told = sym (k .before .looked2 .given .1) ∙ l .lookup .ensures ∙ ap (lookupAnswer (a .table .now) (a .service)) whole in
+    rw (inside (a .table .now) (a .service) (a .address) _ told low) (c .before .before .put-answer .ensures)
 
 pub look-spec : {M : Type 1} → statement M
 look-spec =

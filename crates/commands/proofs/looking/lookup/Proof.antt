@@ -1,6 +1,5 @@
 -- `looking::lookup` meets its contract: the service's word is tested before the address's, and both before the table is read.
 use mathlib.Core.Path.{sym, _∙_}
-use native.Mathlib.Omega.{arith}
 use borrow.Author.Needs.{needs}
 use Rattle.commands.proofs.Texts.{said, not-said}
 use Rattle.commands.proofs.Lookups.{no-service, no-address, says}

@@ -1,12 +1,11 @@
 -- `numeral::is_numeral` meets its contract. The invariant: no zero leads, and what is left is to be digits.
-use Prim.Native.Nat.{_+_, _-_, _≤_}
-use mathlib.Core.Path.{_≡_, refl, sym, ap, _∙_}
-use mathlib.Core.Bool.{true}
+use Prim.Native.Nat.{_-_, _≤_}
+use mathlib.Core.Path.{_≡_, sym, ap, _∙_}
 use mathlib.Core.Logic.{⊎-elim}
 use native.Mathlib.Omega.{arith}
 use lib.ListN.{length, drop, drop-of-length-le}
 use Rattle.numerals.specs.Digits.{allDigits}
-use Rattle.numerals.specs.Decimal.{noLeadingZero, isNumeral}
+use Rattle.numerals.specs.Decimal.{isNumeral}
 use Rattle.commands.proofs.Numerals.{none, zero-leads, lone-zero, other-leads, by-digits, digit, too-low, too-high}
 use Rattle.commands.proofs.numeral.is_numeral.Statement.{statement}
 use Rattle.commands.proofs.numeral.is_numeral.Tie as tie

@@ -25,6 +25,9 @@ read c =
     let a = c .before .before .before .before .args in
     sym (c .read-number .ensures ∙ ap (number 0 (a .most)) (take-length (a .s .now)))
 
+add-above : tie.Need-add-above
+add-above c = omega arith
+
 read-number-requires : tie.Need-read-number-requires
 read-number-requires c κs = search needs
 
@@ -33,9 +36,6 @@ enum-known-read c = search needs
 
 enum-told : tie.Need-enum-told
 enum-told c = search needs
-
-add-t9 : tie.Need-add-t9
-add-t9 c = omega arith
 
 returns-2 : tie.Need-returns-2
 returns-2 c =
@@ -53,9 +53,9 @@ read-numeral-spec =
     (tie.spec
     is-numeral-requires
     returns
+    add-above
     read-number-requires
     enum-known-read
     enum-told
-    add-t9
     returns-2
     returns-3)

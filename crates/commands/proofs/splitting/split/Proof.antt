@@ -1,6 +1,5 @@
 -- `splitting::split` meets its contract: the rule sheet as `sheets::split_sheet` writes it, or the refusal that it answers.
 use mathlib.Core.Path.{_≡_, sym, ap, _∙_}
-use native.Mathlib.Omega.{arith}
 use lib.ListN.{length}
 use lib.Seq.{sets}
 use borrow.Author.Needs.{needs}

@@ -1,5 +1,4 @@
 -- `writing::put_answer` meets its contract.
-use native.Mathlib.Omega.{arith}
 use borrow.Author.Needs.{needs}
 use Rattle.commands.specs.Refused.{numberText}
 use Rattle.commands.proofs.writing.put_answer.Statement.{statement}

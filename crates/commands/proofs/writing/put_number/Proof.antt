@@ -1,13 +1,11 @@
 -- `writing::put_number` meets its contract: a number of 64 bits has at most 20 digits, so it is written, and the separator behind it.
 use Prim.Native.Nat.{_+_, _<_}
-use mathlib.Core.Path.{_≡_}
 use native.Mathlib.Omega.{arith}
 use lib.ListN.{length}
 use borrow.Author.Needs.{needs}
 use Rattle.numerals.specs.Decimal.{decimal}
 use Rattle.sheets.specs.Writing.{Wrote, Before, endAt}
 use Rattle.sheets.proofs.Writes.{chain, byte, text, before-end}
-use Rattle.sheets.proofs.Writes as writes
 use Rattle.commands.proofs.Texts.{digits-most, ends-soon}
 use Rattle.commands.proofs.writing.put_number.Statement.{statement}
 use Rattle.commands.proofs.writing.put_number.Tie as tie
@@ -35,7 +33,10 @@ ends c =
     let w = c .write-number in
     before-end _ _ _ (room c) _ _ (w .ensures .0) (w .ensures .1)
 
-wrote : (c : tie.After-write-number) → let a = c .before .before .before .args in Wrote (a .out .now) (c .write-number .last .0) (a .at) (endAt (c .write-number .result)) (decimal (a .n))
+wrote :
+    (c : tie.After-write-number)
+    → let a = c .before .before .before .args in
+    Wrote (a .out .now) (c .write-number .last .0) (a .at) (endAt (c .write-number .result)) (decimal (a .n))
 wrote c =
     let w = c .write-number in
     text _ _ _ (room c) _ _ (w .ensures .0) (w .ensures .1)
