@@ -5,7 +5,7 @@ use libc::STDIN_FILENO;
 ghost use Prim.Native.Nat.{_≤_};
 ghost use mathlib.Core.Path.{_≡_};
 ghost use lib.ListN.{length, take};
-ghost use Rattle.splitter.specs.Input.{bytes};
+ghost use Rattle.splitter.specs.Input.{bytes, Came, judged};
 
 // A text's bytes, or that it can't be read, which was then told on standard error.
 pub enum Read {
@@ -26,22 +26,44 @@ pub fn start(text: &[u8], n: usize) -> &[u8]
     if n <= text.len() { &text[..n] } else { text }
 }
 
-// One read, tried again where a signal interrupted it before a byte came. No byte is the end of the input.
-fn read_some(file: i32, text: &mut [u8]) -> Read
-    ensures { λ r. ⌜ bytes r ≤ length (now (text .exit)) ⌝ }
+// What a call of the C library's read came to.
+enum Step {
+    Bytes(usize),
+    End,
+    Interrupted,
+    Failed,
+}
+
+// What read answered, and whether its error, if any, is another than an interruption: only 0 is the end of the input.
+fn judge(got: isize, failed: bool) -> Step
+    ensures { λ r. ⌜ r ≡ judged got failed ⌝ }
+{
+    if got > 0 {
+        return Step::Bytes(got as usize);
+    }
+    if got == 0 {
+        return Step::End;
+    }
+    if failed {
+        return Step::Failed;
+    }
+    Step::Interrupted
+}
+
+// One read, tried again where a signal interrupted it.
+fn read_some(file: i32, text: &mut [u8]) -> Step
+    ensures { λ r. ⌜ Came (length (now (text .exit))) r ⌝ }
 {
     let mut left = INTERRUPTIONS;
     while left > 0 {
         let got = libc::read(file, text);
-        if got >= 0 {
-            return Read::Bytes(io::count(got, text));
-        }
-        if os::errno() != EINTR {
-            return Read::Failed;
-        }
+        let step = judge(got, os::errno() != EINTR);
+        let Step::Interrupted = step else {
+            return step;
+        };
         left -= 1;
     }
-    Read::Failed
+    Step::Failed
 }
 
 // Reads until the end of the input was seen or the buffer is full.
@@ -50,14 +72,13 @@ fn read_whole(file: i32, text: &mut [u8]) -> Read
 {
     let mut n = 0;
     while n < text.len() {
-        let read = read_some(file, &mut text[n..]);
-        let Read::Bytes(more) = read else {
-            return Read::Failed;
-        };
-        if more == 0 {
-            return Read::Bytes(n);
+        let step = read_some(file, &mut text[n..]);
+        match step {
+            Step::Bytes(more) => n += more,
+            Step::End => return Read::Bytes(n),
+            Step::Interrupted => return Read::Failed,
+            Step::Failed => return Read::Failed,
         }
-        n += more;
     }
     Read::Bytes(n)
 }
