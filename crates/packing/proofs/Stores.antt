@@ -81,15 +81,15 @@ module _ (lens values backends : List ℕ) where
 
   -- of the lines left of a service, the first is stored, and one less is left
   pub line-more :
-      (out out′ : List ℕ) (i s c : ℕ) → 0 < c
-      → out′ ≡ sets (set out i s) (i + 1) (getD lens (32 * s + (c - 1)) 0 ∷ getD values (32 * s + (c - 1)) 0 ∷ getD backends (32 * s + (c - 1)) 0 ∷ [])
+      (out out′ : List ℕ) (i s c from : ℕ) → 0 < c → from ≡ 32 * s + (c - 1)
+      → out′ ≡ sets (set out i s) (i + 1) (getD lens from 0 ∷ getD values from 0 ∷ getD backends from 0 ∷ [])
       → sets out i (storedCells lens values backends s c) ≡ sets out′ (i + 4) (storedCells lens values backends s (c - 1))
   unfolding storedCells
-  line-more out out′ i s zero l p = absurd (omega arith)
-  line-more out out′ i s (suc c) l p =
+  line-more out out′ i s zero from l e p = absurd (omega arith)
+  line-more out out′ i s (suc c) from l e p =
       let four : i + 4 ≡ suc (suc (suc (suc i))) = omega arith in
       let less : suc c - 1 ≡ c = omega arith in
-      rw (p, four, add-one, less)
+      rw (p, e, four, add-one, less)
 
   pub none-left : (out : List ℕ) (i s c : ℕ) → c ≡ 0 → sets out i (storedCells lens values backends s c) ≡ out
   unfolding storedCells

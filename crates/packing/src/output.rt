@@ -50,11 +50,11 @@ fn write_service(
     let mut left = grant;
     let mut i = at;
     while 0 < left {
-        left -= 1;
-        let from = 32 * s + left;
+        let from = 32 * s + (left - 1);
         table[i] = s;
         write_three(table, i + 1, lens[from], values[from], backends[from]);
         i += 4;
+        left -= 1;
     }
 }
 

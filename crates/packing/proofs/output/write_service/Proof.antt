@@ -23,11 +23,11 @@ abbrev μ-loop : tie.MeasureT-loop
 loop-holds : tie.Need-loop-holds Inv-loop μ-loop
 loop-holds c = (omega arith, refl, refl, refl)
 
-sub-left : tie.Need-sub-left Inv-loop μ-loop
-sub-left c = omega arith
-
 mul-from : tie.Need-mul-from Inv-loop μ-loop
 mul-from c = omega arith
+
+sub-from : tie.Need-sub-from Inv-loop μ-loop
+sub-from c = omega arith
 
 add-from : tie.Need-add-from Inv-loop μ-loop
 add-from c = omega arith
@@ -65,6 +65,9 @@ write-three-requires c κs = simp length-set (omega arith)
 add-i : tie.Need-add-i Inv-loop μ-loop
 add-i c = omega arith
 
+sub-left : tie.Need-sub-left Inv-loop μ-loop
+sub-left c = omega arith
+
 loop-less : tie.Need-loop-less Inv-loop μ-loop
 loop-less c = omega arith
 
@@ -77,7 +80,7 @@ loop-again c =
       omega arith,
       w .kept .0 ∙ simp length-set (l .inv .2),
       l .inv .3
-          ∙ line-more (a .lens .now) (a .values .now) (a .backends .now) (l .table) (w .last .0) (l .i) (a .s) (l .left) (omega arith) (w .ensures),
+          ∙ line-more (a .lens .now) (a .values .now) (a .backends .now) (l .table) (w .last .0) (l .i) (a .s) (l .left) _ (omega arith) (omega arith) (w .ensures),
     )
 
 same-length : tie.Need-same-length Inv-loop μ-loop
@@ -96,8 +99,8 @@ write-service-spec =
     Inv-loop
     μ-loop
     loop-holds
-    sub-left
     mul-from
+    sub-from
     add-from
     mul-table
     slice-write-table
@@ -110,6 +113,7 @@ write-service-spec =
     shared-slice-read-write-three-3
     write-three-requires
     add-i
+    sub-left
     loop-less
     loop-again
     same-length
