@@ -6,10 +6,10 @@ use native.Mathlib.Nat.{le-refl}
 use native.Mathlib.Omega.{arith}
 use lib.ListN.{length}
 use lib.Seq.{slice}
-use Rattle.sheets.specs.RuleSheet.{linesText}
+use Rattle.packing.specs.Count.{Line}
+use Rattle.sheets.specs.RuleSheet.{lineText, linesText}
 use Rattle.sheets.specs.Calls.{linesFrom}
-use Rattle.sheets.specs.Rows.{lineAt}
-use Rattle.sheets.specs.Writing.{Wrote}
+use Rattle.sheets.specs.Writing.{Wrote, lineWidth}
 use Rattle.sheets.proofs.TableTexts.{linesWidth, length-line}
 use Rattle.sheets.proofs.Writes.{chain, nothing, same-length}
 use Rattle.sheets.proofs.Handed.{width-more, text-more, text-none, table-width, table-parts}
@@ -23,6 +23,10 @@ record Going (table : List ℕ) (n : ℕ) (out₀ : List ℕ) (at₀ : ℕ) (out
   rest :
       (after : List ℕ) (end : ℕ) → Wrote out after at end (linesText (linesFrom (slice (4 * i) (4 * n) table)))
       → Wrote out₀ after at₀ end (linesText (linesFrom (slice 0 (4 * n) table)))
+
+-- where a line that was written ends
+line-ends : (l : Line) {before after : List ℕ} {at next : ℕ} → Wrote before after at next (lineText l) → next ≡ at + lineWidth (l .service) (l .rule .len) (l .rule .backend)
+line-ends l w = omega (arith, w .ends, length-line l)
 
 abbrev Inv-loop : tie.InvT-loop
 Inv-loop out₀ k total table n at₀ left₀ out at left = (left ≤ n) × Going table n out₀ at₀ out at (n - left)
@@ -116,6 +120,7 @@ loop-again c =
     let l = c .before .before .before .before .before .before .before .before .before .loop in
     let g = l .inv .1 in
     let w = c .before .before .put-line .ensures in
+    let ends = line-ends _ w in
     let i = n - l .left in
     let h : i < n = omega (arith, c .before .before .before .before .before .before .before .before .loop-test .taken, l .inv .0) in
     let next : n - (l .left - 1) ≡ i + 1 = omega (arith, c .before .before .before .before .before .before .before .before .loop-test .taken, l .inv .0) in (
@@ -123,7 +128,7 @@ loop-again c =
       subst (Going t n _ _ _ _) (sym next)
           (record {
             same = same-length w ∙ g .same;
-            room = omega (arith, g .room, width-more t n L i h, same-length w, w .ends, length-line (lineAt t i));
+            room = omega (arith, g .room, width-more t n L i h, same-length w, ends);
             rest = λ b e r. g .rest b e (rw (text-more t n L i h) (chain w r));
           }),
     )
