@@ -1,23 +1,20 @@
 -- Demand 2 over the numbers that the calls are lent: what `write_table` accepts reads back to the same numbers, and what `read_table` accepts is what `write_table` writes of its numbers.
 use Prim.Native.Nat.{ℕ, _*_}
 use mathlib.Core.Path.{_≡_, refl, sym, ap, _∙_}
-use mathlib.Core.Bool.{true}
 use mathlib.Core.List.{List, [], _∷_}
 use native.Mathlib.Omega.{arith}
-use lib.Dec.{leb}
 use lib.ListN.{length}
 use Rattle.packing.specs.Answer.{cells}
-use Rattle.sheets.specs.Reading.{got, unless}
-use Rattle.sheets.specs.PercentageSheet.{textLimit}
+use Rattle.sheets.specs.Reading.{got}
 use Rattle.sheets.specs.RuleSheet.{Table, tableText, readTable, checkTable}
-use Rattle.sheets.specs.Calls.{linesFrom, brokenFrom, handedText, tableHanded}
+use Rattle.sheets.specs.Calls.{linesFrom, tableHanded}
 use Rattle.sheets.proofs.Readings.{unless-got}
 use Rattle.sheets.proofs.TableChecks.{check-same}
-use Rattle.sheets.proofs.Handed.{count-lines, count-broken, whole-text}
+use Rattle.sheets.proofs.Handed.{count-lines, count-broken}
 use Rattle.sheets.proofs.TableHanded.{accepted}
-use Rattle.sheets.proofs.Rows.{lines-cells, length-cells}
+use Rattle.sheets.proofs.Rows.{length-cells}
 use Rattle.sheets.proofs.Standing.{read-checked}
-use Rattle.sheets.proofs.RoundTrip.{back, only}
+use Rattle.sheets.proofs.RoundTrip.{numbers, back, only}
 
 -- whole lines are all the numbers
 cells-lines : (cs : List ℕ) → 4 * length (linesFrom cs) ≡ length cs → cells (linesFrom cs) ≡ cs
@@ -47,24 +44,10 @@ handed-back k total cs t h =
       numbers = ap (λ (x : Table). cells (x .lines)) (sym is) ∙ cells-lines cs (omega (arith, count-lines cs, count-broken cs, A .whole));
     }
 
-read-short : (text : List ℕ) (t : Table) → readTable text ≡ got t → leb (length text) textLimit ≡ true
-unfolding readTable
-read-short text t h = unless-got _ _ _ _ h .0
-
 -- what the reader accepts: the writer takes its numbers, and writes that text
 pub record Only (text : List ℕ) (t : Table) : Type 0 where
   pub accepted : tableHanded (t .k) (t .total) (cells (t .lines)) ≡ got t
   pub written : tableText t ≡ text
 
 pub read-only : (text : List ℕ) (t : Table) → readTable text ≡ got t → Only text t
-unfolding tableHanded unless checkTable
-read-only text t h =
-    let numbers = cells (t .lines) in
-    let whole : length (brokenFrom numbers) ≡ 0 = omega (arith, count-broken numbers, length-cells (t .lines)) in
-    let same : handedText (t .k) (t .total) numbers ≡ text =
-    whole-text (t .k) (t .total) numbers whole ∙ rw (lines-cells (t .lines)) (sym (only text t h)) in
-    let short : leb (length text) textLimit ≡ true = read-short text t h in
-    record {
-      accepted = rw (same, short, lines-cells (t .lines), whole) (read-checked text t h);
-      written = sym (only text t h);
-    }
+read-only text t h = record { accepted = numbers t (read-checked text t h) .passed; written = sym (only text t h) }

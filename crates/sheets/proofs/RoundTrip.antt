@@ -4,21 +4,25 @@ use mathlib.Core.Path.{_≡_, refl, sym, ap, ap₂, _∙_}
 use mathlib.Core.List.{List, [], _∷_, reverse, reverseAux, reverse-reverse}
 use native.Mathlib.Omega.{arith}
 use lib.ListN.{length, length-reverse}
-use borrow.Author.Tests.{eq-eqb, lt-ltb, le-leb, eqb-true}
+use borrow.Author.Tests.{le-leb, eqb-true}
 use Rattle.numerals.specs.Decimal.{decimal}
 use Rattle.numerals.specs.Suffix.{suffixText}
 use Rattle.numerals.specs.Text.{split}
-use Rattle.numerals.proofs.Decimal.{only-text, reads-back, width-least}
-use Rattle.numerals.proofs.Suffix.{suffix-only, suffix-back}
+use Rattle.numerals.proofs.Decimal.{only-text, width-least}
+use Rattle.numerals.proofs.Suffix.{suffix-only}
 use Rattle.packing.specs.Count.{Line}
-use Rattle.sheets.specs.Reading.{got, then, unless, onField, field}
+use Rattle.packing.specs.Answer.{cells}
+use Rattle.sheets.specs.Reading.{Reading, got, turned, atNoLine, unless, field}
 use Rattle.sheets.specs.PercentageSheet.{textLimit}
-use Rattle.sheets.specs.RuleSheet.{Table, TableHead, tableWord, totalLimit, tableText, tableFields, onSuffix, placed, ruleFields, ruleLines, wholeTable, tableLines, readTable, checkTable}
+use Rattle.sheets.specs.RuleSheet.{Table, TableHead, tableWord, totalLimit, tableText, tableFields, placed, ruleFields, ruleLines, wholeTable, tableLines, readTable, checkTable}
+use Rattle.sheets.specs.Calls.{linesFrom, brokenFrom, handedText, tableHanded, ValuesFit}
 use Rattle.sheets.proofs.Readings.{not-got, got-same, unless-got, onField-got, onSuffix-got, then-got, same-true}
-use Rattle.sheets.proofs.Words.{same-refl}
 use Rattle.sheets.proofs.Joins.{join, join-split, by-number}
-use Rattle.sheets.proofs.TableChecks.{Follows, InOrder, formed, Proper, proper}
-use Rattle.sheets.proofs.TableTexts.{headRow, lineRow, rows, rows-some, tableRows, table-joined, table-split, head-split, line-split, linesWidth, line-short, length-table}
+use Rattle.sheets.proofs.TableChecks.{InOrder, formed, Proper, proper}
+use Rattle.sheets.proofs.TableTexts.{headRow, lineRow, rows, tableRows, table-joined, linesWidth, line-short, length-table}
+use Rattle.sheets.proofs.Rows.{lines-cells, length-cells}
+use Rattle.sheets.proofs.Handed.{count-broken, whole-text}
+use Rattle.sheets.proofs.HandedSheet.{as-its-sheet}
 
 -- From the text to the table: what was read leaves no choice.
 
@@ -114,79 +118,15 @@ only text t e =
 
 -- From the table to the text and back: what was written passes.
 
-module _ (k : ℕ) (some : 1 ≤ k) (few : k ≤ 12) where
-  line-back : (before : List Line) (at : ℕ) (l : Line) → Follows k before l → ruleFields k before at (lineRow l) ≡ got l
-  unfolding ruleFields placed unless onField onSuffix
-  line-back before at l f =
-      let limits = formed k l (f .form) in
-      let service : l .service + 1 - 1 ≡ l .service = omega arith in
-      let backend : l .rule .backend + 1 - 1 ≡ l .rule .backend = omega arith in
-      rw (
-        reads-back 1 64 (l .service + 1) (omega arith) (omega (arith, limits .service)),
-        suffix-back k (l .rule .len) (l .rule .value) some few (limits .short) (limits .bits),
-        reads-back 1 32 (l .rule .backend + 1) (omega arith) (omega (arith, limits .backend)),
-        service,
-        backend,
-        f .few,
-        f .sorted,
-      )
-
-  rule-more :
-      (before : List Line) (l : List ℕ) (ms : List (List ℕ)) → 1 ≤ length ms
-      → ruleLines k before (l ∷ ms) ≡ then (ruleFields k before (length before + 2) (split 32 l)) (λ line. ruleLines k (line ∷ before) ms)
-  unfolding ruleLines
-  rule-more before l [] h = absurd (omega arith)
-  rule-more before l (m ∷ ms) h = refl
-
-  rows-back : (before ls : List Line) → InOrder k before ls → ruleLines k before (rows ls) ≡ got (reverseAux ls before)
-  unfolding rows ruleLines InOrder unless then
-  rows-back before [] h = refl
-  rows-back before (l ∷ ls) h =
-      rule-more before (join 32 (lineRow l)) (rows ls) (rows-some ls)
-      ∙ rw (line-split l, line-back before (length before + 2) l (h .0)) (rows-back (l ∷ before) ls (h .1))
-
-  lines-short : (before ls : List Line) → InOrder k before ls → linesWidth ls ≤ 20 * length ls
-  unfolding linesWidth InOrder
-  lines-short before [] h = omega arith
-  lines-short before (l ∷ ls) h =
-      let limits = formed k l (h .0 .form) in
-      omega (
-        arith,
-        line-short (l .service) (l .rule .len) (l .rule .backend) (limits .service) (omega (arith, limits .short)) (limits .backend),
-        lines-short (l ∷ before) ls (h .1),
-      )
-
-head-back : (t : Table) → Proper t → tableFields (headRow (t .k) (length (t .lines)) (t .total)) ≡ got (record { k = t .k; n = length (t .lines); total = t .total })
-unfolding tableFields unless onField
-head-back t p =
-    rw (
-      same-refl tableWord,
-      reads-back 1 12 (t .k) (p .bits) (p .few-bits),
-      reads-back 1 2048 (length (t .lines)) (p .some) (p .few),
-      reads-back 0 totalLimit (t .total) (omega arith) (p .small),
-    )
-
-table-more :
-    (l : List ℕ) (ms : List (List ℕ)) → 1 ≤ length ms
-    → tableLines (l ∷ ms) ≡ then (tableFields (split 32 l)) (λ h. then (ruleLines (h .k) [] ms) (wholeTable h))
-unfolding tableLines
-table-more l [] h = absurd (omega arith)
-table-more l (m ∷ ms) h = refl
-
-table-back : (t : Table) → Proper t → tableLines (tableRows t) ≡ got t
-unfolding then wholeTable unless
-table-back t p =
-    let n = length (t .lines) in
-    table-more (join 32 (headRow (t .k) n (t .total))) (rows (t .lines)) (rows-some (t .lines))
-    ∙ rw (
-      head-split (t .k) n (t .total),
-      head-back t p,
-      rows-back (t .k) (p .bits) (p .few-bits) [] (t .lines) (p .sorted),
-      length-reverse (t .lines),
-      lt-ltb 0 n (p .some),
-      eq-eqb n n refl,
-      p .ends,
-      reverse-reverse (t .lines),
+lines-short : (k : ℕ) → k ≤ 12 → (before ls : List Line) → InOrder k before ls → linesWidth ls ≤ 20 * length ls
+unfolding linesWidth InOrder
+lines-short k few before [] h = omega arith
+lines-short k few before (l ∷ ls) h =
+    let limits = formed k l (h .0 .form) in
+    omega (
+      arith,
+      line-short (l .service) (l .rule .len) (l .rule .backend) (limits .service) (omega (arith, limits .short)) (limits .backend),
+      lines-short k few (l ∷ before) ls (h .1),
     )
 
 table-short : (t : Table) → Proper t → length (tableText t) ≤ textLimit
@@ -202,9 +142,35 @@ table-short t p =
       p .few,
     )
 
+values-fit : (k : ℕ) (before ls : List Line) → InOrder k before ls → ValuesFit ls
+unfolding InOrder ValuesFit
+values-fit k before [] h = tt
+values-fit k before (l ∷ ls) h = (formed k l (h .0 .form) .bits, values-fit k (l ∷ before) ls (h .1))
+
+-- the numbers of a proper table pass, and make its text
+pub record Numbers (t : Table) : Type 0 where
+  pub text : handedText (t .k) (t .total) (cells (t .lines)) ≡ tableText t
+  pub passed : tableHanded (t .k) (t .total) (cells (t .lines)) ≡ got t
+
+pub numbers : (t : Table) → checkTable t ≡ got t → Numbers t
+unfolding tableHanded unless checkTable
+numbers t h =
+    let cs = cells (t .lines) in
+    let whole : length (brokenFrom cs) ≡ 0 = omega (arith, count-broken cs, length-cells (t .lines)) in
+    let text : handedText (t .k) (t .total) cs ≡ tableText t = whole-text (t .k) (t .total) cs whole ∙ rw (lines-cells (t .lines)) in
+    record {
+      text = text;
+      passed = rw (text, le-leb (length (tableText t)) textLimit (table-short t (proper t h)), lines-cells (t .lines), whole) h;
+    }
+
+got-line : (r : Reading Table) (u : Table) → atNoLine r ≡ got u → r ≡ got u
+unfolding atNoLine
+got-line (got v) u e = e
+got-line (turned why line) u e = absurd (not-got e)
+
 -- a proper table's text reads back as that table
 pub back : (t : Table) → checkTable t ≡ got t → readTable (tableText t) ≡ got t
-unfolding readTable unless
 back t h =
-    let p = proper t h in
-    rw (le-leb (length (tableText t)) textLimit (table-short t p), table-split t) (table-back t p)
+    let N = numbers t h in
+    let fit : ValuesFit (linesFrom (cells (t .lines))) = rw (lines-cells (t .lines)) (values-fit (t .k) [] (t .lines) (proper t h .sorted)) in
+    got-line (readTable (tableText t)) t (rw (← N .text) (as-its-sheet (t .k) (t .total) (cells (t .lines)) fit ∙ N .passed))
