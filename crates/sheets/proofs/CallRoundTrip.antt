@@ -6,13 +6,12 @@ use native.Mathlib.Omega.{arith}
 use lib.ListN.{length}
 use Rattle.packing.specs.Answer.{cells}
 use Rattle.sheets.specs.Reading.{got}
-use Rattle.sheets.specs.RuleSheet.{Table, tableText, readTable, checkTable}
+use Rattle.sheets.specs.RuleSheet.{Table, tableText, readTable}
 use Rattle.sheets.specs.Calls.{linesFrom, tableHanded}
 use Rattle.sheets.proofs.Readings.{unless-got}
 use Rattle.sheets.proofs.TableChecks.{check-same}
 use Rattle.sheets.proofs.Handed.{count-lines, count-broken}
 use Rattle.sheets.proofs.TableHanded.{accepted}
-use Rattle.sheets.proofs.Rows.{length-cells}
 use Rattle.sheets.proofs.Standing.{read-checked}
 use Rattle.sheets.proofs.RoundTrip.{numbers, back, only}
 

@@ -1,12 +1,12 @@
 -- A table handed in numbers is checked as its sheet would be: the check answers what the reader answers on the text that the numbers make, but for the line.
-use Prim.Native.Nat.{ℕ, suc, _+_, _-_, _^_, _≤_, _<_}
+use Prim.Native.Nat.{ℕ, _+_, _-_, _^_, _≤_, _<_}
 use mathlib.Core.Path.{_≡_, refl, sym, ap, _∙_}
 use mathlib.Core.Bool.{Bool, true, false}
 use mathlib.Core.List.{List, [], _∷_, _++_, reverse, reverseAux, reverse-reverse, append-assoc}
 use native.Mathlib.Omega.{arith}
-use lib.Dec.{leb, ltb, eqb, eqb·suc-zero}
+use lib.Dec.{leb, ltb, eqb·suc-zero}
 use lib.ListN.{length, length-reverse}
-use borrow.Author.Tests.{eq-eqb, lt-ltb, le-ltb, le-leb, lt-leb, eqb-true, leb-true}
+use borrow.Author.Tests.{eq-eqb, lt-ltb, le-ltb, le-leb, lt-leb, leb-true}
 use Rattle.numerals.specs.Pick.{pick, both}
 use Rattle.numerals.specs.Decimal.{isNumeral, number, decimal}
 use Rattle.numerals.specs.Suffix.{suffix, suffixText}
@@ -21,7 +21,7 @@ use Rattle.numerals.proofs.Suffix.{suffix-only, suffix-back, length-suffix}
 use Rattle.numerals.specs.declared.refusal.Refusal.{Refusal}
 use Rattle.numerals.specs.Refusals.{no2, no4, no9, no11}
 use Rattle.packing.specs.Count.{Line}
-use Rattle.sheets.specs.Reading.{Reading, got, turned, atNoLine, then, unless, onField}
+use Rattle.sheets.specs.Reading.{Reading, got, atNoLine, then, unless, onField}
 use Rattle.sheets.specs.PercentageSheet.{textLimit}
 use Rattle.sheets.specs.RuleSheet.{Table, TableHead, tableWord, totalLimit, lineText, linesText, tableFields, onSuffix, countOf, inOrder, placed, ruleFields, ruleLines, closed, wholeTable, tableLines, readTable, isLine, checkLines, checkEnd, checkSheet}
 use Rattle.sheets.specs.Behind.{line}
@@ -82,26 +82,10 @@ handed-split k total cs =
 -- A field that was written, read.
 
 module _ {A : Type 0} where
-  -- what comes after a test matters only where it passes
-  unless-same : (t : Bool) (why : Refusal) (at : ℕ) (x y : Reading A) → (t ≡ true → x ≡ y) → unless t why at x ≡ unless t why at y
-  unfolding unless
-  unless-same true why at x y h = h refl
-  unless-same false why at x y h = refl
-
-  unless-both : (s t : Bool) (why : Refusal) (at : ℕ) (x : Reading A) → unless (both s t) why at x ≡ unless s why at (unless t why at x)
-  unfolding unless
-  unless-both true t why at x = refl
-  unless-both false t why at x = refl
-
   unless-none : (t : Bool) (why : Refusal) (at : ℕ) (x : Reading A) → atNoLine (unless t why at x) ≡ unless t why 0 (atNoLine x)
   unfolding unless atNoLine
   unless-none true why at x = refl
   unless-none false why at x = refl
-
-  then-unless : {B : Type 0} (t : Bool) (why : Refusal) (at : ℕ) (x : Reading B) (f : B → Reading A) → then (unless t why at x) f ≡ unless t why at (then x f)
-  unfolding unless then
-  then-unless true why at x f = refl
-  then-unless false why at x f = refl
 
   number-read : (least most n at : ℕ) (f : ℕ → Reading A) → onField (number least most (decimal n)) at f ≡ unless (both (leb least n) (leb n most)) no2 at (f n)
   unfolding number isNumeral onField unless

@@ -13,7 +13,7 @@ use Rattle.numerals.proofs.Suffix.{length-suffix, suffix-free}
 use Rattle.packing.specs.Count.{Line}
 use Rattle.sheets.specs.RuleSheet.{Table, tableWord, lineText, linesText, tableText}
 use Rattle.sheets.specs.Writing.{headText, lineWidth}
-use Rattle.sheets.proofs.Joins.{join, join-more, join-free, AllFree, split-join}
+use Rattle.sheets.proofs.Joins.{join, join-more, AllFree, split-join}
 
 -- the fields of line 1 and of a rule line
 abbrev pub headRow : ℕ → ℕ → ℕ → List (List ℕ)
@@ -69,12 +69,7 @@ pub line-free : (c : ℕ) (l : Line) → c < 42 → AllFree c (lineRow l)
 line-free c l h =
     (decimal-free c (l .service + 1) (omega arith), (suffix-free c (l .rule .len) (l .rule .value) h, (decimal-free c (l .rule .backend + 1) (omega arith), tt)))
 
-rows-free : (ls : List Line) → AllFree 10 (rows ls)
-unfolding rows
-rows-free [] = (tt, tt)
-rows-free (l ∷ ls) = (join-free 32 10 (lineRow l) (λ e. omega arith) (line-free 10 l (omega arith)), rows-free ls)
-
--- so each text has these lines, and each line these fields
+-- so each line has these fields
 
 pub head-split : (k n total : ℕ) → split 32 (join 32 (headRow k n total)) ≡ headRow k n total
 head-split k n total = split-join 32 tableWord (decimal k ∷ decimal n ∷ decimal total ∷ []) (head-free 32 k n total (omega arith))
@@ -83,14 +78,6 @@ pub line-split : (l : Line) → split 32 (join 32 (lineRow l)) ≡ lineRow l
 line-split l =
     split-join 32 (decimal (l .service + 1)) (suffixText (l .rule .len) (l .rule .value) ∷ decimal (l .rule .backend + 1) ∷ [])
     (line-free 32 l (omega arith))
-
-pub table-split : (t : Table) → split 10 (tableText t) ≡ tableRows t
-table-split t =
-    let n = length (t .lines) in
-    let head = headRow (t .k) n (t .total) in
-    ap (split 10) (table-joined t)
-    ∙ split-join 10 (join 32 head) (rows (t .lines))
-    (join-free 32 10 head (λ e. omega arith) (head-free 10 (t .k) n (t .total) (omega arith)), rows-free (t .lines))
 
 -- how many bytes the lines have
 

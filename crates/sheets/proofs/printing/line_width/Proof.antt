@@ -1,8 +1,7 @@
 -- `printing::line_width` meets its contract: the widths of the parts of a line.
-use Prim.Native.Nat.{_+_, _≤_}
+use Prim.Native.Nat.{_+_}
 use native.Mathlib.Omega.{arith}
 use borrow.Author.Needs.{needs}
-use Rattle.numerals.specs.Decimal.{width}
 use Rattle.numerals.proofs.Decimal.{width-least}
 use Rattle.sheets.proofs.printing.line_width.Statement.{statement}
 use Rattle.sheets.proofs.printing.line_width.Tie as tie

@@ -1,6 +1,6 @@
 -- `printing::place_width` meets its contract: one digit, or those of the tens and one more. The number itself may be one past the largest of its type.
 use Prim.Native.Nat.{_+_, _-_, _/_}
-use mathlib.Core.Path.{_≡_, sym, ap, _∙_}
+use mathlib.Core.Path.{_≡_, sym, ap}
 use native.Mathlib.Omega.{arith}
 use borrow.Author.Needs.{needs}
 use Rattle.numerals.specs.Decimal.{width}
