@@ -52,7 +52,9 @@ pub fn best_term(u: i64, o: i64, cap: usize) -> Term
         left -= 1;
         let t = (crate::ledger::UNIT * (1 << left)) as i64;
         let r = reduction(u, o, t);
-        if best < r {
+        // a smaller term has to gain more
+        let least = best + 1;
+        if least <= r {
             best = r;
             index = left;
         }

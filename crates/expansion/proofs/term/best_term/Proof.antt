@@ -4,15 +4,15 @@ use mathlib.Core.Logic.{⊎-elim}
 use mathlib.Core.Path.{_≡_, sym, ap, _∙_}
 use native.Mathlib.Nat.{mul-le-mul-right, le-of-lt}
 use native.Mathlib.Omega.{arith}
-use lib.Dec.{ltb}
-use lib.IntN.{ℤ, pos}
+use lib.Dec.{leb}
+use lib.IntN.{ℤ, pos, _+ℤ_}
 use lib.Pow.{pow-mono}
-use lib.Signed.{ltZ}
+use lib.Signed.{leZ}
 use mir.Facts.{toZ-ofZ}
 use mir.Syntax.{w64}
 use mir.Val.{toZ, ofZ}
 use borrow.Author.Needs.{needs}
-use borrow.Author.Tests.{ltb-true, ltb-false}
+use borrow.Author.Tests.{leb-true, leb-false}
 use Rattle.expansion.specs.Answer.{unit}
 use Rattle.expansion.specs.Steps.{reduction}
 use Rattle.expansion.specs.Kept.{over, Best}
@@ -120,10 +120,21 @@ module _ (c : tie.After-reduction Inv-loop μ-loop) where
       ∙ ap (λ (v : ℤ). pos (reduction (over (toZ w64 (ofZ w64 (s .args .u)))) (over (toZ w64 (ofZ w64 (s .args .o)))) (over v)))
       (term-read i (omega arith))
 
-  test : ltZ (toZ w64 best) (toZ w64 (ofZ w64 r)) ≡ ltb best (each s i)
+  -- one more than the best so far
+  next-few : best + 1 < 2 ^ 50
+  next-few = omega (arith, led .low, few s (c .before .before .loop .index) (led .inside))
+
+  next-is : toZ w64 best +ℤ pos 1 ≡ pos (best + 1)
+  next-is = ap (λ (v : ℤ). v +ℤ pos 1) (plain best (omega (arith, next-few)))
+
+  test : leZ (toZ w64 (ofZ w64 (toZ w64 best +ℤ pos 1))) (toZ w64 (ofZ w64 r)) ≡ leb (best + 1) (each s i)
   test =
-      ap (λ (v : ℤ). ltZ v (toZ w64 (ofZ w64 r))) (plain best (omega (arith, led .low, few s (c .before .before .loop .index) (led .inside))))
-      ∙ ap (ltZ (pos best)) (back r (c .reduction .ok) ∙ is-each)
+      ap (λ (v : ℤ). leZ (toZ w64 (ofZ w64 v)) (toZ w64 (ofZ w64 r))) next-is
+      ∙ ap (λ (v : ℤ). leZ v (toZ w64 (ofZ w64 r))) (back (pos (best + 1)) (omega (arith, next-few)))
+      ∙ ap (leZ (pos (best + 1))) (back r (c .reduction .ok) ∙ is-each)
+
+add-least : tie.Need-add-least Inv-loop μ-loop
+add-least c = rw (next-is c) (record { sfits = omega (arith, next-few c) })
 
 led-on : (c : tie.Joined1 Inv-loop μ-loop) → Led (each (s (c .before))) (s (c .before) .args .cap) (i (c .before)) (c .if1 .index) (c .if1 .best)
 led-on c =
@@ -132,8 +143,8 @@ led-on c =
     let f = each (s q) in
     let cap = s q .args .cap in
     ⊎-elim
-    (λ w. rw (w .1, w .2 ∙ ap (ofZ w64) (is-each q)) (led-higher f cap (l .left) (l .index) (l .best) (led q) (i q) (omega arith) (omega arith) (ltb-true (l .best) (f (i q)) (sym (test q) ∙ w .0 .taken))))
-    (λ w. rw (w .1, w .2) (led-kept f cap (l .left) (l .index) (l .best) (led q) (i q) (omega arith) (ltb-false (l .best) (f (i q)) (sym (test q) ∙ w .0 .left))))
+    (λ w. rw (w .1, w .2 ∙ ap (ofZ w64) (is-each q)) (led-higher f cap (l .left) (l .index) (l .best) (led q) (i q) (omega arith) (omega arith) (omega (arith, leb-true (l .best + 1) (f (i q)) (sym (test q) ∙ w .0 .taken)))))
+    (λ w. rw (w .1, w .2) (led-kept f cap (l .left) (l .index) (l .best) (led q) (i q) (omega arith) (omega (arith, leb-false (l .best + 1) (f (i q)) (sym (test q) ∙ w .0 .left)))))
     (c .if1 .came)
 
 loop-again : tie.Need-loop-again Inv-loop μ-loop
@@ -176,6 +187,7 @@ best-term-spec =
     mul-t
     cast-t
     reduction-requires
+    add-least
     is-enough-requires
     loop-less
     loop-again
