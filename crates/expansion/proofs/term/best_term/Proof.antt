@@ -1,10 +1,11 @@
 -- `term::best_term`: of the terms passed, from the largest down, the index is the last place of the greatest gain.
 use Prim.Native.Nat.{ℕ, _+_, _-_, _*_, _^_, _≤_, _<_}
+use mathlib.Core.Bool.{Bool, true, false}
 use mathlib.Core.Logic.{⊎-elim}
 use mathlib.Core.Path.{_≡_, sym, ap, _∙_}
 use native.Mathlib.Nat.{mul-le-mul-right, le-of-lt}
 use native.Mathlib.Omega.{arith}
-use lib.Dec.{leb}
+use lib.Dec.{leb, lit≤}
 use lib.IntN.{ℤ, pos, _+ℤ_}
 use lib.Pow.{pow-mono}
 use lib.Signed.{leZ}
@@ -120,21 +121,28 @@ module _ (c : tie.After-reduction Inv-loop μ-loop) where
       ∙ ap (λ (v : ℤ). pos (reduction (over (toZ w64 (ofZ w64 (s .args .u)))) (over (toZ w64 (ofZ w64 (s .args .o)))) (over v)))
       (term-read i (omega arith))
 
-  -- one more than the best so far
-  next-few : best + 1 < 2 ^ 50
-  next-few = omega (arith, led .low, few s (c .before .before .loop .index) (led .inside))
+  best-few : best < 2 ^ 50
+  best-few = omega (arith, led .low, few s (c .before .before .loop .index) (led .inside))
 
-  next-is : toZ w64 best +ℤ pos 1 ≡ pos (best + 1)
-  next-is = ap (λ (v : ℤ). v +ℤ pos 1) (plain best (omega (arith, next-few)))
+  -- the test of a gain that is n above the best so far
+  module _ (n : ℕ) where
+    abbrev reaches : Bool
+    reaches = leZ (toZ w64 (ofZ w64 (toZ w64 best +ℤ pos n))) (toZ w64 (ofZ w64 r))
 
-  test : leZ (toZ w64 (ofZ w64 (toZ w64 best +ℤ pos 1))) (toZ w64 (ofZ w64 r)) ≡ leb (best + 1) (each s i)
-  test =
-      ap (λ (v : ℤ). leZ (toZ w64 (ofZ w64 v)) (toZ w64 (ofZ w64 r))) next-is
-      ∙ ap (λ (v : ℤ). leZ v (toZ w64 (ofZ w64 r))) (back (pos (best + 1)) (omega (arith, next-few)))
-      ∙ ap (leZ (pos (best + 1))) (back r (c .reduction .ok) ∙ is-each)
+    test : n ≤ 1 → reaches ≡ leb (best + n) (each s i)
+    test h =
+        ap (λ (v : ℤ). leZ (toZ w64 (ofZ w64 (v +ℤ pos n))) (toZ w64 (ofZ w64 r))) (plain best (omega (arith, best-few)))
+        ∙ ap (λ (v : ℤ). leZ v (toZ w64 (ofZ w64 r))) (back (pos (best + n)) (omega (arith, best-few)))
+        ∙ ap (leZ (pos (best + n))) (back r (c .reduction .ok) ∙ is-each)
+
+    reached : reaches ≡ true → n ≤ 1 → best + n ≤ each s i
+    reached t h = leb-true (best + n) (each s i) (sym (test h) ∙ t)
+
+    missed : reaches ≡ false → n ≤ 1 → each s i < best + n
+    missed t h = leb-false (best + n) (each s i) (sym (test h) ∙ t)
 
 add-least : tie.Need-add-least Inv-loop μ-loop
-add-least c = rw (next-is c) (record { sfits = omega (arith, next-few c) })
+add-least c = rw (plain (best c) (omega (arith, best-few c))) (record { sfits = omega (arith, best-few c) })
 
 led-on : (c : tie.Joined1 Inv-loop μ-loop) → Led (each (s (c .before))) (s (c .before) .args .cap) (i (c .before)) (c .if1 .index) (c .if1 .best)
 led-on c =
@@ -143,8 +151,12 @@ led-on c =
     let f = each (s q) in
     let cap = s q .args .cap in
     ⊎-elim
-    (λ w. rw (w .1, w .2 ∙ ap (ofZ w64) (is-each q)) (led-higher f cap (l .left) (l .index) (l .best) (led q) (i q) (omega arith) (omega arith) (omega (arith, leb-true (l .best + 1) (f (i q)) (sym (test q) ∙ w .0 .taken)))))
-    (λ w. rw (w .1, w .2) (led-kept f cap (l .left) (l .index) (l .best) (led q) (i q) (omega arith) (omega (arith, leb-false (l .best + 1) (f (i q)) (sym (test q) ∙ w .0 .left)))))
+    (λ w.
+    let more = reached q _ (w .0 .taken) (lit≤ tt) in
+    rw (w .1, w .2 ∙ ap (ofZ w64) (is-each q)) (led-higher f cap (l .left) (l .index) (l .best) (led q) (i q) (omega arith) (omega arith) (omega (arith, more))))
+    (λ w.
+    let less = missed q _ (w .0 .left) (lit≤ tt) in
+    rw (w .1, w .2) (led-kept f cap (l .left) (l .index) (l .best) (led q) (i q) (omega arith) (omega (arith, less))))
     (c .if1 .came)
 
 loop-again : tie.Need-loop-again Inv-loop μ-loop
