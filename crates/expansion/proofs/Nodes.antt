@@ -3,13 +3,13 @@ use Prim.Native.Nat.{ℕ, _+_, _-_, _*_, _/_, _%_, _^_, _≤_, _<_}
 use mathlib.Core.Bool.{Bool, true, false}
 use mathlib.Core.List.{List}
 use mathlib.Core.Path.{_≡_, ap, sym, _∙_}
-use native.Mathlib.Nat.{mul-comm, mod-lt, mod-eq-of-lt, lt-of-lt-of-le, div-add-mod', div-lt-iff-lt-mul, add-mul-mod-self-right}
+use native.Mathlib.Nat.{mul-comm, mod-lt, mod-eq-of-lt, div-add-mod', div-lt-iff-lt-mul, add-mul-mod-self-right}
 use native.Mathlib.Omega.{arith}
 use lib.Arith.{digits-lt, digits-div}
-use lib.Pow.{pow-pos, pow-mono}
+use lib.Pow.{pow-pos}
 use borrow.Author.Tests.{eq-eqb, ne-eqb}
 use Rattle.numerals.specs.Suffix.{place}
-use Rattle.numerals.proofs.Place.{place-lt, place-mod, place-twice, place-involution, place-injective, place-shorter, place-high}
+use Rattle.numerals.proofs.Place.{place-lt, place-mod, place-twice, place-involution, place-injective, place-high}
 use Rattle.expansion.specs.Sums.{allTo}
 use Rattle.expansion.specs.FirstMatch.{matches, gives}
 use Rattle.expansion.specs.Steps.{isWhole}

@@ -101,11 +101,6 @@ first-unique n t i j p q = go (decLt i j) (decLt j i)
     go (no l) (yes m) = absurd (clash (t j) (q .passes (omega (arith, p .most))) (p .below j m))
     go (no l) (no m) = omega arith
 
--- a number that passes, with none below it
-pub first-here : (n : ℕ) (t : ℕ → Bool) (i : ℕ) → i < n → t i ≡ true → ((j : ℕ) → j < i → t j ≡ false) → firstTo n t ≡ i
-first-here n t i l e h =
-    first-unique n t (firstTo n t) i (first-is n t) (record { most = omega arith; passes = λ m. e; below = h })
-
 -- where one passes, the first isn't above it
 pub first-le : (n : ℕ) (t : ℕ → Bool) (i : ℕ) → i < n → t i ≡ true → firstTo n t ≤ i
 first-le n t i l e = go (decLt i (firstTo n t))

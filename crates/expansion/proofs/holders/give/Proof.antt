@@ -1,8 +1,7 @@
 -- `holders::give` meets its contract. The loop's invariant: the first i places went to the receiver.
-use Prim.Native.Nat.{ℕ, _+_, _-_, _≤_, _<_}
-use mathlib.Core.Path.{_≡_, refl, ap, sym, _∙_}
+use Prim.Native.Nat.{_-_, _≤_}
+use mathlib.Core.Path.{_≡_}
 use native.Mathlib.Omega.{arith}
-use lib.ListN.{length}
 use Rattle.expansion.specs.Kept.{Given}
 use Rattle.expansion.proofs.Holdings.{given-none, given-more}
 use Rattle.expansion.proofs.holders.give.Statement.{statement}

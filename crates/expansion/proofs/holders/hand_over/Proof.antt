@@ -1,10 +1,8 @@
 -- `holders::hand_over` meets its contract.
 use Prim.Native.Nat.{ℕ, _+_, _-_, _*_, _%_, _^_, _≤_, _<_}
-use mathlib.Core.List.{List}
 use mathlib.Core.Path.{_≡_, ap, _∙_, subst}
 use native.Mathlib.Nat.{suc-mul, mul-le-mul-right}
 use native.Mathlib.Omega.{arith}
-use lib.ListN.{length, length-set}
 use borrow.Author.Needs.{needs}
 use Rattle.numerals.specs.Suffix.{place}
 use Rattle.expansion.specs.Kept.{Given, lowered, nodeOf}

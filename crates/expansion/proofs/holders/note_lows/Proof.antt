@@ -1,5 +1,5 @@
 -- `holders::note_lows` meets its contract.
-use Prim.Native.Nat.{ℕ, min}
+use Prim.Native.Nat.{min}
 use mathlib.Core.Logic.{⊎-elim}
 use mathlib.Core.Path.{_≡_, ap}
 use native.Mathlib.Omega.{arith}
