@@ -37,8 +37,8 @@ fn read_fraction(s: &[u8], from: usize, to: usize) -> Number
     Number::Value(v * worth(to - from))
 }
 
-// The percentage that stands between two positions: what stands before the dot, and from there to the next, where there is
-// one dot at most.
+// The percentage that stands between two positions: a whole part and, behind a dot, a fraction, each up to the next dot or
+// the end. A second dot makes it none.
 pub fn read_percentage(s: &[u8], from: usize, to: usize) -> Number
     ensures { λ r. ⌜ r ≡ percentage 4 (slice from to (now (s .entry))) ⌝ }
 {
