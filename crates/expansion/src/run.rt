@@ -132,19 +132,17 @@ fn begin(weights: &[u64], k: usize, tolerance: u64, first: usize) -> State
     }
 }
 
-// Step 5: a move that comes after `count` rules is made only if the budget has room for its rule.
+// Step 5: a move that comes after `count` rules is made only if the budget has room for its rule. A list that stopped before
+// step 5 stays as it ended.
 fn in_budget(next: Next, count: usize, budget: usize) -> Next
     ensures { λ r. ⌜ r ≡ kept.inBudget next count budget ⌝ }
 {
+    if count < budget {
+        return next;
+    }
     match next {
         Next::Stop(ended) => Next::Stop(ended),
-        Next::Go(m) => {
-            if count < budget {
-                Next::Go(m)
-            } else {
-                Next::Stop(Ended::Budget)
-            }
-        }
+        Next::Go(_) => Next::Stop(Ended::Budget),
     }
 }
 
