@@ -195,8 +195,9 @@ module _ (table : List ℕ) (n : ℕ) (L : Limited table n) where
       (k total : ℕ) → n ≤ 2048 → k < 2 ^ 64 → total < 2 ^ 64
       → counted (length (handedText k total (slice 0 (4 * n) table))) ≡ length (tableText (tableIn k total table n))
   table-counted k total few h j =
-      let whole : length (brokenFrom (slice 0 (4 * n) table)) ≡ 0 = omega (arith, count-broken (slice 0 (4 * n) table), slice-length 0 (4 * n) table, L .room) in
-      omega (arith, ap length (whole-text k total (slice 0 (4 * n) table) whole), table-short k total few h j)
+      let cs = slice 0 (4 * n) table in
+      let whole : length (brokenFrom cs) ≡ 0 = omega (arith, count-broken cs, slice-length 0 (4 * n) table, L .room) in
+      omega (arith, ap length (whole-text k total cs whole), table-short k total few h j)
 
   pub table-parts : (k total : ℕ) → headText k n total ++ linesText (left 0) ≡ tableText (tableIn k total table n)
   table-parts k total =

@@ -77,7 +77,8 @@ handed-split k total cs =
     let front : handedText k total cs ≡ join 32 head ++ 10 ∷ rest = simp append-assoc in
     ap (split 10) front
     ∙ free-split 10 (join 32 head) rest (join-free 32 10 head (λ e. omega arith) (head-free 10 k (linesHanded cs) total (omega arith)))
-    ∙ ap (λ (r : List (List ℕ)). join 32 head ∷ r) (lines-split (linesFrom cs) (brokenText (brokenFrom cs)) ∙ ap (rowsBefore (linesFrom cs)) (broken-split (brokenFrom cs)))
+    ∙ ap (λ (r : List (List ℕ)). join 32 head ∷ r)
+    (lines-split (linesFrom cs) (brokenText (brokenFrom cs)) ∙ ap (rowsBefore (linesFrom cs)) (broken-split (brokenFrom cs)))
 
 -- A field that was written, read.
 
@@ -87,7 +88,9 @@ module _ {A : Type 0} where
   unless-none true why at x = refl
   unless-none false why at x = refl
 
-  number-read : (least most n at : ℕ) (f : ℕ → Reading A) → onField (number least most (decimal n)) at f ≡ unless (both (leb least n) (leb n most)) no2 at (f n)
+  number-read :
+      (least most n at : ℕ) (f : ℕ → Reading A)
+      → onField (number least most (decimal n)) at f ≡ unless (both (leb least n) (leb n most)) no2 at (f n)
   unfolding number isNumeral onField unless
   number-read least most n at f = rw (first-digit n, all-decimal n, value-decimal n) (go (both (leb least n) (leb n most)))
     where
@@ -248,7 +251,9 @@ as-its-sheet k total cs fit =
     let ms = rowsBefore ls (brokenRows ss) in
     let t : Table = record { k = k; total = total; lines = ls } in
     let read : tableLines (split 10 (handedText k total cs)) ≡ then (tableFields (headRow k n total)) (λ h. then (ruleLines (h .k) [] ms) (wholeTable h)) =
-    ap tableLines (handed-split k total cs) ∙ table-more (join 32 (headRow k n total)) ms (rows-some ls (brokenRows ss) (broken-some ss)) ∙ rw (head-split k n total) in
+    ap tableLines (handed-split k total cs)
+    ∙ table-more (join 32 (headRow k n total)) ms (rows-some ls (brokenRows ss) (broken-some ss))
+    ∙ rw (head-split k n total) in
     unless-none (leb (length (handedText k total cs)) textLimit) no11 0 _
     ∙ ap (unless (leb (length (handedText k total cs)) textLimit) no11 0)
     (rw (read, head-read k n total)

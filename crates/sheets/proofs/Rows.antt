@@ -21,7 +21,14 @@ four-more table to room i h =
     let two : 4 * i + 2 + 1 ≡ 4 * i + 3 = omega arith in
     let three : 4 * i + 3 + 1 ≡ 4 * (i + 1) = omega arith in
     slice-more (4 * i) to table (omega arith) (omega arith)
-    ∙ rw (slice-more (4 * i + 1) to table (omega arith) (omega arith), one, slice-more (4 * i + 2) to table (omega arith) (omega arith), two, slice-more (4 * i + 3) to table (omega arith) (omega arith), three)
+    ∙ rw (
+      slice-more (4 * i + 1) to table (omega arith) (omega arith),
+      one,
+      slice-more (4 * i + 2) to table (omega arith) (omega arith),
+      two,
+      slice-more (4 * i + 3) to table (omega arith) (omega arith),
+      three,
+    )
 
 no-lines : (cs : List ℕ) → length cs < 4 → linesFrom cs ≡ []
 unfolding linesFrom

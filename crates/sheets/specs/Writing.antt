@@ -55,7 +55,7 @@ abbrev pub CheckedAs : {A : Type 0} → Checked → Reading A → A → Type 0
 CheckedAs Sound r a = r ≡ got a
 CheckedAs (Refused why) r a = r ≡ turned why 0
 
--- the lines behind these, the last of them first, each in its limits and in order; behind them a line of too few fields, where `broken` is one; and the last a `*`
+-- the lines behind these, the last of them first, each in its limits and in order; then a line of too few fields, where `broken` is one; and the last a `*`
 unfoldable pub checkedFrom : ℕ → ℕ → List Line → List Line → Reading (Unit {0})
 checkedFrom k broken before ls = then (checkLines k before ls) (checkEnd broken tt)
 

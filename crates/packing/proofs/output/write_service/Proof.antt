@@ -80,7 +80,8 @@ loop-again c =
       omega arith,
       w .kept .0 ∙ simp length-set (l .inv .2),
       l .inv .3
-          ∙ line-more (a .lens .now) (a .values .now) (a .backends .now) (l .table) (w .last .0) (l .i) (a .s) (l .left) _ (omega arith) (omega arith) (w .ensures),
+          ∙ line-more (a .lens .now) (a .values .now) (a .backends .now) (l .table) (w .last .0) (l .i) (a .s) (l .left) _
+          (omega arith) (omega arith) (w .ensures),
     )
 
 same-length : tie.Need-same-length Inv-loop μ-loop

@@ -32,7 +32,8 @@ check-line-requires : tie.Need-check-line-requires Inv-loop μ-loop
 check-line-requires c κs =
     let p = c .before .before .before .before .pre in
     let l = c .before .before .loop in
-    (p .0, (omega (arith, c .before .loop-test .taken), (omega (arith, few-checked _ _ _ _ _ (l .inv .1), c .before .loop-test .taken, p .1), l .inv .1 .kept .places)))
+    let few : l .last .count ≤ 2048 = omega (arith, few-checked _ _ _ _ _ (l .inv .1), c .before .loop-test .taken, p .1) in
+    (p .0, (omega (arith, c .before .loop-test .taken), (few, l .inv .1 .kept .places)))
 
 enum-known-checked : tie.Need-enum-known-checked Inv-loop μ-loop
 enum-known-checked c = search needs
@@ -93,14 +94,16 @@ returns-3 c =
     let s = c .before .before .before .before .before .before in
     let C = c .before .before .before .before .loop .inv .1 in
     ends (c .before .before .before)
-    ∙ all-sound _ _ (C .before) (omega (arith, count-broken (s .args .table .now), c .before .before .if1 .left)) (ap (λ (q : Last). q .len) (sym (C .kept .is)) ∙ c .if2 .taken)
+    ∙ all-sound _ _ (C .before) (omega (arith, count-broken (s .args .table .now), c .before .before .if1 .left))
+    (ap (λ (q : Last). q .len) (sym (C .kept .is)) ∙ c .if2 .taken)
 
 returns-4 : tie.Need-returns-4 Inv-loop μ-loop
 returns-4 c =
     let s = c .before .before .before .before .before .before in
     let C = c .before .before .before .before .loop .inv .1 in
     ends (c .before .before .before)
-    ∙ left-open _ _ (C .before) (omega (arith, count-broken (s .args .table .now), c .before .before .if1 .left)) (λ e. c .if2 .left (ap (λ (q : Last). q .len) (C .kept .is) ∙ e))
+    ∙ left-open _ _ (C .before) (omega (arith, count-broken (s .args .table .now), c .before .before .if1 .left))
+    (λ e. c .if2 .left (ap (λ (q : Last). q .len) (C .kept .is) ∙ e))
 
 pub check-lines-spec : {M : Type 1} → statement M
 check-lines-spec =

@@ -69,7 +69,9 @@ returns-6 : tie.Need-returns-6
 unfolding totalLimit
 returns-6 c =
     let s = c .before .before .before .before .before .before .before .before .before in
-    handed-total _ _ _ (short (c .before .before .before .before .before .before)) (c .before .before .before .before .before .if2 .left) (c .before .before .before .before .if3 .left)
+    handed-total _ _ _ (short (c .before .before .before .before .before .before))
+    (c .before .before .before .before .before .if2 .left)
+    (c .before .before .before .before .if3 .left)
     (omega (arith, c .before .before .if4 .left, c .before .before .before .line-count .ensures))
     (omega (arith, c .before .if5 .left, c .before .before .before .line-count .ensures))
     (lt-leb (s .args .total) 2621440000000000 (c .if6 .taken))
@@ -80,7 +82,9 @@ check-lines-requires c κs = (c .before .before .before .before .if3 .left, omeg
 returns-7 : tie.Need-returns-7
 unfolding totalLimit
 returns-7 c =
-    handed-lines _ _ _ (short (c .before .before .before .before .before .before .before)) (c .before .before .before .before .before .before .if2 .left) (c .before .before .before .before .before .if3 .left)
+    handed-lines _ _ _ (short (c .before .before .before .before .before .before .before))
+    (c .before .before .before .before .before .before .if2 .left)
+    (c .before .before .before .before .before .if3 .left)
     (omega (arith, c .before .before .before .if4 .left, c .before .before .before .before .line-count .ensures))
     (omega (arith, c .before .before .if5 .left, c .before .before .before .before .line-count .ensures))
     (c .before .if6 .left) (c .check-lines .result) (c .check-lines .ensures)

@@ -17,7 +17,10 @@ text-width-requires : tie.Need-text-width-requires
 text-width-requires c κs = c .before .before .pre .1 .room
 
 -- the text is short enough to be counted whole
-width : (c : tie.After-text-width) → let a = c .before .before .before .args in c .text-width .result ≡ length (tableText (tableIn (a .k) (a .total) (a .table .now) (a .n)))
+width :
+    (c : tie.After-text-width)
+    → let a = c .before .before .before .args in
+    c .text-width .result ≡ length (tableText (tableIn (a .k) (a .total) (a .table .now) (a .n)))
 width c =
     let s = c .before .before .before in
     c .text-width .ensures ∙ table-counted (s .args .table .now) (s .args .n) (s .pre .1) (s .args .k) (s .args .total) (s .pre .0) (omega arith) (omega arith)
@@ -35,7 +38,8 @@ same-length-out c = same-length (c .before .before .put-table .ensures)
 
 returns-2 : tie.Need-returns-2
 returns-2 c =
-    printed _ _ _ _ (omega (arith, c .before .before .before .before .if1 .left, width (c .before .before .before .before .before))) (c .before .before .put-table .ensures)
+    printed _ _ _ _ (omega (arith, c .before .before .before .before .if1 .left, width (c .before .before .before .before .before)))
+    (c .before .before .put-table .ensures)
 
 pub print-spec : {M : Type 1} → statement M
 print-spec = tie.close (tie.spec mul-text-width text-width-requires returns put-table-requires same-length-out returns-2)

@@ -25,7 +25,9 @@ record Going (table : List ℕ) (n : ℕ) (out₀ : List ℕ) (at₀ : ℕ) (out
       → Wrote out₀ after at₀ end (linesText (linesFrom (slice 0 (4 * n) table)))
 
 -- where a line that was written ends
-line-ends : (l : Line) {before after : List ℕ} {at next : ℕ} → Wrote before after at next (lineText l) → next ≡ at + lineWidth (l .service) (l .rule .len) (l .rule .backend)
+line-ends :
+    (l : Line) {before after : List ℕ} {at next : ℕ} → Wrote before after at next (lineText l)
+    → next ≡ at + lineWidth (l .service) (l .rule .len) (l .rule .backend)
 line-ends l w = omega (arith, w .ends, length-line l)
 
 abbrev Inv-loop : tie.InvT-loop

@@ -1,5 +1,5 @@
 -- `printing::text_width` meets its contract: the width so far and that of the numbers left make the width of the whole text, as far as it is counted.
-use Prim.Native.Nat.{ℕ, _+_, _-_, _*_, _/_, _≤_}
+use Prim.Native.Nat.{ℕ, _+_, _-_, _*_, _/_, _≤_, _<_}
 use mathlib.Core.Path.{_≡_, ap, _∙_}
 use native.Mathlib.Omega.{arith}
 use lib.ListN.{length, getD}
@@ -49,7 +49,8 @@ decimal-width-requires-3 c κs = tt
 add-width-3 : tie.Need-add-width-3 Inv-loop μ-loop
 add-width-3 c =
     let a = c .before .before .before .before .before .args in
-    omega (arith, width-least 19 (a .k) (omega arith), width-least 19 (c .before .before .line-count .result) (omega arith), width-least 19 (a .total) (omega arith))
+    let n = c .before .before .line-count .result in
+    omega (arith, width-least 19 (a .k) (omega arith), width-least 19 n (omega arith), width-least 19 (a .total) (omega arith))
 
 loop-holds : tie.Need-loop-holds Inv-loop μ-loop
 loop-holds c =
@@ -111,18 +112,23 @@ loop-again c =
     let i = l .i in
     let w = lineWidth (getD t (4 * i) 0) (getD t (4 * i + 1) 0) (getD t (4 * i + 3) 0) in
     let rest = handedWidth (slice (4 * (i + 1)) (s .args .to) t) in
-    let width : c .add-width .result ≡ counted (l .width + counted w) = c .add-width .ensures ∙ ap (λ (x : ℕ). counted (l .width + x)) (c .before .line-width .ensures) in
+    let width : c .add-width .result ≡ counted (l .width + counted w) =
+    c .add-width .ensures ∙ ap (λ (x : ℕ). counted (l .width + x)) (c .before .line-width .ensures) in
     let more = handed-more t (s .args .to) (s .pre) i (omega (arith, c .before .before .before .before .before .loop-test .taken)) in (
       omega (arith, c .before .before .before .before .before .loop-test .taken),
       omega arith,
-      ap (λ (x : ℕ). counted (x + rest)) width ∙ more-counted (l .width) w rest ∙ ap (λ (x : ℕ). counted (l .width + x)) (omega (arith, more)) ∙ l .inv .2,
+      ap (λ (x : ℕ). counted (x + rest)) width
+          ∙ more-counted (l .width) w rest
+          ∙ ap (λ (x : ℕ). counted (l .width + x)) (omega (arith, more))
+          ∙ l .inv .2,
     )
 
 returns : tie.Need-returns Inv-loop μ-loop
 returns c =
     let s = c .before .before .before .before .before .before .before .before in
     let l = c .before .before .loop in
-    omega (arith, handed-none (s .args .table .now) (s .args .to) (s .pre) (l .i) (omega (arith, c .before .loop-test .left, l .inv .0, c .if1 .taken)), l .inv .1, l .inv .2)
+    let end : s .args .to ≡ 4 * l .i = omega (arith, c .before .loop-test .left, l .inv .0, c .if1 .taken) in
+    omega (arith, handed-none (s .args .table .now) (s .args .to) (s .pre) (l .i) end, l .inv .1, l .inv .2)
 
 mul-place-width : tie.Need-mul-place-width Inv-loop μ-loop
 mul-place-width c = omega arith
@@ -150,9 +156,10 @@ returns-2 c =
     let s = c .before .before .before .before .before .before .before .before .before .before .before in
     let l = c .before .before .before .before .before .loop in
     let h = c .before .before .before .before .loop-test .left in
+    let some : 4 * l .i < s .args .to = omega (arith, h, l .inv .0, c .before .before .before .if1 .left) in
     omega (
       arith,
-      handed-last (s .args .table .now) (s .args .to) (s .pre) (l .i) (omega (arith, h, l .inv .0, c .before .before .before .if1 .left)) (omega (arith, h, l .inv .0)),
+      handed-last (s .args .table .now) (s .args .to) (s .pre) (l .i) some (omega (arith, h, l .inv .0)),
       c .add-width2 .ensures,
       c .before .place-width .ensures,
       l .inv .2,
