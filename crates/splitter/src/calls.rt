@@ -42,9 +42,19 @@ fn print_outcome(outcome: Outcome, out: &[u8; commands::ROOM], command: Command)
     }
 }
 
-fn look(table: &[u8], service: &[u8], address: &[u8]) {
+// The service and the address are the third and the fourth argument.
+fn look(table: &[u8]) {
+    let mut service = [0u8; arguments::ROOM];
+    let s = os::arg(3, &mut service);
+    let mut address = [0u8; arguments::ROOM];
+    let a = os::arg(4, &mut address);
     let mut out = [0u8; commands::ROOM];
-    let outcome = commands::lookup(table, service, address, &mut out);
+    let outcome = commands::lookup(
+        table,
+        input::start(&service, s),
+        input::start(&address, a),
+        &mut out,
+    );
     print_outcome(outcome, &out, Command::Lookup);
 }
 
@@ -54,25 +64,30 @@ pub fn lookup() {
         return;
     }
     let mut table = [0u8; TEXT];
-    let Read::Bytes(n) = input::read_file(2, &mut table) else {
-        output::usage(Command::Lookup);
-        return;
-    };
-    let mut service = [0u8; arguments::ROOM];
-    let s = os::arg(3, &mut service);
-    let mut address = [0u8; arguments::ROOM];
-    let a = os::arg(4, &mut address);
-    look(
-        input::start(&table, n),
-        input::start(&service, s),
-        input::start(&address, a),
-    );
+    let read = input::read_file(2, &mut table);
+    match read {
+        Read::Bytes(n) => look(input::start(&table, n)),
+        Read::Failed => output::usage(Command::Lookup),
+    }
 }
 
-fn compare(old: &[u8], new: &[u8], service: &[u8]) {
+// The service is the fourth argument.
+fn compare(old: &[u8], new: &[u8]) {
+    let mut service = [0u8; arguments::ROOM];
+    let s = os::arg(4, &mut service);
     let mut out = [0u8; commands::ROOM];
-    let outcome = commands::churn(old, new, service, &mut out);
+    let outcome = commands::churn(old, new, input::start(&service, s), &mut out);
     print_outcome(outcome, &out, Command::Churn);
+}
+
+// The new table is the third argument.
+fn compare_to(old: &[u8]) {
+    let mut new = [0u8; TEXT];
+    let read = input::read_file(3, &mut new);
+    match read {
+        Read::Bytes(n) => compare(old, input::start(&new, n)),
+        Read::Failed => output::usage(Command::Churn),
+    }
 }
 
 // splitter churn OLD NEW SERVICE
@@ -88,22 +103,11 @@ pub fn churn() {
         return;
     }
     let mut old = [0u8; TEXT];
-    let Read::Bytes(n) = input::read_file(2, &mut old) else {
-        output::usage(Command::Churn);
-        return;
-    };
-    let mut new = [0u8; TEXT];
-    let Read::Bytes(m) = input::read_file(3, &mut new) else {
-        output::usage(Command::Churn);
-        return;
-    };
-    let mut service = [0u8; arguments::ROOM];
-    let s = os::arg(4, &mut service);
-    compare(
-        input::start(&old, n),
-        input::start(&new, m),
-        input::start(&service, s),
-    );
+    let read = input::read_file(2, &mut old);
+    match read {
+        Read::Bytes(n) => compare_to(input::start(&old, n)),
+        Read::Failed => output::usage(Command::Churn),
+    }
 }
 
 // splitter help
