@@ -1,12 +1,11 @@
 -- What the packing answers, where the lists and the grants are those that the program keeps.
-use Prim.Native.Nat.{ℕ, zero, suc, _*_, _≤_}
+use Prim.Native.Nat.{ℕ, _*_, _≤_}
 use mathlib.Core.Path.{_≡_, refl, sym, ap₂, _∙_}
 use mathlib.Core.Bool.{Bool, true, false}
 use mathlib.Core.List.{List}
 use native.Mathlib.Omega.{arith}
 use lib.ListN.{length}
-use lib.Dec.{leb, eqb}
-use borrow.Author.Tests.{eq-eqb, ne-eqb}
+use lib.Dec.{leb}
 use Rattle.numerals.specs.Pick.{pick}
 use Rattle.expansion.specs.Sums.{sumTo}
 use Rattle.numerals.specs.declared.refusal.Refusal.{Refusal}
@@ -16,9 +15,9 @@ use Rattle.packing.specs.Grants.{total}
 use Rattle.packing.specs.Count.{services, volume}
 use Rattle.packing.specs.Table.{problem, granted}
 use Rattle.packing.specs.Demand.{Demand}
-use Rattle.packing.specs.Answer.{servicesOf, checkAll, linesMade, packedOf, figuresMade, cells, noBuffer, figuresBuffer, tableBuffer, answer}
+use Rattle.packing.specs.Answer.{servicesOf, checkAll, linesMade, packedOf, figuresMade, cells, noBuffer, figuresBuffer, tableBuffer, written, answer, onMade}
 use Rattle.packing.specs.Kept.{Listed, Granted}
-use Rattle.packing.specs.Stored.{storedTotal, storedFigures, storedTable, AllPayable, Allotted, Writable, shortOf, unlessShort}
+use Rattle.packing.specs.Stored.{storedTotal, storedFigures, storedTable, AllPayable, Allotted, Writable}
 use Rattle.packing.specs.declared.call.Packed.{Packed}
 use Rattle.packing.specs.declared.call.Packing.{Packing}
 use Rattle.packing.specs.declared.call.Packing.the-variants.{Made, Refused}
@@ -27,21 +26,18 @@ use Rattle.packing.proofs.Checks.{Accepted, balanced, volume-le}
 use Rattle.packing.proofs.Meant.{granted-kept, rules-kept, granted-payable, total-meant, all-payable}
 use Rattle.packing.proofs.Written.{table-meant, figures-meant, tabled, rules-made}
 
--- the refusal names the buffer that is too short
-picks :
-    (t u : Bool) (made : Packing) (b : ℕ) → b ≡ pick t (pick u noBuffer tableBuffer) figuresBuffer
-    → pick t (pick u made (Refused ShortLoan tableBuffer)) (Refused ShortLoan figuresBuffer)
-    ≡ pick (eqb b 0) made (Refused ShortLoan b)
-picks true true made b e = rw e
-picks true false made b e = rw e
-picks false u made b e = rw e
+-- what holds of the table holds of an answer that it was made
+module _ (claim : Packed → Type 0) (p : Packed) where
+  chosen : (t u : Bool) → claim p → onMade (pick t (pick u (Made p) (Refused ShortLoan tableBuffer)) (Refused ShortLoan figuresBuffer)) claim
+  chosen true true d = d
+  chosen true false d = tt
+  chosen false u d = tt
 
--- a lent buffer that stays as it was
-pub kept-short : (b : ℕ) (out vs : List ℕ) → (b ≡ 0 → ⊥) → unlessShort b out vs ≡ out
-kept-short zero out vs short = absurd (short refl)
-kept-short (suc b) out vs short = refl
+  pub claimed : (n figuresRoom tableRoom : ℕ) (r : Packing) → r ≡ written p n figuresRoom tableRoom → claim p → onMade r claim
+  unfolding written
+  claimed n figuresRoom tableRoom r e d = rw e (chosen (leb (3 * n) figuresRoom) (leb (4 * p .rules) tableRoom) d)
 
--- the answer by what was found on the way
+-- the answer by what the checks found
 module _ (k tolerance capacity : ℕ) (volumes sizes ws : List ℕ) (figuresRoom tableRoom : ℕ) where
   pub answer-refused :
       (why : Refusal) → checkAll k tolerance capacity volumes sizes ws ≡ Turned why
@@ -49,32 +45,13 @@ module _ (k tolerance capacity : ℕ) (volumes sizes ws : List ℕ) (figuresRoom
   unfolding answer
   answer-refused why e = rw e
 
-  module _ (passed : checkAll k tolerance capacity volumes sizes ws ≡ Passed) (r : ℕ)
-      (rules : r ≡ length (linesMade (servicesOf k volumes sizes ws) tolerance capacity)) where
-    -- the answer, where the checks passed, by the tests of room
-    found :
-        answer k tolerance capacity volumes sizes ws figuresRoom tableRoom
-        ≡ pick (leb (3 * length volumes) figuresRoom)
-        (pick (leb (4 * r) tableRoom) (Made (packedOf (servicesOf k volumes sizes ws) tolerance capacity))
-        (Refused ShortLoan tableBuffer))
-        (Refused ShortLoan figuresBuffer)
-    unfolding answer services servicesOf
-    found = simp (passed, ← rules)
-
-    pub answer-short :
-        (b : ℕ) → b ≡ shortOf (length volumes) r figuresRoom tableRoom → (b ≡ 0 → ⊥)
-        → answer k tolerance capacity volumes sizes ws figuresRoom tableRoom ≡ Refused ShortLoan b
-    unfolding shortOf
-    answer-short b e short =
-        found ∙ picks (leb (3 * length volumes) figuresRoom) (leb (4 * r) tableRoom) _ b e ∙ simp (ne-eqb b 0 short)
-
-    pub answer-made :
-        (b : ℕ) → b ≡ shortOf (length volumes) r figuresRoom tableRoom → b ≡ 0
-        → answer k tolerance capacity volumes sizes ws figuresRoom tableRoom
-        ≡ Made (packedOf (servicesOf k volumes sizes ws) tolerance capacity)
-    unfolding shortOf
-    answer-made b e none =
-        found ∙ picks (leb (3 * length volumes) figuresRoom) (leb (4 * r) tableRoom) _ b e ∙ simp (eq-eqb b 0 none)
+  pub answer-passed :
+      checkAll k tolerance capacity volumes sizes ws ≡ Passed → (p : Packed)
+      → p ≡ packedOf (servicesOf k volumes sizes ws) tolerance capacity
+      → written p (length volumes) figuresRoom tableRoom
+      ≡ answer k tolerance capacity volumes sizes ws figuresRoom tableRoom
+  unfolding answer services servicesOf
+  answer-passed passed p e = rw (passed, e)
 
 -- the lists and grants kept, with r rules in all, come to this
 pub record Settled (k tolerance capacity : ℕ) (volumes sizes ws lens values backends stairs counts ends grants : List ℕ) (r : ℕ) : Type 0 where

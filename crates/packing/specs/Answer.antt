@@ -116,15 +116,19 @@ abbrev pub onPassed : Checked → Packing → Packing
 onPassed Passed made = made
 onPassed (Turned why) made = Refused why noBuffer
 
--- the answer, with room for so many figures and cells
+-- the answer with this table of n services, where there is room for so many figures and cells: 7 names the first buffer that is too short
+unfoldable pub written : Packed → ℕ → ℕ → ℕ → Packing
+written p n figuresRoom tableRoom =
+    pick (leb (3 * n) figuresRoom)
+    (pick (leb (4 * p .rules) tableRoom) (Made p) (Refused no7 tableBuffer))
+    (Refused no7 figuresBuffer)
+
+-- the answer of the whole call
 unfoldable pub answer : ℕ → ℕ → ℕ → List ℕ → List ℕ → List ℕ → ℕ → ℕ → Packing
 answer k tolerance capacity volumes sizes ws figuresRoom tableRoom =
     let S = servicesOf k volumes sizes ws in
     onPassed (checkAll k tolerance capacity volumes sizes ws)
-    (pick (leb (3 * services S) figuresRoom)
-    (pick (leb (4 * length (linesMade S tolerance capacity)) tableRoom) (Made (packedOf S tolerance capacity))
-    (Refused no7 tableBuffer))
-    (Refused no7 figuresBuffer))
+    (written (packedOf S tolerance capacity) (services S) figuresRoom tableRoom)
 
 -- a lent buffer afterwards: the values from its start on, where the table was made; else as it was
 abbrev pub filled : Packing → List ℕ → List ℕ → List ℕ

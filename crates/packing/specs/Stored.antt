@@ -2,13 +2,11 @@
 use Prim.Native.Nat.{ℕ, zero, suc, _+_, _-_, _*_, _^_, _≤_, _<_, min}
 use mathlib.Core.Path.{_≡_}
 use mathlib.Core.List.{List, [], _∷_, _++_}
-use lib.Dec.{leb, ltb}
+use lib.Dec.{ltb}
 use lib.ListN.{length, getD}
-use lib.Seq.{sets}
 use Rattle.numerals.specs.Pick.{pick}
 use Rattle.expansion.specs.Sums.{sumTo}
 use Rattle.packing.specs.Grants.{Problem, packed}
-use Rattle.packing.specs.Answer.{noBuffer, figuresBuffer, tableBuffer}
 
 -- what service s costs at x rules: its volume × the stair after them; past the end of its list it stays at the last stair
 unfoldable pub storedCost : List ℕ → List ℕ → List ℕ → ℕ → ℕ → ℕ
@@ -104,13 +102,3 @@ pub record Writable (n rules : ℕ) (grants counts ends lens values backends : L
   pub counted : n ≤ length counts
   pub ended : n ≤ length ends
   pub tabled : (room : ℕ) → 4 * rules ≤ room → Tabled n grants lens values backends room
-
--- the lent buffer that is too short, figures before table
-unfoldable pub shortOf : ℕ → ℕ → ℕ → ℕ → ℕ
-shortOf n rules figuresRoom tableRoom =
-    pick (leb (3 * n) figuresRoom) (pick (leb (4 * rules) tableRoom) noBuffer tableBuffer) figuresBuffer
-
--- a lent buffer afterwards: the values from its start on, where no buffer was too short
-abbrev pub unlessShort : ℕ → List ℕ → List ℕ → List ℕ
-unlessShort zero out vs = sets out 0 vs
-unlessShort (suc buffer) out vs = out

@@ -61,24 +61,17 @@ pub fn pack(
     );
     let mut grants = [1usize; 64];
     let rules = crate::grants::grant_all(capacity, volumes, &stairs, &counts, &mut grants);
-    let n = volumes.len();
-    let short = crate::output::write_out(
+    let total = crate::grants::total_cost(volumes, &stairs, &grants);
+    crate::output::write_out(
+        Packed { rules, total },
         figures,
         table,
-        n,
-        rules,
+        volumes.len(),
         &grants,
         &counts,
         &ends,
         &lens,
         &values,
         &backends,
-    );
-    if short != 0 {
-        return Packing::Refused(Refusal::ShortLoan, short);
-    }
-    Packing::Made(Packed {
-        rules,
-        total: crate::grants::total_cost(volumes, &stairs, &grants),
-    })
+    )
 }

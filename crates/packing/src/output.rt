@@ -1,10 +1,14 @@
 // What is written into the lent buffers: three figures for each service, four numbers for each line of the table.
+use crate::call::Packed;
+use crate::call::Packing;
+use numerals::Refusal;
 ghost use mathlib.Core.Path.{_≡_};
 ghost use mathlib.Core.List.{[], _∷_};
 ghost use Prim.Native.Nat.{_+_, _*_, _≤_};
 ghost use lib.ListN.{length};
 ghost use lib.Seq.{sets};
-ghost use Rattle.packing.specs.Stored.{storedFigures, storedCells, storedTable, Tabled, Writable, shortOf, unlessShort};
+ghost use Rattle.packing.specs.Answer.{written, filled};
+ghost use Rattle.packing.specs.Stored.{storedFigures, storedCells, storedTable, Tabled, Writable};
 
 // Three numbers from position `at` on.
 fn write_three(out: &mut [usize], at: usize, a: usize, b: usize, c: usize)
@@ -80,32 +84,31 @@ fn write_table(
     }
 }
 
-// The figures and the table of n services with so many rules in all, where both lent buffers have room; else nothing is
-// written. The buffer that is too short, figures 1 before table 2, or 0.
+// The figures and the table of n services, where both lent buffers have room for them; else 7, and nothing is written.
 pub fn write_out(
+    packed: Packed,
     figures: &mut [usize],
     table: &mut [usize],
     n: usize,
-    rules: usize,
     grants: &[usize],
     counts: &[usize],
     ends: &[usize],
     lens: &[usize],
     values: &[usize],
     backends: &[usize],
-) -> usize
-    requires { ⌜ Writable n rules (now grants) (now counts) (now ends) (now lens) (now values) (now backends) ⌝ }
-    ensures short { λ r. ⌜ r ≡ shortOf n rules (length (now (figures .entry))) (length (now (table .entry))) ⌝ }
-    ensures figures { λ r. ⌜ now (figures .exit) ≡ unlessShort r (now (figures .entry)) (storedFigures (now (grants .entry)) (now (counts .entry)) (now (ends .entry)) n) ⌝ }
-    ensures table { λ r. ⌜ now (table .exit) ≡ unlessShort r (now (table .entry)) (storedTable (now (grants .entry)) (now (lens .entry)) (now (values .entry)) (now (backends .entry)) n) ⌝ }
+) -> Packing
+    requires { ⌜ Writable n (packed .rules) (now grants) (now counts) (now ends) (now lens) (now values) (now backends) ⌝ }
+    ensures answer { λ r. ⌜ r ≡ written packed n (length (now (figures .entry))) (length (now (table .entry))) ⌝ }
+    ensures figures { λ r. ⌜ now (figures .exit) ≡ filled r (now (figures .entry)) (storedFigures (now (grants .entry)) (now (counts .entry)) (now (ends .entry)) n) ⌝ }
+    ensures table { λ r. ⌜ now (table .exit) ≡ filled r (now (table .entry)) (storedTable (now (grants .entry)) (now (lens .entry)) (now (values .entry)) (now (backends .entry)) n) ⌝ }
 {
     if figures.len() < 3 * n {
-        return 1;
+        return Packing::Refused(Refusal::ShortLoan, 1);
     }
-    if table.len() < 4 * rules {
-        return 2;
+    if table.len() < 4 * packed.rules {
+        return Packing::Refused(Refusal::ShortLoan, 2);
     }
     write_figures(figures, n, grants, counts, ends);
     write_table(table, n, grants, lens, values, backends);
-    0
+    Packing::Made(packed)
 }

@@ -15,7 +15,7 @@ use Rattle.expansion.specs.declared.call.Checked.the-variants.{Sound as Passed}
 use Rattle.expansion.proofs.Checks.{weights-sum}
 use Rattle.expansion.proofs.Searches.{true-all}
 use Rattle.packing.specs.Count.{services}
-use Rattle.packing.specs.Answer.{chunks, servicesOf, checkService, checkFrom, checkServices, checkHead, checkAll, linesMade, packedOf, figuresMade, cells, figuresBuffer, tableBuffer, answer, filled}
+use Rattle.packing.specs.Answer.{chunks, servicesOf, checkService, checkFrom, checkServices, checkHead, checkAll, linesMade, packedOf, figuresMade, cells, figuresBuffer, tableBuffer, written, answer, filled}
 use Rattle.packing.specs.declared.call.Packed.{Packed}
 use Rattle.packing.specs.declared.call.Packing.{Packing}
 use Rattle.packing.specs.declared.call.Packing.the-variants.{Made, Refused}
@@ -105,7 +105,7 @@ pub plan-answer :
     (S : Sheet) → Limits S → (a b : ℕ)
     → planFrom (S .k) (length (S .volumes)) (answer (S .k) (S .tolerance) (S .capacity) (S .volumes) (sizesOf (S .weights)) (rowOf (S .weights)) a b)
     ≡ planOf S a b
-unfolding answer planOf packedOf tableFor services servicesIn
+unfolding answer written planOf packedOf tableFor services servicesIn
 plan-answer S limits a b = rw (all-pass S limits, same-services S)
     (plan-picks (S .k) (length (S .volumes)) (leb (3 * length (S .volumes)) a) (leb (4 * length (linesMade (servicesIn S) (S .tolerance) (S .capacity))) b) (packedOf (servicesIn S) (S .tolerance) (S .capacity)))
 

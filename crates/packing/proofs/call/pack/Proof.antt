@@ -5,9 +5,8 @@ use lib.ListN.{getD-replicate}
 use Rattle.expansion.specs.declared.call.Checked.the-variants.{Sound as Passed}
 use Rattle.packing.specs.Answer.{servicesOf, checkAll}
 use Rattle.packing.specs.Kept.{Listed}
-use Rattle.packing.specs.declared.call.Packing.the-variants.{Made}
 use Rattle.packing.proofs.Checks.{Accepted, all-passed, sized}
-use Rattle.packing.proofs.Settled.{kept-short, answer-refused, answer-short, answer-made, Settled, ready, settled}
+use Rattle.packing.proofs.Settled.{claimed, answer-refused, answer-passed, Settled, ready, settled}
 use borrow.Author.Needs.{needs}
 use Rattle.packing.proofs.call.pack.Statement.{statement}
 use Rattle.packing.proofs.call.pack.Tie as tie
@@ -105,6 +104,15 @@ done c =
     settled _ _ _ _ _ _ _ _ _ _ _ _ (accepted (c .before .before .before .before .before .before .before .before .before .before .before .before .before .before .before .before .before)) (listed (c .before .before .before .before .before .before .before .before .before .before)) _ _
     (m .kept .1 .1 .1 .1 .0) (m .kept .1 .1 .1 .1 .1 .0) (m .kept .1 .1 .1 .1 .1 .1 .0) (m .kept .1 .1 .1 .1 .1 .1 .1 .0) (m .kept .1 .1 .1 .1 .1 .1 .1 .1 .0) (m .kept .1 .1 .1 .1 .1 .1 .1 .1 .1 .0) (c .grant-all .kept .1 .1 .1 .1 .0) (c .grant-all .ensures)
 
+slice-aggregate-total-cost : tie.Need-slice-aggregate-total-cost
+slice-aggregate-total-cost c = search needs
+
+slice-aggregate-total-cost-2 : tie.Need-slice-aggregate-total-cost-2
+slice-aggregate-total-cost-2 c = search needs
+
+total-cost-requires : tie.Need-total-cost-requires
+total-cost-requires c κs = done (c .before .before .before) .payable
+
 slice-aggregate-write-out : tie.Need-slice-aggregate-write-out
 slice-aggregate-write-out c = search needs
 
@@ -124,7 +132,7 @@ slice-aggregate-write-out-6 : tie.Need-slice-aggregate-write-out-6
 slice-aggregate-write-out-6 c = search needs
 
 write-out-requires : tie.Need-write-out-requires
-write-out-requires c κs = done (c .before .before .before .before .before .before .before .before .before) .writable
+write-out-requires c κs = done (c .before .before .before .before .before .before .before .before .before .before .before .before) .writable
 
 same-length : tie.Need-same-length
 same-length c = search needs
@@ -134,36 +142,18 @@ same-length-2 c = search needs
 
 returns-2 : tie.Need-returns-2
 returns-2 c =
-    let w = c .before .before .before .before .before .write-out .ensures in
-    let g = c .before .before .before .before .before .before .before .before .before .before .before .before .before .before .before in (
-      sym (answer-short _ _ _ _ _ _ _ _ (passed (g .before .before .before .before .before .before .before .before .before .before .before .before .before .before .before .before .before)) _ (done g .rules) _ (w .0) (c .if1 .taken)),
-      (w .1 .0 ∙ kept-short _ _ _ (c .if1 .taken), (w .1 .1 ∙ kept-short _ _ _ (c .if1 .taken), tt)),
-    )
-
-slice-aggregate-total-cost : tie.Need-slice-aggregate-total-cost
-slice-aggregate-total-cost c = search needs
-
-slice-aggregate-total-cost-2 : tie.Need-slice-aggregate-total-cost-2
-slice-aggregate-total-cost-2 c = search needs
-
-total-cost-requires : tie.Need-total-cost-requires
-total-cost-requires c κs = done (c .before .before .before .before .before .before .before .before .before .before .before .before .before .before .before .before .before) .payable
-
-same-length-3 : tie.Need-same-length-3
-same-length-3 c = search needs
-
-same-length-4 : tie.Need-same-length-4
-same-length-4 c = search needs
-
-returns-3 : tie.Need-returns-3
-returns-3 c =
-    let w = c .before .before .before .before .before .before .before .before .write-out .ensures in
-    let none = c .before .before .before .if1 .left in
-    let g = c .before .before .before .before .before .before .before .before .before .before .before .before .before .before .before .before .before .before in
-    let d = done g in
-    let t = c .total-cost .ensures in (
-      ap Made (d .made _ t) ∙ sym (answer-made _ _ _ _ _ _ _ _ (passed (g .before .before .before .before .before .before .before .before .before .before .before .before .before .before .before .before .before)) _ (d .rules) _ (w .0) none),
-      (rw (none, d .figures) at (w .1 .0), (rw (none, d .table) at (w .1 .1), d .demand _ t)),
+    let w = c .before .before .before .before .write-out .ensures in
+    let t = c .before .before .before .before .before .before .before .before .before .before .before .before .before .total-cost .ensures in
+    let g = c .before .before .before .before .before .before .before .before .before .before .before .before .before .before .before .before .before in
+    let d = done g in (
+      w .0 ∙ answer-passed _ _ _ _ _ _ _ _ (passed (g .before .before .before .before .before .before .before .before .before .before .before .before .before .before .before .before .before)) _ (d .made _ t),
+      (
+        rw (d .figures) at (w .1 .0),
+        (
+          rw (d .table) at (w .1 .1),
+          claimed _ _ _ _ _ _ (w .0) (d .demand _ t),
+        ),
+      ),
     )
 
 pub pack-spec : {M : Type 1} → statement M
@@ -185,6 +175,9 @@ pack-spec =
     slice-aggregate-grant-all-2
     slice-aggregate-grant-all-3
     grant-all-requires
+    slice-aggregate-total-cost
+    slice-aggregate-total-cost-2
+    total-cost-requires
     slice-aggregate-write-out
     slice-aggregate-write-out-2
     slice-aggregate-write-out-3
@@ -194,10 +187,4 @@ pack-spec =
     write-out-requires
     same-length
     same-length-2
-    returns-2
-    slice-aggregate-total-cost
-    slice-aggregate-total-cost-2
-    total-cost-requires
-    same-length-3
-    same-length-4
-    returns-3)
+    returns-2)

@@ -4,24 +4,26 @@ use mathlib.Core.Path.{_≡_, refl}
 use native.Mathlib.Omega.{arith}
 use borrow.Author.Needs.{needs}
 use borrow.Author.Tests.{le-leb, lt-leb}
-use Rattle.packing.specs.Answer.{noBuffer, figuresBuffer, tableBuffer}
-use Rattle.packing.specs.Stored.{shortOf}
+use Rattle.numerals.specs.declared.refusal.Refusal.the-variants.{ShortLoan}
+use Rattle.packing.specs.Answer.{figuresBuffer, tableBuffer, written}
+use Rattle.packing.specs.declared.call.Packed.{Packed}
+use Rattle.packing.specs.declared.call.Packing.the-variants.{Made, Refused}
 use Rattle.packing.proofs.output.write_out.Statement.{statement}
 use Rattle.packing.proofs.output.write_out.Tie as tie
 
--- which buffer is too short, by the two tests of room
-module _ (n rules figuresRoom tableRoom : ℕ) where
-  figures-short : figuresRoom < 3 * n → figuresBuffer ≡ shortOf n rules figuresRoom tableRoom
-  unfolding shortOf
+-- the answer by the two tests of room
+module _ (p : Packed) (n figuresRoom tableRoom : ℕ) where
+  figures-short : figuresRoom < 3 * n → Refused ShortLoan figuresBuffer ≡ written p n figuresRoom tableRoom
+  unfolding written
   figures-short h = simp (lt-leb (3 * n) figuresRoom h)
 
-  table-short : 3 * n ≤ figuresRoom → tableRoom < 4 * rules → tableBuffer ≡ shortOf n rules figuresRoom tableRoom
-  unfolding shortOf
-  table-short l h = simp (le-leb (3 * n) figuresRoom l, lt-leb (4 * rules) tableRoom h)
+  table-short : 3 * n ≤ figuresRoom → tableRoom < 4 * p .rules → Refused ShortLoan tableBuffer ≡ written p n figuresRoom tableRoom
+  unfolding written
+  table-short l h = simp (le-leb (3 * n) figuresRoom l, lt-leb (4 * p .rules) tableRoom h)
 
-  none-short : 3 * n ≤ figuresRoom → 4 * rules ≤ tableRoom → noBuffer ≡ shortOf n rules figuresRoom tableRoom
-  unfolding shortOf
-  none-short l h = simp (le-leb (3 * n) figuresRoom l, le-leb (4 * rules) tableRoom h)
+  none-short : 3 * n ≤ figuresRoom → 4 * p .rules ≤ tableRoom → Made p ≡ written p n figuresRoom tableRoom
+  unfolding written
+  none-short l h = simp (le-leb (3 * n) figuresRoom l, le-leb (4 * p .rules) tableRoom h)
 
 mul-if1 : tie.Need-mul-if1
 mul-if1 c = search needs
@@ -39,7 +41,7 @@ write-figures-requires : tie.Need-write-figures-requires
 write-figures-requires c κs = search needs
 
 write-table-requires : tie.Need-write-table-requires
-write-table-requires c κs = c .before .before .before .before .before .before .before .before .before .before .before .before .before .before .before .pre .tabled _ (omega arith)
+write-table-requires c κs = c .before .before .before .before .before .before .before .before .before .before .before .before .before .before .before .before .pre .tabled _ (omega arith)
 
 same-length : tie.Need-same-length
 same-length c = search needs
