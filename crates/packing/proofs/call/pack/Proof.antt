@@ -1,5 +1,5 @@
 -- `call::pack` meets its contract: the checks, the lists, the grants, and what is written where there is room.
-use mathlib.Core.Path.{_≡_, refl, sym, ap, _∙_}
+use mathlib.Core.Path.{_≡_, refl, sym, _∙_}
 use native.Mathlib.Omega.{arith}
 use lib.ListN.{getD-replicate}
 use Rattle.expansion.specs.declared.call.Checked.the-variants.{Sound as Passed}
