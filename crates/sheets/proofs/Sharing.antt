@@ -13,10 +13,10 @@ use borrow.Author.Tests.{ltb-true, eq-eqb, ne-eqb}
 use Rattle.numerals.specs.Pick.{pick}
 use Rattle.numerals.proofs.Choice.{both-left, by-less}
 use Rattle.expansion.specs.Sums.{sumTo, countTo}
-use Rattle.expansion.specs.FirstMatch.{gives, share}
+use Rattle.expansion.specs.FirstMatch.{share}
 use Rattle.expansion.specs.Sound.{Complete}
 use Rattle.numerals.specs.declared.refusal.Refusal.the-variants.{ShortLoan, UnknownService}
-use Rattle.expansion.proofs.Sums.{sum-suc, sum-ext, count-suc}
+use Rattle.expansion.proofs.Sums.{sum-ext, count-suc}
 use Rattle.expansion.proofs.Count.{share-sum}
 use Rattle.packing.specs.Count.{Line, matchesLine, givesLine, ownRules}
 use Rattle.packing.proofs.Lines.{gives-own}

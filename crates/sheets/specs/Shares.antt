@@ -22,7 +22,7 @@ listTo (suc n) f = listTo n f ++ f n ∷ []
 unfoldable pub sharesBelow : ℕ → List Line → ℕ → List ℕ
 sharesBelow all ls s = listTo 32 (λ b. countTo all (λ v. givesLine ls s v b))
 
--- a of document 01 for each backend of the service with this number from 1: the number of k-bit suffixes given to backend b + 1 stands at place b, 0 if it got none
+-- a of document 01 for the service with this number from 1: at place b the number of k-bit suffixes given to backend b + 1, 0 if it got none
 unfoldable pub sharesOf : Table → ℕ → List ℕ
 sharesOf t n = sharesBelow (2 ^ (t .k)) (t .lines) (n - 1)
 

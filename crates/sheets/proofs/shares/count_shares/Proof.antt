@@ -104,14 +104,13 @@ same-length c = search needs
 
 returns-4 : tie.Need-returns-4
 returns-4 c =
-    let a = c .before .before .before .before .before .before .before .before .before .before .before .before .before .before .before .before .before .before .before .args in
-    let told = c .before .before .before .before .before .before .before .before .before .before .before in
-    let h = has told in
+    let counts = c .before .before .before .before in
+    let room = counts .before .before .before in
+    let told = room .before .before .before .before in
+    let a = told .before .before .before .before .before .before .before .before .args in
     let all = shifted (told .before .read2 .given .0 .0 .k) (bits told) in (
-      sym (answer (c .before .before .before .before .before .before .before .before .before) ∙ rw (lt-ltb 0 _ (some (c .before .before .before .before .before .before .before .before)), le-leb 32 _ (c .before .before .before .before .before .before .before .if2 .left))),
-      c .before .before .store .ensures
-          ∙ ap (sets (a .shares .now) 0)
-          (c .before .before .before .before .tally .ensures ∙ had-shares _ _ _ h (a .service) _ all),
+      sym (answer (room .before .before) ∙ rw (lt-ltb 0 _ (some (room .before)), le-leb 32 _ (room .if2 .left))),
+      c .before .before .store .ensures ∙ ap (sets (a .shares .now) 0) (counts .tally .ensures ∙ had-shares _ _ _ (has told) (a .service) _ all),
     )
 
 pub count-shares-spec : {M : Type 1} → statement M

@@ -1,6 +1,6 @@
 -- `shares::tally` meets its contract. The invariant: the suffixes below s are counted.
-use Prim.Native.Nat.{ℕ, _+_, _-_, _≤_, _<_}
-use mathlib.Core.Path.{_≡_, sym, _∙_}
+use Prim.Native.Nat.{_-_, _≤_}
+use mathlib.Core.Path.{_≡_, _∙_}
 use mathlib.Core.Logic.{⊎-elim}
 use native.Mathlib.Omega.{arith}
 use Rattle.expansion.proofs.Sums.{count-le}
@@ -34,7 +34,8 @@ found :
     c .first-backend .result ≡ firstBackend (linesIn (a .table .now) (a .n)) (a .service - 1) (c .before .before .loop .s)
 found c =
     let a = c .before .before .before .before .args in
-    c .first-backend .ensures ∙ of-number (linesIn (a .table .now) (a .n)) (a .service) (c .before .before .loop .s) (c .before .before .before .before .pre .0 .1)
+    c .first-backend .ensures
+    ∙ of-number (linesIn (a .table .now) (a .n)) (a .service) (c .before .before .loop .s) (c .before .before .before .before .pre .0 .1)
 
 sub-counts : tie.Need-sub-counts Inv-loop μ-loop
 sub-counts c = omega arith

@@ -57,7 +57,11 @@ returns-4 : tie.Need-returns-4
 unfolding comparedOf
 returns-4 c =
     let start = c .before .before .before .before .before .before .before .before .before .before .before in
-    ap Moved (c .count-moved .ensures ∙ ap (λ (all : ℕ). movedOf all (linesIn (start .args .old .now) (start .args .a .n)) (linesIn (start .args .new .now) (start .args .b .n)) (start .args .service)) (shifted (start .args .a .k) (start .pre .1 .1)))
+    let x = start .args in
+    let old = linesIn (x .old .now) (x .a .n) in
+    let new = linesIn (x .new .now) (x .b .n) in
+    let all = shifted (x .a .k) (start .pre .1 .1) in
+    ap Moved (c .count-moved .ensures ∙ ap (λ (n : ℕ). movedOf n old new (x .service)) all)
     ∙ sym (rw (has (c .before .before .before .before .before .before .before .before .first-backend .ensures) (c .before .before .before .before .before .before .before .if1 .left), has (c .before .before .before .before .before .before .first-backend2 .ensures) (c .before .before .before .before .before .if2 .left), eq-eqb _ _ (c .before .before .if3 .left)))
 
 pub compare-spec : {M : Type 1} → statement M
