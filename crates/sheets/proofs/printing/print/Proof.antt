@@ -1,30 +1,34 @@
-use borrow.Author.Needs.{needs}
+-- `printing::print` meets its contract: nothing is written where the text doesn't fit.
+use Prim.Native.Nat.{ℕ}
+use mathlib.Core.Path.{_≡_, sym, _∙_}
+use native.Mathlib.Omega.{arith}
+use lib.ListN.{length}
+use borrow.Author.Tests.{not-true, not-false, leb-true, leb-false}
+use Rattle.sheets.specs.RuleSheet.{tableText}
+use Rattle.sheets.specs.Writing.{tableIn}
+use Rattle.sheets.proofs.Prints.{no-room, printed}
+use Rattle.sheets.proofs.Writes.{same-length}
 use Rattle.sheets.proofs.printing.print.Statement.{statement}
 use Rattle.sheets.proofs.printing.print.Tie as tie
-use Rattle.sheets.proofs.printing.print.Reads as reads
-use Rattle.sheets.proofs.printing.print.Lts as lts
-use Rattle.sheets.proofs.printing.fits.Reads as fits-reads
-use Rattle.sheets.proofs.printing.put_table.Reads as put-table-reads
 
--- src/printing.rt:183:9
 fits-requires : tie.Need-fits-requires
-fits-requires c κs = search needs
+fits-requires c κs = c .before .before .pre
 
--- src/printing.rt:184:9
 returns : tie.Need-returns
-returns c = ?
+returns c = no-room _ _ (leb-false _ _ (sym (c .before .fits2 .ensures) ∙ not-true _ (c .if1 .taken)))
 
--- src/printing.rt:189:18
 put-table-requires : tie.Need-put-table-requires
-put-table-requires c κs = ?
+put-table-requires c κs =
+    let s = c .before .before .before .before .before in
+    (s .pre .0, (s .pre .1, leb-true _ _ (sym (c .before .before .fits2 .ensures) ∙ not-false _ (c .before .if1 .left))))
 
--- src/printing.rt:178:1
-same-length : tie.Need-same-length
-same-length c = search needs
+same-length-out : tie.Need-same-length
+same-length-out c = same-length (c .before .before .put-table .ensures)
 
--- src/printing.rt:178:1
 returns-2 : tie.Need-returns-2
-returns-2 c = ?
+returns-2 c =
+    let b = c .before .before .before .before in
+    printed _ _ _ _ (leb-true _ _ (sym (b .before .fits2 .ensures) ∙ not-false _ (b .if1 .left))) (c .before .before .put-table .ensures)
 
 pub print-spec : {M : Type 1} → statement M
-print-spec = tie.close (tie.spec fits-requires returns put-table-requires same-length returns-2)
+print-spec = tie.close (tie.spec fits-requires returns put-table-requires same-length-out returns-2)
