@@ -1,5 +1,5 @@
 -- Holders by tree place: a node that the listing has wholly is a suffix held wholly by first match, and the listing goes on saying who holds what as a node moves.
-use Prim.Native.Nat.{ℕ, _+_, _-_, _*_, _/_, _%_, _^_, _≤_, _<_, min}
+use Prim.Native.Nat.{ℕ, zero, suc, _+_, _-_, _*_, _/_, _%_, _^_, _≤_, _<_, min}
 use mathlib.Core.Bool.{Bool, true, false}
 use mathlib.Core.List.{List, [], _∷_}
 use mathlib.Core.Logic.{_≢_}
@@ -184,15 +184,21 @@ module _ (k l : ℕ) (h : l ≤ k) (rs : List Rule) (holder low : List ℕ) (H :
     holds-given = record { holders = holders-given; lows = lows-given }
 
 -- the rule `*` gives everything to one backend, and the others hold nothing
-pub holds-first : (k : ℕ) → k ≤ 12 → (ws : List ℕ) (first : ℕ) → first ≡ argmax (λ b. getD ws b 0) (length ws) → first < 32
-    → Holds k (firstRule ws) (replicate 4096 first) (set (replicate 32 (2 ^ k)) first 0)
+-- a listing of one value, also past its end
+alike : (n b a : ℕ) → getD (replicate n a) b a ≡ a
+alike zero b a = refl
+alike (suc n) zero a = refl
+alike (suc n) (suc b) a = alike n b a
+
+pub holds-first : (k : ℕ) → k ≤ 12 → (ws : List ℕ) (first : ℕ) → first ≡ argmax (λ b. getD ws b 0) (length ws)
+    → Holds k (firstRule ws) (replicate 4096 first) (replicate 32 0)
 unfolding firstRule matches
-holds-first k few ws first e in32 =
+holds-first k few ws first e =
     record {
       holders = λ p m.
           gives-matched star [] (place k p) (getD (replicate 4096 first) p 0) (eq-eqb (place k p % 2 ^ 0) 0 (mod-one (place k p)))
           ∙ eq-eqb (star .backend) (getD (replicate 4096 first) p 0) (sym (all p m ∙ e));
-      lows = λ b p m n d. none b p m n d (ℕ-discrete b first);
+      lows = λ b p m n d. omega (arith, alike 32 b 0);
     }
   where
     star : Rule
@@ -200,13 +206,3 @@ holds-first k few ws first e in32 =
 
     all : (p : ℕ) → p < 2 ^ k → getD (replicate 4096 first) p 0 ≡ first
     all p m = getD-replicate 4096 p first 0 (omega (arith, pow-few k few))
-
-    none : (b p : ℕ) → p < 2 ^ k → p < getD (set (replicate 32 (2 ^ k)) first 0) b 0 → getD (replicate 4096 first) p 0 ≡ b
-        → Dec (b ≡ first) → ⊥
-    none b p m n d (yes f) =
-        omega (
-          arith,
-          ap (λ (x : ℕ). getD (set (replicate 32 (2 ^ k)) first 0) x 0) f,
-          getD-set-same (replicate 32 (2 ^ k)) first 0 0 (omega (arith, length-replicate 32 (2 ^ k))),
-        )
-    none b p m n d (no f) = f (sym d ∙ all p m)

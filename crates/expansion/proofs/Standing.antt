@@ -77,15 +77,15 @@ module _ (k tolerance : ℕ) (ws : List ℕ) (valid : Valid k tolerance ws) wher
       → (L : Ledger) → Keeps (frame k unit tolerance ws) (firstRule ws) L
       → (sum : ℕ) → sum ≡ sumTo (length ws) (λ b. over (errorAt L b))
       → (next : Next) → next ≡ nextOf L (length ws) k tolerance (k - 1)
-      → Stands k tolerance ws (replicate 4096 first) (set (replicate 32 (2 ^ k)) first 0)
+      → Stands k tolerance ws (replicate 4096 first) (replicate 32 0)
       (record { ledger = L; rule = record { len = 0; value = 0; backend = first }; count = 1; imbalance = sum; next = next })
   unfolding frame after
   stands-first first e L K sum s next t =
       record {
         some-rules = omega arith;
         keeps = K;
-        holds = holds-first k (valid .few-bits) ws first e (omega (arith, first-lt k tolerance ws valid, valid .few));
-        long = (length-replicate 4096 first, length-set (replicate 32 (2 ^ k)) first 0 ∙ length-replicate 32 (2 ^ k));
+        holds = holds-first k (valid .few-bits) ws first e;
+        long = (length-replicate 4096 first, length-replicate {A = ℕ} 32 0);
         stair = s ∙ frame-imbalance k tolerance ws (firstRule ws) L K;
         next = t;
       }

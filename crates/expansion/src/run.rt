@@ -113,7 +113,7 @@ fn advance(
 fn begin(weights: &[u64], k: usize, tolerance: u64, first: usize) -> State
     requires { ⌜ kept.Valid k tolerance (now weights) ⌝ }
     requires { ⌜ first ≡ argmax (λ b. getD (now weights) b 0) (length (now weights)) ⌝ }
-    ensures stands { λ r. ⌜ kept.Stands k tolerance (now (weights .entry)) (replicate 4096 first) (set (replicate 32 (2 ^ k)) first 0) r ⌝ }
+    ensures stands { λ r. ⌜ kept.Stands k tolerance (now (weights .entry)) (replicate 4096 first) (replicate 32 0) r ⌝ }
     ensures one { λ r. ⌜ (r .count ≡ 1) × (r .rule ≡ record { len = 0; value = 0; backend = first }) ⌝ }
 {
     let n = weights.len();
@@ -153,10 +153,8 @@ pub fn make_list(k: usize, tolerance: u64, budget: usize, weights: &[u64]) -> Ru
 {
     let places = numerals::all_places();
     let first = heaviest(weights);
-    let all: usize = 1 << k;
     let mut holder = [first as u16; 4096];
-    let mut low = [all as u16; 32];
-    low[first] = 0;
+    let mut low = [0u16; 32];
     let mut state = begin(weights, k, tolerance, first);
     let star = state.rule;
     let mut list = crate::list::of_one(star, state.imbalance);

@@ -41,10 +41,11 @@ pub fn pack(
     if let Checked::Refused(why) = checked {
         return Packing::Refused(why, 0);
     }
-    let mut lens = [0usize; 2048];
-    let mut values = [0usize; 2048];
-    let mut backends = [0usize; 2048];
-    let mut stairs = [0u64; 2048];
+    // what stands there first means nothing; ones are stored by the word, zeros by the byte
+    let mut lens = [1usize; 2048];
+    let mut values = [1usize; 2048];
+    let mut backends = [1usize; 2048];
+    let mut stairs = [1u64; 2048];
     let mut counts = [0usize; 64];
     let mut ends = [0usize; 64];
     crate::lists::make_lists(

@@ -21,7 +21,8 @@ pub fn plan(text: &[u8], figures: &mut [usize], table: &mut [usize]) -> Planned
 {
     let mut volumes = [0u64; 64];
     let mut sizes = [0usize; 64];
-    let mut weights = [0u64; 2048];
+    // what stands there first means nothing; ones are stored by the word, zeros by the byte
+    let mut weights = [1u64; 2048];
     let read = crate::percentage_sheet::read_sheet(text, &mut volumes, &mut sizes, &mut weights);
     match read {
         SheetRead::Refused(why) => Planned::Refused(why, 0),
@@ -68,7 +69,7 @@ pub fn split_sheet(text: &[u8], out: &mut [u8]) -> Printed
     ensures demand { λ r. ⌜ owed r (now (text .entry)) (now (out .exit)) ⌝ }
 {
     let mut figures = [0usize; 192];
-    let mut table = [0usize; 8192];
+    let mut table = [1usize; 8192];
     let planned = plan(text, &mut figures, &mut table);
     match planned {
         Planned::Made(p) => crate::printing::print(p.k, p.total, &table, p.rules, out),

@@ -9,6 +9,7 @@ use numerals::Written;
 ghost use mathlib.Core.Path.{_≡_};
 ghost use mathlib.Core.List.{List, [], _∷_, _++_};
 ghost use Prim.Native.Nat.{ℕ, _+_, _*_, _/_, _^_, _≤_, _<_};
+ghost use lib.Dec.{leb};
 ghost use lib.ListN.{length};
 ghost use lib.Seq.{slice};
 ghost use Rattle.numerals.specs.Decimal.{width, decimal};
@@ -161,13 +162,25 @@ pub fn put_table(out: &mut [u8], k: usize, total: u64, table: &[usize], n: usize
     at
 }
 
+// Whether the text of a table whose lines are proper fits into so many bytes. It never has more than a text may, so where
+// there is room for that it isn't counted.
+fn fits(k: usize, total: u64, table: &[usize], n: usize, room: usize) -> bool
+    requires { ⌜ (n ≤ 2048) × Limited (now table) n ⌝ }
+    ensures { λ r. ⌜ r ≡ leb (length (tableText (tableIn k total (now (table .entry)) n))) room ⌝ }
+{
+    if 65536 <= room {
+        return true;
+    }
+    text_width(k, total, table, 4 * n) <= room
+}
+
 // The text of a table whose lines are proper, into a lent buffer.
 pub fn print(k: usize, total: u64, table: &[usize], n: usize, out: &mut [u8]) -> Printed
     requires { ⌜ (n ≤ 2048) × Limited (now table) n ⌝ }
     ensures answer { λ r. ⌜ r ≡ calls.printText (tableText (tableIn k total (now (table .entry)) n)) (length (now (out .entry))) ⌝ }
     ensures buffer { λ r. ⌜ now (out .exit) ≡ calls.printFilled r (now (out .entry)) (tableText (tableIn k total (now (table .entry)) n)) ⌝ }
 {
-    if out.len() < text_width(k, total, table, 4 * n) {
+    if !fits(k, total, table, n, out.len()) {
         return Printed::Refused(Refused {
             why: Refusal::ShortLoan,
             line: 0,

@@ -10,28 +10,24 @@ use Rattle.expansion.specs.Answer.{unit}
 use Rattle.expansion.specs.Kept.{Stands, Adds, Listed}
 use Rattle.expansion.specs.declared.list.RuleList.{RuleList}
 use Rattle.expansion.specs.declared.run.Next.the-variants.{Go}
-use Rattle.expansion.proofs.Powers.{pow-few, shifted}
 use Rattle.expansion.proofs.Checks.{first-lt}
 use Rattle.expansion.proofs.Standing.{listed-one, listed-more, made-ended, in-budget}
 use Rattle.expansion.proofs.run.make_list.Statement.{statement}
 use Rattle.expansion.proofs.run.make_list.Tie as tie
 
 abbrev Inv-loop : tie.InvT-loop
-Inv-loop k tolerance budget weights places first all holder₀ low₀ state₀ list₀ holder low state list =
+Inv-loop k tolerance budget weights places first holder₀ low₀ state₀ list₀ holder low state list =
     Stands k tolerance weights holder low state × Listed k tolerance weights list
     × (state .count ≡ list .count) × (list .count ≤ budget) × (length (list .rules) ≡ 32) × (length (list .stairs) ≡ 32)
 
 abbrev μ-loop : tie.MeasureT-loop
-μ-loop k tolerance budget weights places first all holder₀ low₀ state₀ list₀ holder low state list = budget - list .count
+μ-loop k tolerance budget weights places first holder₀ low₀ state₀ list₀ holder low state list = budget - list .count
 
 all-places-requires : tie.Need-all-places-requires Inv-loop μ-loop
 all-places-requires c κs = search needs
 
 heaviest-requires : tie.Need-heaviest-requires Inv-loop μ-loop
 heaviest-requires c κs = c .before .before .pre .0 .someone
-
-shl-all : tie.Need-shl-all Inv-loop μ-loop
-shl-all c = omega (arith, c .before .before .before .pre .0 .few-bits)
 
 first-in : (c : tie.After-heaviest Inv-loop μ-loop) → c .heaviest .result < 32
 first-in c =
@@ -40,18 +36,6 @@ first-in c =
 
 cast-holder : tie.Need-cast-holder Inv-loop μ-loop
 cast-holder c = omega (arith, first-in c)
-
-cast-low : tie.Need-cast-low Inv-loop μ-loop
-cast-low c =
-    let s = c .before .before .before in
-    let few = s .pre .0 .few-bits in
-    omega (arith, shifted (s .args .k) few, pow-few (s .args .k) few)
-
-mul-low : tie.Need-mul-low Inv-loop μ-loop
-mul-low c = omega (arith, first-in c)
-
-array-write-low : tie.Need-array-write-low Inv-loop μ-loop
-array-write-low c = first-in c
 
 begin-requires : tie.Need-begin-requires Inv-loop μ-loop
 begin-requires c κs = (c .before .before .before .pre .0, c .heaviest .ensures)
@@ -68,8 +52,7 @@ loop-holds c =
     let b = c .before .before .begin in
     let stair : b .result .imbalance ≡ imbalance F (after F 0) = b .ensures .0 .stair ∙ ap (λ (n : ℕ). imbalance F (after F (n - 1))) (b .ensures .1 .0) in
     let is = c .of-one .ensures in (
-      subst (λ (n : ℕ). Stands (a .k) (a .tolerance) (a .weights .now) (replicate 4096 (h .heaviest .result)) (set (replicate 32 n) (h .heaviest .result) 0) (b .result))
-          (sym (shifted (a .k) (s .pre .0 .few-bits))) (b .ensures .0),
+      b .ensures .0,
       subst (Listed (a .k) (a .tolerance) (a .weights .now)) (sym is)
           (listed-one (a .k) (a .tolerance) (a .weights .now) (s .pre .0) (h .heaviest .result) (h .heaviest .ensures)
           (b .result .rule) (b .ensures .1 .1) (b .result .imbalance) stair),
@@ -182,11 +165,7 @@ make-list-spec =
     μ-loop
     all-places-requires
     heaviest-requires
-    shl-all
     cast-holder
-    cast-low
-    mul-low
-    array-write-low
     begin-requires
     of-one-requires
     loop-holds
