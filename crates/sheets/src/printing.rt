@@ -21,7 +21,7 @@ ghost use Rattle.sheets.specs.Rows.{lineAt, Limited};
 ghost use Rattle.sheets.specs.Writing.{Wrote, Before, endAt, headText, lineWidth, counted, tableIn, CheckedAs, checkedFrom, CheckedLine};
 ghost use Rattle.sheets.specs.Calls as calls;
 
-// The sum of two widths.
+// The sum of two widths. Widths are counted up to one byte more than a text may have, so that no sum wraps.
 fn add_width(a: usize, b: usize) -> usize
     ensures { λ r. ⌜ r ≡ counted (a + b) ⌝ }
 {
