@@ -138,7 +138,7 @@ table-short t p =
       width-least 1 (t .k) (omega (arith, p .few-bits)),
       width-least 3 (length (t .lines)) (omega (arith, p .few)),
       width-least 15 (t .total) (omega (arith, p .small)),
-      lines-short (t .k) (p .bits) (p .few-bits) [] (t .lines) (p .sorted),
+      lines-short (t .k) (p .few-bits) [] (t .lines) (p .sorted),
       p .few,
     )
 
