@@ -10,9 +10,9 @@ use lib.ListN.{length, getD, take, drop, set, length-set}
 use lib.Seq.{sets, sets-eq, length-sets, slice, set-getD, getD-set-other, drop-append-seam}
 use borrow.Author.Tests.{leb-true}
 use Rattle.numerals.specs.Pick.{pick}
-use Rattle.packing.specs.Count.{Line}
-use Rattle.packing.specs.Answer.{cells, tableBuffer, figuresBuffer}
 use Rattle.numerals.specs.Refusals.{no7}
+use Rattle.packing.specs.Count.{Line}
+use Rattle.packing.specs.Answer.{figuresBuffer, tableBuffer}
 use Rattle.sheets.specs.Reading.{Reading, got, turned}
 use Rattle.sheets.specs.PercentageSheet.{Sheet, readSheet}
 use Rattle.sheets.specs.Rows.{lineAt, Limited}
@@ -38,7 +38,7 @@ pub record Numbered (a : List ℕ) (n : ℕ) (t : List ℕ) (i : ℕ) : Type 0 w
   pub whole : sets t (4 * i) (printedCells (linesFrom (slice (4 * i) (4 * n) a))) ≡ sets a 0 (printedCells (linesIn a n))
 
 -- what line i makes of the table
-abbrev pub numberedAt : List ℕ → ℕ → List ℕ
+abbrev numberedAt : List ℕ → ℕ → List ℕ
 numberedAt t i =
     let first = set t (4 * i) (getD t (4 * i) 0 + 1) in
     set first (4 * i + 3) (getD first (4 * i + 3) 0 + 1)
@@ -67,7 +67,7 @@ module _ (a : List ℕ) (n : ℕ) (L : Limited a n) where
   numbered-all t i h N = rw (rows-none a n (L .room) i h) at (N .whole)
 
   module _ (t : List ℕ) (i : ℕ) (h : i < n) (N : Numbered a n t i) where
-    -- a cell of the line that comes after its service
+    -- a number behind the line's service
     behind : (j v : ℕ) → 4 * i < j → getD (set t (4 * i) v) j 0 ≡ getD a j 0
     behind j v l = getD-set-other t (4 * i) j v 0 (λ e. omega arith) ∙ N .ahead j (omega arith)
 
@@ -121,8 +121,8 @@ unfolding printedCells
 length-printed [] = refl
 length-printed (l ∷ ls) = omega (arith, length-printed ls)
 
--- the sheet that a plan is of, whose table has room
-pub record Plans (text : List ℕ) (room : ℕ) (p : Plan) : Type 0 where
+-- the sheet that a plan is of, for whose table there is room
+record Plans (text : List ℕ) (room : ℕ) (p : Plan) : Type 0 where
   pub sheet : Sheet
   pub read : readSheet text ≡ got sheet
   pub rules : p .rules ≡ length (tableFor sheet .lines)
@@ -134,8 +134,12 @@ plans text f room p e = go (readSheet text) refl
   where
     picked :
         (S : Sheet) → readSheet text ≡ got S → (t u : Bool) → leb (4 * length (tableFor S .lines)) room ≡ u
-        → pick t (pick u (Made (record { k = S .k; services = length (S .volumes); rules = length (tableFor S .lines); total = tableFor S .total })) (Refused (refusedAt no7 0) tableBuffer)) (Refused (refusedAt no7 0) figuresBuffer)
-        ≡ Made p → Plans text room p
+        → pick t
+        (pick u (Made (record { k = S .k; services = length (S .volumes); rules = length (tableFor S .lines); total = tableFor S .total }))
+        (Refused (refusedAt no7 0) tableBuffer))
+        (Refused (refusedAt no7 0) figuresBuffer)
+        ≡ Made p
+        → Plans text room p
     picked S is true true l h =
         let rules : length (tableFor S .lines) ≡ p .rules = cc in
         record { sheet = S; read = is; rules = sym rules; fits = omega (arith, leb-true (4 * length (tableFor S .lines)) room l) }
@@ -179,10 +183,10 @@ module _ (text out : List ℕ) (p : Plan) (P : Plans text (length out) p) where
       rw lines-left (stored-over out (cellsFor S) (printedCells (tableFor S .lines)) (cells-long ∙ sym long) (omega (arith, P .fits)))
 
   module _ (a : List ℕ) (e : a ≡ left) where
-    pub limits-of : Limited a (p .rules)
+    limits-of : Limited a (p .rules)
     limits-of = rw e limits-left
 
-    pub printed-of : sets a 0 (printedCells (linesIn a (p .rules))) ≡ sets out 0 (printedCells (tableFor S .lines))
+    printed-of : sets a 0 (printedCells (linesIn a (p .rules))) ≡ sets out 0 (printedCells (tableFor S .lines))
     printed-of = rw e printed-left
 
 -- what a plan that was made fills in
@@ -197,12 +201,20 @@ refused-fills r why buffer out vs is = rw is
 abbrev printedFor : Sheet → List ℕ
 printedFor S = printedCells (tableFor S .lines)
 
--- the table that a plan left, and what is made of it
-module _ (text out a : List ℕ) (figures : ℕ) (r : Planned) (answer : r ≡ planAnswer text figures (length out))
-    (filled : a ≡ planFilled r out (fromSheet (readSheet text) cellsFor)) where
-  abbrev all : List ℕ
-  all = planFilled (planAnswer text figures (length out)) out (fromSheet (readSheet text) printedFor)
+-- the table's buffer, as a C caller finds it
+abbrev pub handedOut : List ℕ → ℕ → List ℕ → List ℕ
+handedOut text figures out = planFilled (planAnswer text figures (length out)) out (fromSheet (readSheet text) printedFor)
 
+pub length-handed : (text : List ℕ) (figures : ℕ) (out : List ℕ) → length (handedOut text figures out) ≡ length out
+length-handed text figures out = go (planAnswer text figures (length out)) _
+  where
+    go : (r : Planned) (vs : List ℕ) → length (planFilled r out vs) ≡ length out
+    go (Made p) vs = length-sets out 0 vs
+    go (Refused why buffer) vs = refl
+
+-- the table that a plan left, and what is made of it
+module _ (text : List ℕ) (figures : ℕ) (out a : List ℕ) (r : Planned) (answer : r ≡ planAnswer text figures (length out))
+    (filled : a ≡ planFilled r out (fromSheet (readSheet text) cellsFor)) where
   module _ (p : Plan) (is : r ≡ Made p) where
     of-sheet : Plans text (length out) p
     of-sheet = plans text figures (length out) p (sym answer ∙ is)
@@ -213,12 +225,12 @@ module _ (text out a : List ℕ) (figures : ℕ) (r : Planned) (answer : r ≡ p
     pub made-limits : Limited a (p .rules)
     made-limits = limits-of text out p of-sheet a stored
 
-    pub made-printed : (z : List ℕ) → z ≡ sets a 0 (printedCells (linesIn a (p .rules))) → z ≡ all
+    pub made-printed : (z : List ℕ) → z ≡ sets a 0 (printedCells (linesIn a (p .rules))) → z ≡ handedOut text figures out
     made-printed z e =
         e
         ∙ printed-of text out p of-sheet a stored
         ∙ sym (made-fills text (planAnswer text figures (length out)) p (of-sheet .sheet) out printedFor (of-sheet .read) (sym answer ∙ is))
 
-  pub refused-same : (why : refused.Refused) (buffer : ℕ) → r ≡ Refused why buffer → a ≡ all
+  pub refused-same : (why : refused.Refused) (buffer : ℕ) → r ≡ Refused why buffer → a ≡ handedOut text figures out
   refused-same why buffer is =
       filled ∙ refused-fills r why buffer out _ is ∙ sym (refused-fills (planAnswer text figures (length out)) why buffer out _ (sym answer ∙ is))

@@ -1,4 +1,5 @@
-// The calls for C: each hands on the answer of a call of crate `sheets` in plain numbers. `include/gulmorzon.h` declares them.
+// The calls for C: each hands on the answer of a call of crate `sheets` in plain numbers, services and backends as they are
+// printed, from 1. `include/gulmorzon.h` declares them.
 mod answer;
 mod numbering;
 
@@ -12,7 +13,7 @@ ghost use Rattle.sheets.specs.Calls as calls;
 ghost use Rattle.sheets.specs.Demand.{Demand3};
 ghost use Rattle.gulmorzon.specs.Answers as answers;
 
-// The one call: the table and the figures of a percentage sheet. The table has services and backends as they are printed, from 1.
+// The one call: the table and the figures of a percentage sheet.
 #[no_mangle]
 pub extern "C" fn gulmorzon_plan(
     text: &[u8],

@@ -1,13 +1,10 @@
 -- `numbering::number_lines` meets its contract. The invariant: the first i lines are numbered.
-use Prim.Native.Nat.{_+_, _-_, _*_, _<_}
-use mathlib.Core.Path.{_≡_}
+use Prim.Native.Nat.{_+_, _-_, _*_}
 use native.Mathlib.Omega.{arith}
 use lib.ListN.{getD, length-set}
 use Rattle.gulmorzon.proofs.Numbers.{Numbered, numbered-none, numbered-all, service-low, backend-low, numbered-more}
 use Rattle.gulmorzon.proofs.numbering.number_lines.Statement.{statement}
 use Rattle.gulmorzon.proofs.numbering.number_lines.Tie as tie
-use Rattle.gulmorzon.proofs.numbering.number_lines.Reads as reads
-use Rattle.gulmorzon.proofs.numbering.number_lines.Lts as lts
 
 abbrev Inv-loop : tie.InvT-loop
 Inv-loop table₀ rules i₀ table i = Numbered table₀ rules table i
