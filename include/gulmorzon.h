@@ -12,6 +12,7 @@
  * The calls keep nothing between them and allocate nothing: threads may call at the same time.
  *
  * Texts are bytes with a length; a zero byte does not end them. Lengths of figures and table are counted in numbers.
+ * Services and backends have in every call the numbers that are printed for them, from 1.
  */
 #ifndef GULMORZON_H
 #define GULMORZON_H
@@ -76,7 +77,7 @@ struct gulmorzon_plan_answer {
  * is added, and the rest of out stays as it was. */
 struct gulmorzon_answer gulmorzon_split(const char *text, size_t text_len, char *out, size_t out_len);
 
-/* The backend, by its number from 1, of the first line of a service in a rule sheet that matches an address. */
+/* The backend, by its number, of the first line of a service in a rule sheet that matches an address. */
 struct gulmorzon_answer gulmorzon_lookup(const char *text, size_t text_len, size_t service, uint32_t address);
 
 /* The number of k-bit suffixes of a service whose backend is not the same in two rule sheets. */
@@ -85,8 +86,8 @@ struct gulmorzon_answer gulmorzon_churn(const char *old_text, size_t old_len, co
 
 /* The one call: the table of a percentage sheet in numbers, without its text. figures takes three for each service: its
  * grant, the length of its list and how the list ended (within 0, no gain 1, budget 2). table takes four for each line of
- * the rule sheet, in its order: service, length and value of the suffix, backend. Services and backends count from 0 here.
- * The rest of both stays as it was. */
+ * the rule sheet, in its order: service, length and value of the suffix, backend, as the sheet would have them. The rest of
+ * both stays as it was. */
 struct gulmorzon_plan_answer gulmorzon_plan(const char *text, size_t text_len, size_t *figures, size_t figures_len,
                                             size_t *table, size_t table_len);
 

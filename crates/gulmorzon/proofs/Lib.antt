@@ -1,3 +1,4 @@
 -- Laws that the functions' proofs share.
 pub mod Lent
+pub mod Numbers
 pub mod Promised

@@ -1,7 +1,8 @@
 -- The answers of crate `sheets` in plain numbers: 0 and a value, or document 01's number of a refusal and where it is.
-use Prim.Native.Nat.{ℕ}
-use mathlib.Core.List.{List}
+use Prim.Native.Nat.{ℕ, _+_}
+use mathlib.Core.List.{List, [], _∷_}
 use Rattle.numerals.specs.Refusals.{numberOf}
+use Rattle.packing.specs.Count.{Line}
 use Rattle.sheets.specs.PercentageSheet.{readSheet}
 use Rattle.sheets.specs.Calls.{printRead, sheetText}
 use Rattle.sheets.specs.declared.answer.Refused.{Refused}
@@ -48,6 +49,11 @@ planRefused number line buffer =
 abbrev pub ofPlanned : planned.Planned → PlanAnswer
 ofPlanned (planned-variants.Made p) = planMade p
 ofPlanned (planned-variants.Refused r buffer) = planRefused (numberOf (r .why)) (r .line) buffer
+
+-- the numbers of lines, four of each: a service and a backend have the number that is printed for them, which is their place plus 1
+unfoldable pub printedCells : List Line → List ℕ
+printedCells [] = []
+printedCells (l ∷ ls) = (l .service + 1) ∷ l .rule .len ∷ l .rule .value ∷ (l .rule .backend + 1) ∷ printedCells ls
 
 -- what the call that prints answers
 abbrev pub splitAnswer : List ℕ → ℕ → printed.Printed

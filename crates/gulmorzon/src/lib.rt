@@ -1,8 +1,11 @@
-// The calls for C: each hands on the answer of a call of crate `sheets` in plain numbers. `include/gulmorzon.h` declares them.
+// The calls for C: each hands on the answer of a call of crate `sheets` in plain numbers, services and backends as they are
+// printed, from 1. `include/gulmorzon.h` declares them.
 mod answer;
+mod numbering;
 
 pub use answer::Answer;
 pub use answer::PlanAnswer;
+use sheets::Planned;
 ghost use mathlib.Core.Path.{_≡_};
 ghost use lib.ListN.{length, take};
 ghost use Rattle.sheets.specs.PercentageSheet.{readSheet};
@@ -19,9 +22,13 @@ pub extern "C" fn gulmorzon_plan(
 ) -> PlanAnswer
     ensures answer { λ r. ⌜ r ≡ answers.ofPlanned (calls.planAnswer (now (text .entry)) (length (now (figures .entry))) (length (now (table .entry)))) ⌝ }
     ensures figures { λ _. ⌜ now (figures .exit) ≡ calls.planFilled (calls.planAnswer (now (text .entry)) (length (now (figures .entry))) (length (now (table .entry)))) (now (figures .entry)) (calls.fromSheet (readSheet (now (text .entry))) calls.figuresFor) ⌝ }
-    ensures table { λ _. ⌜ now (table .exit) ≡ calls.planFilled (calls.planAnswer (now (text .entry)) (length (now (figures .entry))) (length (now (table .entry)))) (now (table .entry)) (calls.fromSheet (readSheet (now (text .entry))) calls.cellsFor) ⌝ }
+    ensures table { λ _. ⌜ now (table .exit) ≡ calls.planFilled (calls.planAnswer (now (text .entry)) (length (now (figures .entry))) (length (now (table .entry)))) (now (table .entry)) (calls.fromSheet (readSheet (now (text .entry))) (λ S. answers.printedCells (calls.tableFor S .lines))) ⌝ }
 {
-    answer::of_planned(sheets::plan(text, figures, table))
+    let planned = sheets::plan(text, figures, table);
+    if let Planned::Made(p) = planned {
+        numbering::number_lines(table, p.rules);
+    }
+    answer::of_planned(planned)
 }
 
 // The rule sheet of a percentage sheet, into a lent buffer. The value is the number of bytes.
