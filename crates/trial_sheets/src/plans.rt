@@ -27,10 +27,11 @@ fn short(why: Refusal, buffer: &[u8]) {
 }
 
 fn turned_back(r: Refused, buffer: usize) {
+    let why = r.why;
     match buffer {
         0 => shown::refused(r),
-        1 => short(r.why, b"figures"),
-        2 => short(r.why, b"table"),
+        1 => short(why, b"figures"),
+        2 => short(why, b"table"),
         _ => print::bytes(b"wrong buffer"),
     }
 }
