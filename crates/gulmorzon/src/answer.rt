@@ -108,7 +108,8 @@ pub fn of_planned(x: Planned) -> PlanAnswer
         },
         Planned::Refused(r, buffer) => {
             let why = r.why;
-            plan_refused(refusal_number(why) as usize, r.line, buffer)
+            let number = refusal_number(why) as usize;
+            plan_refused(number, r.line, buffer)
         }
     }
 }
