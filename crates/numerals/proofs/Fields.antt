@@ -139,13 +139,6 @@ cut-list c bs h =
     let apart : bs ≡ take i bs ++ c ∷ drop (suc i) bs = split-at bs i 0 h ∙ rw (index-byte c bs h) in
     ap (split c) apart ∙ free-split c (take i bs) (drop (suc i) bs) (free-before c bs)
 
--- where there is one field, its separator stands nowhere
-pub one-field : (c : ℕ) (bs : List ℕ) → length (split c bs) ≤ 1 → length bs ≤ indexOf c bs
-one-field c bs h =
-    by-less (indexOf c bs) (length bs)
-    (λ l. absurd (omega (arith, ap length (cut-list c bs l), split-some c (drop (suc (indexOf c bs)) bs))))
-    (λ l. l)
-
 -- the same between two positions, cut at the position e that the search finds
 module _ (c from to e : ℕ) (s : List ℕ) (k : to ≤ length s) (is : e ≡ from + indexOf c (slice from to s)) where
   pub cut-byte : e < to → getD s e 0 ≡ c

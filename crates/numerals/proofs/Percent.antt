@@ -18,8 +18,7 @@ use Rattle.numerals.specs.Percentage.{fraction, atMostAll, percentOf, pe
 use Rattle.numerals.specs.declared.digits.Number.the-variants.{Value, Bad}
 use Rattle.numerals.proofs.Choice.{by-less, both-left, both-right, both-false}
 use Rattle.numerals.proofs.Base.{picked, value-below}
-use Rattle.numerals.proofs.Slice.{slice-length}
-use Rattle.numerals.proofs.Fields.{one-field, cut, cut-last, cut-part}
+use Rattle.numerals.proofs.Fields.{split-some, cut, cut-last, cut-part}
 
 pub fraction-none : (d : ℕ) → fraction d [] ≡ Bad
 unfolding fraction
@@ -81,23 +80,31 @@ module _ (d from to e : ℕ) (s : List ℕ) (k : to ≤ length s) (is : e ≡ fr
       ap (percentOf d) (cut-last 46 from to e s k is h)
       ∙ ap (λ p. onValue (number 0 999 p) (λ v. atMostAll d (v * 10 ^ d))) (sym (cut-part 46 from to e s k is h))
 
-  -- where there is one dot at most, the next search ends with the text
-  module _ (few : length (split 46 (slice from to s)) ≤ 2) where
+  -- a dot at e, and n where the search for the next one ends
+  module _ (n : ℕ) (h : e < to) (next : n ≡ e + 1 + indexOf 46 (slice (e + 1) to s)) where
+    parts : split 46 (slice from to s) ≡ slice from e s ∷ split 46 (slice (e + 1) to s)
+    parts = cut 46 from to e s k is h
+
     pub percent-cut :
-        (n : ℕ)
-        → e < to
-        → n ≡ e + 1 + indexOf 46 (slice (e + 1) to s)
+        to ≤ n
         → percentage d (slice from to s)
         ≡ onValue (number 0 999 (slice from e s)) (λ v. onValue (fraction d (slice (e + 1) n s)) (λ u. atMostAll d (v * 10 ^ d + u)))
     unfolding percentage percentOf
-    percent-cut n h next =
-        let rest = slice (e + 1) to s in
-        let parts : split 46 (slice from to s) ≡ slice from e s ∷ split 46 rest = cut 46 from to e s k is h in
-        let last : to ≤ n = omega (arith, one-field 46 rest (omega (arith, ap length parts)), slice-length (e + 1) to s) in
+    percent-cut last =
         ap (percentOf d) (parts ∙ ap (λ ls. slice from e s ∷ ls) (cut-last 46 (e + 1) to n s k next last))
         ∙ ap (λ p. onValue (number 0 999 (slice from e s)) (λ v. onValue (fraction d p) (λ u. atMostAll d (v * 10 ^ d + u))))
         (sym (cut-part 46 (e + 1) to n s k next last))
 
-    pub percent-bad : number 0 999 (slice from e s) ≡ Bad → percentage d (slice from to s) ≡ Bad
-    unfolding onValue
-    percent-bad h = by-less e to (λ l. percent-cut (e + 1 + indexOf 46 (slice (e + 1) to s)) l refl ∙ rw h) (λ l. percent-last l ∙ rw h)
+    -- a second dot
+    pub percent-two : n < to → percentage d (slice from to s) ≡ Bad
+    percent-two l =
+        percent-many d (slice from to s)
+        (omega (arith, ap length parts, ap length (cut 46 (e + 1) to n s k next l), split-some 46 (slice (n + 1) to s)))
+
+  pub percent-bad : number 0 999 (slice from e s) ≡ Bad → percentage d (slice from to s) ≡ Bad
+  unfolding onValue
+  percent-bad h =
+      let n : ℕ = e + 1 + indexOf 46 (slice (e + 1) to s) in
+      by-less e to
+      (λ l. by-less n to (percent-two n l refl) (λ m. percent-cut n l refl m ∙ rw h))
+      (λ l. percent-last l ∙ rw h)

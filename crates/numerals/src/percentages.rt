@@ -43,10 +43,6 @@ pub fn read_percentage(s: &[u8], from: usize, to: usize) -> Number
     ensures { λ r. ⌜ r ≡ percentage 4 (slice from to (now (s .entry))) ⌝ }
 {
     let end = crate::digits::least(to, s.len());
-    let parts = crate::text::count_fields(s, from, end, 46);
-    if 2 < parts {
-        return Number::Bad;
-    }
     let dot = crate::text::find(s, from, end, 46);
     let whole = crate::numbers::read_number(s, from, dot, 0, 999);
     let Number::Value(w) = whole else {
@@ -56,6 +52,9 @@ pub fn read_percentage(s: &[u8], from: usize, to: usize) -> Number
         return at_most_all(w * 10000);
     }
     let next = crate::text::find(s, dot + 1, end, 46);
+    if next < end {
+        return Number::Bad;
+    }
     let fraction = read_fraction(s, dot + 1, next);
     let Number::Value(f) = fraction else {
         return Number::Bad;

@@ -1,28 +1,23 @@
--- `percentages::read_percentage` meets its contract: the number before the dot, and the fraction between it and the end, since there is no second dot.
+-- `percentages::read_percentage` meets its contract: the number before the dot, and the fraction between it and the end where there is no second dot.
 -- Assumes nothing.
-use Prim.Native.Nat.{_+_, _*_, _≤_}
+use Prim.Native.Nat.{_+_, _*_}
 use native.Mathlib.Omega.{arith}
 use mathlib.Core.Path.{_≡_, sym, ap, _∙_}
-use lib.ListN.{length}
 use lib.Seq.{slice}
 use borrow.Author.Needs.{needs}
 use Rattle.numerals.specs.Digits.{onValue}
 use Rattle.numerals.specs.Decimal.{number}
-use Rattle.numerals.specs.Text.{split}
 use Rattle.numerals.specs.Percentage.{fraction, atMostAll, percentage}
 use Rattle.numerals.specs.declared.digits.Number.the-variants.{Value}
 use Rattle.numerals.proofs.Slice.{slice-end}
 use Rattle.numerals.proofs.Decimal.{only-text}
 use Rattle.numerals.proofs.Fields.{cut-le}
-use Rattle.numerals.proofs.Percent.{fraction-below, percent-last, percent-cut, percent-many, percent-bad}
+use Rattle.numerals.proofs.Percent.{fraction-below, percent-last, percent-cut, percent-two, percent-bad}
 use Rattle.numerals.proofs.percentages.read_percentage.Statement.{statement}
 use Rattle.numerals.proofs.percentages.read_percentage.Tie as tie
 
 least-requires : tie.Need-least-requires
 least-requires c κs = search needs
-
-count-fields-requires : tie.Need-count-fields-requires
-count-fields-requires c κs = search needs
 
 find-requires : tie.Need-find-requires
 find-requires c κs = search needs
@@ -47,33 +42,19 @@ part c =
 -- the number before the dot
 before-dot :
     (c : tie.After-known-told)
-    → let a = c .before .before .before .before .before .before .before .before .before .args in
+    → let a = c .before .before .before .before .before .before .before .args in
     number 0 999 (slice (a .from) (c .before .before .before .before .find .result) (a .s .now)) ≡ Value (c .before .whole .given .0 .0)
 before-dot c = sym (c .before .before .before .read-number .ensures) ∙ c .before .whole .given .1
 
--- a second dot
+-- no number before the dot
 returns : tie.Need-returns
 returns c =
-    let l = c .before .before in
-    let a = l .before .before .args in
-    sym (part l ∙ percent-many 4 (slice (a .from) (l .least .result) (a .s .now)) (omega (arith, c .before .count-fields .ensures)))
-
--- one dot at most
-few :
-    (c : tie.Else1)
-    → let l = c .before .before in
-    let a = l .before .before .args in
-    length (split 46 (slice (a .from) (l .least .result) (a .s .now))) ≤ 2
-few c = omega (arith, c .if1 .left, c .before .count-fields .ensures)
-
-returns-2 : tie.Need-returns-2
-returns-2 c =
     let f = c .before .before .before in
-    let l = f .before .before .before in
+    let l = f .before in
     let a = l .before .before .args in
     sym
     (part l
-    ∙ percent-bad 4 (a .from) (l .least .result) (f .find .result) (a .s .now) (omega arith) (f .find .ensures) (few (f .before))
+    ∙ percent-bad 4 (a .from) (l .least .result) (f .find .result) (a .s .now) (omega arith) (f .find .ensures)
     (sym (c .before .before .read-number .ensures) ∙ c .enum-told .given .1))
 
 mul-at-most-all : tie.Need-mul-at-most-all
@@ -84,35 +65,36 @@ at-most-all-requires c κs = search needs
 
 -- no dot, or a dot and the fraction after it
 no-dot :
-    (c : tie.Then2)
-    → let a = c .before .before .before .before .before .before .before .before .before .before .args in
+    (c : tie.Then1)
+    → let a = c .before .before .before .before .before .before .before .before .args in
     percentage 4 (slice (a .from) (a .to) (a .s .now)) ≡ atMostAll 4 (c .before .before .whole .given .0 .0 * 10000)
 unfolding onValue
 no-dot c =
     let f = c .before .before .before .before .before in
-    let l = f .before .before .before in
+    let l = f .before in
     let a = l .before .before .args in
     part l
-    ∙ percent-last 4 (a .from) (l .least .result) (f .find .result) (a .s .now) (omega arith) (f .find .ensures) (c .if2 .taken)
+    ∙ percent-last 4 (a .from) (l .least .result) (f .find .result) (a .s .now) (omega arith) (f .find .ensures) (c .if1 .taken)
     ∙ rw (before-dot (c .before))
 
 dot :
     (c : tie.After-read-fraction)
-    → let a = c .before .before .before .before .before .before .before .before .before .before .before .before .args in
+    → let a = c .before .before .before .before .before .before .before .before .before .before .before .args in
     percentage 4 (slice (a .from) (a .to) (a .s .now))
-    ≡ onValue (c .read-fraction .result) (λ u. atMostAll 4 (c .before .before .before .before .whole .given .0 .0 * 10000 + u))
+    ≡ onValue (c .read-fraction .result) (λ u. atMostAll 4 (c .before .before .before .before .before .whole .given .0 .0 * 10000 + u))
 unfolding onValue
 dot c =
-    let f = c .before .before .before .before .before .before .before in
-    let l = f .before .before .before in
+    let n = c .before .before in
+    let f = c .before .before .before .before .before .before .before .before in
+    let l = f .before in
     let a = l .before .before .args in
     part l
-    ∙ percent-cut 4 (a .from) (l .least .result) (f .find .result) (a .s .now) (omega arith) (f .find .ensures) (few (f .before))
-    (c .before .find2 .result) (c .before .before .if2 .left) (c .before .find2 .ensures)
-    ∙ rw (before-dot (c .before .before .before), c .read-fraction .ensures)
+    ∙ percent-cut 4 (a .from) (l .least .result) (f .find .result) (a .s .now) (omega arith) (f .find .ensures)
+    (n .find2 .result) (n .before .if1 .left) (n .find2 .ensures) (c .before .if2 .left)
+    ∙ rw (before-dot (n .before .before), c .read-fraction .ensures)
 
-returns-3 : tie.Need-returns-3
-returns-3 c = c .at-most-all .ensures ∙ sym (no-dot (c .before))
+returns-2 : tie.Need-returns-2
+returns-2 c = c .at-most-all .ensures ∙ sym (no-dot (c .before))
 
 add-find : tie.Need-add-find
 add-find c = search needs
@@ -120,14 +102,28 @@ add-find c = search needs
 find-requires-2 : tie.Need-find-requires-2
 find-requires-2 c κs = search needs
 
+-- a second dot
+returns-3 : tie.Need-returns-3
+returns-3 c =
+    let n = c .before in
+    let f = c .before .before .before .before .before .before .before in
+    let l = f .before in
+    let a = l .before .before .args in
+    sym
+    (part l
+    ∙ percent-two 4 (a .from) (l .least .result) (f .find .result) (a .s .now) (omega arith) (f .find .ensures)
+    (n .find2 .result) (n .before .if1 .left) (n .find2 .ensures) (c .if2 .taken))
+
 add-read-fraction : tie.Need-add-read-fraction
 add-read-fraction c = search needs
 
 read-fraction-requires : tie.Need-read-fraction-requires
 read-fraction-requires c κs =
-    let l = c .before .before .before .before .before .before .before .before .before in
+    let f = c .before .before .before .before .before .before .before in
+    let l = f .before in
     let a = l .before .before .args in
-    omega (arith, cut-le 46 (c .before .before .before .before .before .before .find .result + 1) (l .least .result) (c .find2 .result) (a .s .now) (omega arith) (c .find2 .ensures) (omega arith))
+    omega
+    (arith, cut-le 46 (f .find .result + 1) (l .least .result) (c .before .find2 .result) (a .s .now) (omega arith) (c .before .find2 .ensures) (omega arith))
 
 enum-known-fraction : tie.Need-enum-known-fraction
 enum-known-fraction c = search needs
@@ -140,13 +136,13 @@ unfolding onValue
 returns-4 c = sym (dot (c .before .before) ∙ rw (c .enum-told2 .given .1))
 
 mul-at-most-all-2 : tie.Need-mul-at-most-all-2
-mul-at-most-all-2 c = omega (arith, only-text 0 999 _ _ (before-dot (c .before .before .before .before .before .before)) .high)
+mul-at-most-all-2 c = omega (arith, only-text 0 999 _ _ (before-dot (c .before .before .before .before .before .before .before)) .high)
 
 add-at-most-all : tie.Need-add-at-most-all
 add-at-most-all c =
     let r = c .before .before .before in
     omega
-    (arith, only-text 0 999 _ _ (before-dot (r .before .before .before)) .high, fraction-below 4 _ _ (sym (r .read-fraction .ensures) ∙ c .before .fraction .given .1))
+    (arith, only-text 0 999 _ _ (before-dot (r .before .before .before .before)) .high, fraction-below 4 _ _ (sym (r .read-fraction .ensures) ∙ c .before .fraction .given .1))
 
 at-most-all-requires-2 : tie.Need-at-most-all-requires-2
 at-most-all-requires-2 c κs = search needs
@@ -160,18 +156,17 @@ read-percentage-spec =
     tie.close
     (tie.spec
     least-requires
-    count-fields-requires
-    returns
     find-requires
     read-number-requires
     enum-known-whole
     enum-told
-    returns-2
+    returns
     mul-at-most-all
     at-most-all-requires
-    returns-3
+    returns-2
     add-find
     find-requires-2
+    returns-3
     add-read-fraction
     read-fraction-requires
     enum-known-fraction
