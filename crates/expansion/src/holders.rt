@@ -8,11 +8,13 @@ ghost use Rattle.numerals.specs.Suffix.{place, Places};
 ghost use Rattle.expansion.specs.Kept as kept;
 
 // The lowest of the nodes from `from` on that the giver holds wholly, or `nodes` where there is none. The walk over the
-// nodes leaves one at its first suffix of another's, and ends at the first whole node.
+// nodes leaves one at its first suffix of another's, and ends at the first whole node. A turn of the inner walk takes two
+// suffixes, one after the other, where a node has an even number of them.
 fn lowest_whole(holder: &[u16], from: usize, nodes: usize, size: usize, giver: u16) -> usize
     requires { ⌜ nodes * size ≤ length (now holder) ⌝ }
     ensures { λ r. ⌜ r ≡ kept.lowestHeld (now (holder .entry)) size giver from nodes ⌝ }
 {
+    let step = 2 - size % 2;
     let mut node = from;
     'nodes: while node < nodes {
         let at = node * size;
@@ -22,7 +24,11 @@ fn lowest_whole(holder: &[u16], from: usize, nodes: usize, size: usize, giver: u
                 node += 1;
                 continue 'nodes;
             }
-            left -= 1;
+            if holder[at + left - step] != giver {
+                node += 1;
+                continue 'nodes;
+            }
+            left -= step;
         }
         break 'nodes;
     }
