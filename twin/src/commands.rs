@@ -11,7 +11,7 @@ use std::io::{self, Read};
 use std::os::unix::ffi::OsStrExt;
 
 /// What is told for words that are no command.
-pub const USAGE: &str = "usage: twin [split [SHEET]]
+pub const USAGE: &str = "usage: twin [split SHEET]
        twin lookup TABLE SERVICE ADDRESS
        twin churn OLD NEW SERVICE
 SHEET, TABLE, OLD and NEW are files, - is standard input (once); SERVICE is a
@@ -43,7 +43,7 @@ impl<'a> Command<'a> {
     /// no numeral, or if standard input is named twice.
     pub fn of(words: &[&'a [u8]]) -> Option<Command<'a>> {
         match *words {
-            [] | [b"split"] => Some(Command::Split { sheet: INPUT }),
+            [] => Some(Command::Split { sheet: INPUT }),
             [b"split", sheet] => Some(Command::Split { sheet }),
             [b"lookup", table, service, address] => Some(Command::Lookup {
                 table,
@@ -177,7 +177,7 @@ mod tests {
             assert_eq!(command(words), None, "{words:?}");
         }
         assert_eq!(Command::of(&[]), command("split -"));
-        assert_eq!(command("split"), command("split -"));
+        assert_eq!(command("split"), None);
     }
 
     #[test]
