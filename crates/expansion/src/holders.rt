@@ -8,27 +8,31 @@ ghost use Rattle.numerals.specs.Suffix.{place, Places};
 ghost use Rattle.expansion.specs.Kept as kept;
 
 // The lowest of the nodes from `from` on that the giver holds wholly, or `nodes` where there is none. The walk over the
-// nodes leaves one at its first suffix of another's, and ends at the first whole node. A turn of the inner walk takes two
-// suffixes, one after the other, where a node has an even number of them.
+// nodes leaves one at its first suffix of another's, and ends at the first whole node. The inner walk takes the last
+// suffix, then two to a turn.
 fn lowest_whole(holder: &[u16], from: usize, nodes: usize, size: usize, giver: u16) -> usize
-    requires { ⌜ nodes * size ≤ length (now holder) ⌝ }
+    requires { ⌜ (0 < size) × (nodes * size ≤ length (now holder)) ⌝ }
     ensures { λ r. ⌜ r ≡ kept.lowestHeld (now (holder .entry)) size giver from nodes ⌝ }
 {
-    let step = 2 - size % 2;
+    let even = size - size % 2;
     let mut node = from;
     'nodes: while node < nodes {
         let at = node * size;
-        let mut left = size;
+        if holder[at + size - 1] != giver {
+            node += 1;
+            continue 'nodes;
+        }
+        let mut left = even;
         while 0 < left {
             if holder[at + left - 1] != giver {
                 node += 1;
                 continue 'nodes;
             }
-            if holder[at + left - step] != giver {
+            if holder[at + left - 2] != giver {
                 node += 1;
                 continue 'nodes;
             }
-            left -= step;
+            left -= 2;
         }
         break 'nodes;
     }

@@ -3,6 +3,7 @@ use Prim.Native.Nat.{ℕ, _+_, _-_, _*_, _%_, _^_, _≤_, _<_}
 use mathlib.Core.Path.{_≡_, ap, _∙_, subst}
 use native.Mathlib.Nat.{suc-mul, mul-le-mul-right}
 use native.Mathlib.Omega.{arith}
+use lib.Pow.{pow-pos}
 use borrow.Author.Needs.{needs}
 use Rattle.numerals.specs.Suffix.{place}
 use Rattle.expansion.specs.Kept.{Given, lowered, nodeOf}
@@ -49,7 +50,7 @@ cast-lowest-whole c = omega arith
 lowest-whole-requires : tie.Need-lowest-whole-requires
 lowest-whole-requires c κs =
     let s = c .before .before .before .before .before .before .before .before in
-    rw (nodes-is s) (rw (size-is s) (omega (arith, all-is s)))
+    rw (nodes-is s) (rw (size-is s) (pow-pos (s .args .m .index), omega (arith, all-is s)))
 
 -- what was found
 abbrev begun : tie.After-lowest-whole → tie.Start
