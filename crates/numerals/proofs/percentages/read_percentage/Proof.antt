@@ -90,7 +90,7 @@ dot c =
     let a = l .before .before .args in
     part l
     ∙ percent-cut 4 (a .from) (l .least .result) (f .find .result) (a .s .now) (omega arith) (f .find .ensures)
-    (n .find2 .result) (n .before .if1 .left) (n .find2 .ensures) (c .before .if2 .left)
+    (n .find2 .result) (n .before .if1 .left) (n .find2 .ensures) (omega (arith, c .before .if2 .left))
     ∙ rw (before-dot (n .before .before), c .read-fraction .ensures)
 
 returns-2 : tie.Need-returns-2
@@ -112,7 +112,7 @@ returns-3 c =
     sym
     (part l
     ∙ percent-two 4 (a .from) (l .least .result) (f .find .result) (a .s .now) (omega arith) (f .find .ensures)
-    (n .find2 .result) (n .before .if1 .left) (n .find2 .ensures) (c .if2 .taken))
+    (n .find2 .result) (n .before .if1 .left) (n .find2 .ensures) (omega (arith, c .if2 .taken)))
 
 add-read-fraction : tie.Need-add-read-fraction
 add-read-fraction c = search needs
