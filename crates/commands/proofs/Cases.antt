@@ -8,11 +8,11 @@ use Rattle.numerals.specs.Suffix.{suffix}
 use Rattle.numerals.specs.Text.{onto, split}
 use Rattle.numerals.specs.Refusals.{numberOf}
 use Rattle.expansion.specs.FirstMatch.{matches}
-use Rattle.expansion.specs.Sums.{sumTo, countTo}
+use Rattle.numerals.specs.Sums.{sumTo, countTo}
 use Rattle.packing.specs.Count.{matchesLine}
 use Rattle.sheets.specs.Reading.{then, unless, onField, same}
-use Rattle.sheets.specs.PercentageSheet.{textLimit}
-use Rattle.sheets.specs.RuleSheet.{totalLimit, tableFields, onSuffix, countOf, inOrder, placed, ruleFields, ruleLines, closed}
+use Rattle.numerals.specs.Limits.{textLimit, totalLimit}
+use Rattle.sheets.specs.RuleSheet.{tableFields, onSuffix, countOf, inOrder, placed, ruleFields, ruleLines, closed}
 use Rattle.sheets.specs.RuleSheet.{wholeTable, tableLines, readTable}
 use Rattle.sheets.specs.Calls.{firstBackend, hasService, lookupIn, lookupAnswer, moved, churnOf, churnAnswer}
 use Rattle.sheets.specs.Cases.{bytes}

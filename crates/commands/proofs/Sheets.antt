@@ -6,7 +6,8 @@ use native.Mathlib.Omega.{arith}
 use lib.ListN.{length}
 use borrow.Author.Tests.{le-leb, leb-true}
 use Rattle.sheets.specs.Reading.{Reading, got, turned}
-use Rattle.sheets.specs.PercentageSheet.{Sheet, textLimit, readSheet}
+use Rattle.sheets.specs.PercentageSheet.{Sheet, readSheet}
+use Rattle.numerals.specs.Limits.{textLimit}
 use Rattle.sheets.specs.RuleSheet.{readTable}
 use Rattle.sheets.specs.Calls.{printText, printRead, textOf, sheetText}
 use Rattle.sheets.specs.declared.answer.Refused as answer

@@ -10,7 +10,8 @@ use lib.Seq.{take-suc}
 use borrow.Author.Tests.{leb-false, le-leb, lt-leb}
 use Rattle.expansion.specs.Imbalance.{Frame}
 use Rattle.expansion.specs.Steps.{frame, stair, stairsTo}
-use Rattle.expansion.specs.Answer.{unit, checkCall, listMade, stairsMade, recordMade, answer}
+use Rattle.expansion.specs.Answer.{checkCall, listMade, stairsMade, recordMade, answer}
+use Rattle.numerals.specs.Limits.{unit}
 use Rattle.expansion.specs.Kept.{Made}
 use Rattle.expansion.specs.declared.rule.Rule.{Rule}
 use Rattle.numerals.specs.declared.refusal.Refusal.{Refusal}

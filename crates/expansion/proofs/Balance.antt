@@ -4,13 +4,13 @@ use mathlib.Core.List.{List}
 use mathlib.Core.Path.{_≡_, ap, _∙_}
 use native.Mathlib.Nat.{mul-comm}
 use native.Mathlib.Omega.{arith}
-use Rattle.expansion.specs.Sums.{sumTo}
+use Rattle.numerals.specs.Sums.{sumTo}
 use Rattle.expansion.specs.FirstMatch.{share}
 use Rattle.expansion.specs.Imbalance.{Frame, backends, weight, has, wants, excess, shortfall, imbalance, giver, receiver, largestExcess, largestShortfall}
 use Rattle.expansion.specs.Sound.{Complete, Sound}
 use Rattle.expansion.specs.declared.rule.Rule.{Rule}
-use Rattle.expansion.proofs.Sums.{sum-ext, sum-add, sum-mul, sum-zero, sum-at}
-use Rattle.expansion.proofs.Searches.{argmax-is}
+use Rattle.numerals.proofs.Sums.{sum-ext, sum-add, sum-mul, sum-zero, sum-at}
+use Rattle.numerals.proofs.Searches.{argmax-is}
 use Rattle.expansion.proofs.Count.{share-sum}
 
 pub some-backend : (F : Frame) → Sound F → 0 < backends F

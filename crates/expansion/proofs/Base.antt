@@ -8,13 +8,13 @@ use lib.ListN.{length, getD}
 use lib.Dec.{eqb}
 use borrow.Author.Tests.{eq-eqb}
 use Rattle.numerals.specs.Pick.{pick}
-use Rattle.expansion.specs.Sums.{sumTo, argmax}
+use Rattle.numerals.specs.Sums.{sumTo, argmax}
 use Rattle.expansion.specs.FirstMatch.{matches, gives, share}
 use Rattle.expansion.specs.Imbalance.{backends, weight, imbalance}
 use Rattle.expansion.specs.Steps.{firstRule, frame, after, listOf, stair}
 use Rattle.expansion.specs.Sound.{Lengths, Complete, AllFormed, Falling, Sound}
-use Rattle.expansion.proofs.Sums.{count-ext, count-const}
-use Rattle.expansion.proofs.Searches.{argmax-is}
+use Rattle.numerals.proofs.Sums.{count-ext, count-const}
+use Rattle.numerals.proofs.Searches.{argmax-is}
 use Rattle.expansion.proofs.FirstMatch.{gives-matched}
 use Rattle.expansion.proofs.Stairs.{stair-is}
 

@@ -10,7 +10,7 @@ use Rattle.expansion.specs.Imbalance.{Frame, backends, weight, has, want
 use Rattle.expansion.specs.Steps.{reductionAt}
 use Rattle.expansion.specs.Sound.{Complete, Sound}
 use Rattle.expansion.specs.declared.rule.Rule.{Rule}
-use Rattle.expansion.proofs.Sums.{sum-le, sum-at, count-le}
+use Rattle.numerals.proofs.Sums.{sum-le, sum-at, count-le}
 use Rattle.expansion.proofs.Balance.{has-sum}
 use Rattle.expansion.proofs.Reduction.{reduction-le}
 

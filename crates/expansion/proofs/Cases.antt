@@ -3,7 +3,7 @@ use mathlib.Core.List.{[], _∷_}
 use mathlib.Core.Path.{_≡_, refl}
 use Rattle.numerals.specs.Suffix.{place}
 use Rattle.numerals.specs.Digits.{value, valueFrom, lowest}
-use Rattle.expansion.specs.Sums.{sumTo, countTo, allTo, firstTo, argmax, lastmax}
+use Rattle.numerals.specs.Sums.{sumTo, countTo, allTo, firstTo, argmax, lastmax}
 use Rattle.expansion.specs.FirstMatch.{matches, gives, share}
 use Rattle.expansion.specs.Imbalance.{backends, weight, has, wants, excess, shortfall, imbalance, giver, receiver, largestExcess, largestShortfall}
 use Rattle.expansion.specs.Steps.{firstRule, frame, isWithin, reduction, reductionAt, term, isNoGain, isWhole, termLength, lowestPlace, newRule, step, after, endOf, listOf, oldest, stair, stairsTo}

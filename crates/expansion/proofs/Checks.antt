@@ -7,11 +7,12 @@ use native.Mathlib.Omega.{arith}
 use lib.Dec.{leb, ltb, eqb, lit<}
 use lib.ListN.{length, getD}
 use borrow.Author.Tests.{leb-true, ltb-true, eqb-true, lt-ltb, le-ltb, lt-leb, le-leb}
-use Rattle.expansion.specs.Sums.{sumTo, allTo, argmax}
+use Rattle.numerals.specs.Sums.{sumTo, allTo, argmax}
 use Rattle.expansion.specs.Imbalance.{weight}
 use Rattle.expansion.specs.Steps.{frame}
 use Rattle.expansion.specs.Sound.{Sound}
-use Rattle.expansion.specs.Answer.{unit, andThen, orElse, inLimits, checkWeights, checkCall}
+use Rattle.expansion.specs.Answer.{andThen, orElse, inLimits, checkWeights, checkCall}
+use Rattle.numerals.specs.Limits.{unit}
 use Rattle.expansion.specs.Kept.{Valid}
 use Rattle.numerals.specs.declared.refusal.Refusal.{Refusal}
 use Rattle.numerals.specs.declared.refusal.Refusal.the-variants.{BadField, Unbalanced, TooMany}
@@ -19,7 +20,7 @@ use Rattle.expansion.specs.declared.call.Checked.{Checked}
 use Rattle.expansion.specs.declared.call.Checked.the-variants.{Sound as Passed, Refused as Turned}
 use Rattle.expansion.proofs.Bounds.{weight-le}
 use Rattle.expansion.proofs.Base.{first-known, base-sound}
-use Rattle.expansion.proofs.Searches.{both-true, all-true, all-false}
+use Rattle.numerals.proofs.Searches.{both-true, all-true, all-false}
 
 -- both checks passed
 pub both-passed : (a b : Checked) → andThen a b ≡ Passed → (a ≡ Passed) × (b ≡ Passed)

@@ -10,13 +10,13 @@ use lib.Arith.{digits-mod}
 use lib.Dec.{eqb}
 use lib.Pow.{pow-add, pow-pos}
 use borrow.Author.Tests.{eqb-true, eq-eqb, ne-eqb}
-use Rattle.expansion.specs.Sums.{sumTo, countTo}
+use Rattle.numerals.specs.Sums.{sumTo, countTo}
 use Rattle.expansion.specs.FirstMatch.{matches, gives, share}
 use Rattle.expansion.specs.Steps.{isWhole}
 use Rattle.expansion.specs.Sound.{Complete, Lengths}
 use Rattle.expansion.specs.declared.rule.Rule.{Rule}
-use Rattle.expansion.proofs.Sums.{sum-ext, sum-add, sum-const, sum-swap, sum-split, count-ext, count-single, bit}
-use Rattle.expansion.proofs.Searches.{all-true, true-all}
+use Rattle.numerals.proofs.Sums.{sum-ext, sum-add, sum-const, sum-swap, sum-split, count-ext, count-single, bit}
+use Rattle.numerals.proofs.Searches.{all-true, true-all}
 use Rattle.expansion.proofs.FirstMatch.{gives-matched, gives-passed, gives-one, gives-low}
 
 -- each s counts for one backend

@@ -12,7 +12,7 @@ use Rattle.expansion.specs.Steps.{isNoGain, isWhole, term, termLength, l
 use Rattle.expansion.specs.Sound.{Sound}
 use Rattle.expansion.specs.Kept.{heldBy, lowestHeld, Holds, Given, lowered}
 use Rattle.expansion.specs.declared.rule.Rule.{Rule}
-use Rattle.expansion.proofs.Searches.{clash, first-is}
+use Rattle.numerals.proofs.Searches.{clash, first-is}
 use Rattle.expansion.proofs.Moves.{Good, covered, place-found, new-whole, apart}
 use Rattle.expansion.proofs.Holdings.{lowest-is, held-whole, low-not, holds-given}
 

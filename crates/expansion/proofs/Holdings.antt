@@ -13,17 +13,17 @@ use lib.Seq.{getD-set-same, getD-set-other}
 use lib.Pow.{pow-pos}
 use borrow.Author.Tests.{eqb-true, eq-eqb, ne-eqb}
 use Rattle.numerals.specs.Suffix.{place}
-use Rattle.expansion.specs.Sums.{firstTo, argmax}
+use Rattle.numerals.specs.Sums.{firstTo, argmax}
 use Rattle.expansion.specs.FirstMatch.{matches, gives}
 use Rattle.expansion.specs.Steps.{firstRule, isWhole}
 use Rattle.expansion.specs.Sound.{Lengths}
 use Rattle.expansion.specs.Kept.{heldBy, lowestHeld, Holds, Given, lowered}
 use Rattle.expansion.specs.declared.rule.Rule.{Rule}
-use Rattle.expansion.proofs.Searches.{clash, same-test, all-true, true-all, all-false, IsFirst, first-unique, first-is}
+use Rattle.numerals.proofs.Searches.{clash, same-test, all-true, true-all, all-false, IsFirst, first-unique, first-is}
 use Rattle.expansion.proofs.FirstMatch.{gives-matched, gives-passed, gives-one}
 use Rattle.expansion.proofs.Count.{whole-of-one}
 use Rattle.expansion.proofs.Nodes.{all-nodes, bits-at, whole-node, node-held, match-inside, match-outside}
-use Rattle.expansion.proofs.Powers.{pow-few}
+use Rattle.numerals.proofs.Powers.{pow-few}
 
 -- one suffix of a node that is another's
 pub held-not : (holder : List ℕ) (size b j i : ℕ) → i < size → getD holder (j * size + i) 0 ≢ b → heldBy holder size b j ≡ false

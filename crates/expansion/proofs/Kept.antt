@@ -9,12 +9,12 @@ use lib.Dec.{leb, eqb}
 use lib.ListN.{length, getD, set, length-set, List·getD-eq-default}
 use lib.Seq.{getD-set-same, getD-set-other}
 use Rattle.numerals.specs.Pick.{pick, both}
-use Rattle.expansion.specs.Sums.{sumTo, argmax, lastmax}
+use Rattle.numerals.specs.Sums.{sumTo, argmax, lastmax}
 use Rattle.expansion.specs.FirstMatch.{share}
 use Rattle.expansion.specs.Imbalance.{Frame, backends, weight, has, wants, excess, shortfall, imbalance, giver, receiver, largestExcess, largestShortfall}
 use Rattle.expansion.specs.Steps.{frame, isWithin, reduction, reductionAt, term, isNoGain}
 use Rattle.expansion.specs.Sound.{Sound}
-use Rattle.expansion.specs.Answer.{unit}
+use Rattle.numerals.specs.Limits.{unit}
 use Rattle.expansion.specs.Kept.{over, under, Small, noBackend, entryAt, errorAt, entryOf, lessOf, moreOf, largestOf, nextFor, nextOf, Keeps}
 use Rattle.expansion.specs.declared.rule.Rule.{Rule}
 use Rattle.expansion.specs.declared.rule.Ended.the-variants.{Within, NoGain}
@@ -23,9 +23,9 @@ use Rattle.expansion.specs.declared.ledger.Ledger.{Ledger}
 use Rattle.expansion.specs.declared.rule.Move.{Move}
 use Rattle.expansion.specs.declared.run.Next.{Next}
 use Rattle.expansion.specs.declared.run.Next.the-variants.{Stop, Go}
-use Rattle.expansion.proofs.Powers.{pow-few}
-use Rattle.expansion.proofs.Sums.{sum-ext}
-use Rattle.expansion.proofs.Searches.{argmax-ext}
+use Rattle.numerals.proofs.Powers.{pow-few}
+use Rattle.numerals.proofs.Sums.{sum-ext}
+use Rattle.numerals.proofs.Searches.{argmax-ext}
 use Rattle.expansion.proofs.Balance.{giver-lt, receiver-lt}
 use Rattle.expansion.proofs.Within.{within-is}
 use Rattle.expansion.proofs.Bounds.{share-le, excess-bound, shortfall-bound}

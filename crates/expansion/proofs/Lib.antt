@@ -1,7 +1,4 @@
 -- The theorems on the expansion, from below.
-pub mod Powers
-pub mod Sums
-pub mod Searches
 pub mod FirstMatch
 pub mod Count
 pub mod Balance

@@ -9,14 +9,14 @@ use native.Mathlib.Nat.{le-of-lt, mod-lt, mul-le-mul-right}
 use native.Mathlib.Omega.{arith}
 use lib.Pow.{pow-pos, pow-mono}
 use Rattle.numerals.specs.Suffix.{place}
-use Rattle.expansion.specs.Sums.{sumTo, firstTo}
+use Rattle.numerals.specs.Sums.{sumTo, firstTo}
 use Rattle.expansion.specs.FirstMatch.{gives, share}
 use Rattle.expansion.specs.Imbalance.{Frame, backends, has, wants, excess, shortfall, imbalance, giver, receiver, largestExcess, largestShortfall}
 use Rattle.expansion.specs.Steps.{reduction, reductionAt, term, isNoGain, isWhole, termLength, lowestPlace, newRule}
 use Rattle.expansion.specs.Sound.{Lengths, Complete, Formed, Sound}
 use Rattle.expansion.specs.declared.rule.Rule.{Rule}
-use Rattle.expansion.proofs.Sums.{sum-two, count-some}
-use Rattle.expansion.proofs.Searches.{first-is, first-le}
+use Rattle.numerals.proofs.Sums.{sum-two, count-some}
+use Rattle.numerals.proofs.Searches.{first-is, first-le}
 use Rattle.expansion.proofs.FirstMatch.{lengths-mono, lengths-cons}
 use Rattle.expansion.proofs.Count.{whole-of-one, share-giver, share-receiver, share-other, complete-cons}
 use Rattle.expansion.proofs.Balance.{giver-lt, receiver-lt, excess-le, shortfall-le}

@@ -11,7 +11,7 @@ use Rattle.expansion.specs.Imbalance.{Frame, backends, largestExcess, la
 use Rattle.expansion.specs.Steps.{reduction, reductionAt, term, isNoGain}
 use Rattle.expansion.specs.Sound.{Complete, Sound}
 use Rattle.expansion.specs.declared.rule.Rule.{Rule}
-use Rattle.expansion.proofs.Searches.{lastmax-is}
+use Rattle.numerals.proofs.Searches.{lastmax-is}
 use Rattle.expansion.proofs.Balance.{excess-none, shortfall-none, excess-most, shortfall-most}
 use Rattle.expansion.proofs.Reduction.{reduction-none}
 

@@ -10,11 +10,11 @@ use lib.Pow.{pow-pos}
 use borrow.Author.Tests.{eq-eqb, ne-eqb}
 use Rattle.numerals.specs.Suffix.{place}
 use Rattle.numerals.proofs.Place.{place-lt, place-mod, place-twice, place-involution, place-injective, place-high}
-use Rattle.expansion.specs.Sums.{allTo}
+use Rattle.numerals.specs.Sums.{allTo}
 use Rattle.expansion.specs.FirstMatch.{matches, gives}
 use Rattle.expansion.specs.Steps.{isWhole}
 use Rattle.expansion.specs.declared.rule.Rule.{Rule}
-use Rattle.expansion.proofs.Searches.{all-true, true-all}
+use Rattle.numerals.proofs.Searches.{all-true, true-all}
 use Rattle.expansion.proofs.Count.{pow-split}
 
 -- a test of all that the suffix of l bits with the value v covers

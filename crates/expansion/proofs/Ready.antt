@@ -9,11 +9,11 @@ use lib.ListN.{length, set}
 use borrow.Author.Tests.{eqb-true, eq-eqb}
 use Rattle.numerals.specs.Pick.{pick, both}
 use Rattle.numerals.specs.Suffix.{place}
-use Rattle.expansion.specs.Sums.{lastmax}
+use Rattle.numerals.specs.Sums.{lastmax}
 use Rattle.expansion.specs.Imbalance.{Frame, backends, excess, shortfall, giver, receiver, largestExcess, largestShortfall}
 use Rattle.expansion.specs.Steps.{frame, reduction, isWithin, isNoGain, term, termLength, lowestPlace, newRule, step, endOf}
 use Rattle.expansion.specs.Sound.{Sound}
-use Rattle.expansion.specs.Answer.{unit}
+use Rattle.numerals.specs.Limits.{unit}
 use Rattle.expansion.specs.Kept.{over, entryAt, lessOf, moreOf, nextFor, Keeps, Holds, Given, lowered, nodeOf, Valid}
 use Rattle.expansion.specs.declared.rule.Rule.{Rule}
 use Rattle.expansion.specs.declared.rule.Ended.{Ended}
@@ -24,7 +24,7 @@ use Rattle.expansion.specs.declared.ledger.Extreme.{Extreme}
 use Rattle.expansion.specs.declared.rule.Move.{Move}
 use Rattle.expansion.specs.declared.run.Next.{Next}
 use Rattle.expansion.specs.declared.run.Next.the-variants.{Stop, Go}
-use Rattle.expansion.proofs.Searches.{lastmax-is, lastmax-fewer}
+use Rattle.numerals.proofs.Searches.{lastmax-is, lastmax-fewer}
 use Rattle.expansion.proofs.Balance.{giver-lt, receiver-lt}
 use Rattle.expansion.proofs.NoGain.{term-le}
 use Rattle.expansion.proofs.Moves.{Good, some-excess, some-shortfall, apart, place-found, new-giver, new-receiver, new-other}

@@ -12,9 +12,9 @@ use mir.Val.{toZ, ofZ}
 use mir.Facts.{toZ-ofZ, toZ-pos}
 use borrow.Author.Needs.{sfits-of}
 use borrow.Author.Tests.{ltb-true, ltb-false, le-ltb}
-use Rattle.expansion.specs.Answer.{unit}
+use Rattle.numerals.specs.Limits.{unit}
 use Rattle.expansion.specs.Kept.{over, under, side, Small, entryOf, lessOf, moreOf}
-use Rattle.expansion.proofs.Powers.{pow-few, shifted}
+use Rattle.numerals.proofs.Powers.{pow-few, shifted}
 
 -- the sides of a number
 

@@ -12,11 +12,12 @@ use lib.Seq.{getD-set-same, getD-set-other}
 use borrow.Author.Tests.{ltb-true, ltb-false, eqb-true, eq-eqb}
 use Rattle.numerals.specs.Pick.{pick}
 use Rattle.numerals.specs.Suffix.{place}
-use Rattle.expansion.specs.Sums.{sumTo, argmax}
+use Rattle.numerals.specs.Sums.{sumTo, argmax}
 use Rattle.expansion.specs.Imbalance.{Frame, backends, weight, imbalance}
 use Rattle.expansion.specs.Steps.{firstRule, frame, newRule, after, endOf, listOf}
 use Rattle.expansion.specs.Sound.{Sound}
-use Rattle.expansion.specs.Answer.{unit, listMade}
+use Rattle.expansion.specs.Answer.{listMade}
+use Rattle.numerals.specs.Limits.{unit}
 use Rattle.expansion.specs.Kept.{over, Small, entryAt, errorAt, entryOf, nextOf, inBudget, Keeps, Holds, lowered, nodeOf, Handed, noRule, newestFirst, Valid, Stands, Adds, Listed, Made}
 use Rattle.expansion.specs.declared.rule.Rule.{Rule}
 use Rattle.expansion.specs.declared.rule.Ended.{Ended}
@@ -27,7 +28,7 @@ use Rattle.expansion.specs.declared.run.State.{State}
 use Rattle.expansion.specs.declared.rule.Move.{Move}
 use Rattle.expansion.specs.declared.run.Next.{Next}
 use Rattle.expansion.specs.declared.run.Next.the-variants.{Stop, Go}
-use Rattle.expansion.proofs.Searches.{same-test}
+use Rattle.numerals.proofs.Searches.{same-test}
 use Rattle.expansion.proofs.Moves.{term-falls}
 use Rattle.expansion.proofs.Turns.{after-suc, step-moves, listed, ended-budget, good-after}
 use Rattle.expansion.proofs.Base.{star-share, base-stair}

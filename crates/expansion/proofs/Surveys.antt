@@ -6,12 +6,12 @@ use native.Mathlib.Decide.{decLt}
 use native.Mathlib.Numerals.{add-one}
 use native.Mathlib.Omega.{arith}
 use lib.IntN.{ℤ, pos}
-use Rattle.expansion.specs.Sums.{argmax}
+use Rattle.numerals.specs.Sums.{argmax}
 use Rattle.expansion.specs.Kept.{over, side, Small, errorAt, largestOf, Raised, Surveyed, Sized, nextFor, nextOf}
 use Rattle.expansion.specs.declared.ledger.Ledger.{Ledger}
 use Rattle.expansion.specs.declared.ledger.Extreme.{Extreme}
 use Rattle.expansion.specs.declared.ledger.Survey.{Survey}
-use Rattle.expansion.proofs.Searches.{argmax-is, argmax-none, peak, peak-none, peak-is, peak-higher, peak-kept}
+use Rattle.numerals.proofs.Searches.{argmax-is, argmax-none, peak, peak-none, peak-is, peak-higher, peak-kept}
 use Rattle.expansion.proofs.Signed.{side-mag}
 
 -- the extreme of the first n values; its size is 0 where there is none

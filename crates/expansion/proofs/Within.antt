@@ -11,7 +11,7 @@ use Rattle.expansion.specs.Imbalance.{Frame, backends, excess, shortfall
 use Rattle.expansion.specs.Steps.{isWithin}
 use Rattle.expansion.specs.Sound.{Sound}
 use Rattle.expansion.specs.declared.rule.Rule.{Rule}
-use Rattle.expansion.proofs.Searches.{both-true, true-both, all-true, true-all, same-test}
+use Rattle.numerals.proofs.Searches.{both-true, true-both, all-true, true-all, same-test}
 use Rattle.expansion.proofs.Balance.{giver-lt, receiver-lt, excess-le, shortfall-le}
 
 -- the two sides of one error

@@ -6,7 +6,8 @@ use lib.Dec.{leb, ltb, eqb}
 use lib.ListN.{length, getD}
 use lib.Seq.{sets}
 use Rattle.numerals.specs.Pick.{pick, both}
-use Rattle.expansion.specs.Sums.{sumTo, allTo}
+use Rattle.numerals.specs.Limits.{unit}
+use Rattle.numerals.specs.Sums.{sumTo, allTo}
 use Rattle.expansion.specs.Steps.{frame, listOf, endOf, stairsTo}
 use Rattle.expansion.specs.declared.rule.Rule.{Rule}
 use Rattle.expansion.specs.declared.rule.Record.{Record}
@@ -16,10 +17,6 @@ use Rattle.expansion.specs.declared.call.Checked.{Checked}
 use Rattle.expansion.specs.declared.call.Checked.the-variants.{Sound as Passed, Refused as Turned}
 use Rattle.expansion.specs.declared.call.Expanded.{Expanded}
 use Rattle.expansion.specs.declared.call.Expanded.the-variants.{Made, Refused}
-
--- the sum of a service's weights: 100 percent in millionths
-unfoldable pub unit : ℕ
-unit = 1000000
 
 -- the next check, where the ones before passed
 abbrev pub andThen : Checked → Checked → Checked

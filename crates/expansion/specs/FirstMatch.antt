@@ -4,7 +4,7 @@ use mathlib.Core.Bool.{Bool, false}
 use mathlib.Core.List.{List, [], _∷_}
 use lib.Dec.{eqb}
 use Rattle.numerals.specs.Pick.{pick}
-use Rattle.expansion.specs.Sums.{countTo}
+use Rattle.numerals.specs.Sums.{countTo}
 use Rattle.expansion.specs.declared.rule.Rule.{Rule}
 
 -- a rule matches s if its bits are the lowest bits of s

@@ -2,7 +2,7 @@
 use Prim.Native.Nat.{ℕ, _-_, _*_, _^_}
 use mathlib.Core.List.{List}
 use lib.ListN.{length, getD}
-use Rattle.expansion.specs.Sums.{sumTo, argmax}
+use Rattle.numerals.specs.Sums.{sumTo, argmax}
 use Rattle.expansion.specs.FirstMatch.{share}
 use Rattle.expansion.specs.declared.rule.Rule.{Rule}
 

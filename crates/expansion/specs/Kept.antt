@@ -10,11 +10,12 @@ use lib.Signed.{mag}
 use lib.ListN.{length, getD, set}
 use Rattle.numerals.specs.Pick.{pick, both}
 use Rattle.numerals.specs.Suffix.{place}
-use Rattle.expansion.specs.Sums.{sumTo, allTo, firstTo, argmax, lastmax}
+use Rattle.numerals.specs.Sums.{sumTo, allTo, firstTo, argmax, lastmax}
 use Rattle.expansion.specs.FirstMatch.{gives, share}
 use Rattle.expansion.specs.Imbalance.{Frame, backends, weight, imbalance}
 use Rattle.expansion.specs.Steps.{frame, reduction, after, stair, endOf}
-use Rattle.expansion.specs.Answer.{unit, listMade}
+use Rattle.expansion.specs.Answer.{listMade}
+use Rattle.numerals.specs.Limits.{unit}
 use Rattle.expansion.specs.declared.rule.Rule.{Rule}
 use Rattle.expansion.specs.declared.rule.Ended.the-variants.{Within, NoGain, Budget}
 use Rattle.expansion.specs.declared.ledger.Backend.{Backend}

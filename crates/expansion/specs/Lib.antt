@@ -1,5 +1,4 @@
 -- What document 01 says of the expansion of one service and of the count by first match.
-pub mod Sums
 pub mod FirstMatch
 pub mod Imbalance
 pub mod Steps

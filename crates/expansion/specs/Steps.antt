@@ -6,7 +6,7 @@ use lib.Dec.{leb, eqb}
 use lib.ListN.{length, drop, getD}
 use Rattle.numerals.specs.Pick.{pick, both}
 use Rattle.numerals.specs.Suffix.{place}
-use Rattle.expansion.specs.Sums.{allTo, firstTo, argmax, lastmax}
+use Rattle.numerals.specs.Sums.{allTo, firstTo, argmax, lastmax}
 use Rattle.expansion.specs.FirstMatch.{gives}
 use Rattle.expansion.specs.Imbalance.{Frame, backends, excess, shortfall, imbalance, giver, receiver, largestExcess, largestShortfall}
 use Rattle.expansion.specs.declared.rule.Rule.{Rule}

@@ -5,7 +5,7 @@ ghost use lib.Dec.{eqb};
 ghost use lib.IntN.{pos};
 ghost use lib.ListN.{length, getD};
 ghost use Rattle.numerals.specs.Pick.{pick};
-ghost use Rattle.expansion.specs.Answer.{unit};
+ghost use Rattle.numerals.specs.Limits.{unit};
 ghost use Rattle.expansion.specs.Kept as kept;
 
 // 100 percent, the sum of a service's weights; also one suffix in parts of the imbalance.

@@ -9,8 +9,8 @@ ghost use mathlib.Core.Path.{_≡_};
 ghost use Prim.Native.Nat.{ℕ, _+_, _^_, _≤_, _<_};
 ghost use lib.ListN.{length, getD, set, replicate};
 ghost use Rattle.numerals.specs.Suffix.{Places};
-ghost use Rattle.expansion.specs.Sums.{argmax};
-ghost use Rattle.expansion.specs.Answer.{unit};
+ghost use Rattle.numerals.specs.Sums.{argmax};
+ghost use Rattle.numerals.specs.Limits.{unit};
 ghost use Rattle.expansion.specs.Kept as kept;
 
 // A list, and how it ended.

@@ -1,5 +1,8 @@
 -- Laws that the functions' proofs and the crates above share.
 pub mod Choice
+pub mod Powers
+pub mod Sums
+pub mod Searches
 pub mod Refusals
 pub mod Slice
 pub mod Lists

@@ -2,7 +2,7 @@
 use mathlib.Core.Path.{_≡_, refl, ap}
 use mathlib.Core.Bool.{Bool, true, false}
 use mathlib.Core.List.{List, [], _∷_}
-use Prim.Native.Nat.{ℕ, suc, _^_, _≤_, _<_}
+use Prim.Native.Nat.{ℕ, suc, _^_, _≤_, _<_, _-_}
 use native.Mathlib.Nat.{mod-eq-of-lt, lt-of-lt-of-le}
 use native.Mathlib.Omega.{arith}
 use lib.Dec.{leb, ltb, eqb}
@@ -11,7 +11,8 @@ use lib.Pow.{pow-mono}
 use borrow.Author.Tests.{eq-eqb, ne-eqb, le-leb, lt-leb, lt-ltb, eqb-true, leb-true, ltb-true}
 use Rattle.numerals.specs.Pick.{pick, both}
 use Rattle.numerals.specs.Digits.{allDigits, value, lowest, readDigits}
-use Rattle.numerals.specs.Suffix.{mostBits, isSuffix, suffix, suffixText}
+use Rattle.numerals.specs.Suffix.{isSuffix, suffix, suffixText}
+use Rattle.numerals.specs.Limits.{mostBits, mostSuffixes}
 use Rattle.numerals.specs.declared.digits.Number.{Number}
 use Rattle.numerals.specs.declared.digits.Number.the-variants.{Value, Bad as NoValue}
 use Rattle.numerals.specs.declared.suffixes.SuffixRead.{SuffixRead}
@@ -67,14 +68,14 @@ onBits n NoValue = Bad
 
 -- twelve bits are at most 4,095
 module _ (k b : ℕ) (bs : List ℕ) (some : 1 ≤ k) (most : k ≤ mostBits) (star : b ≡ 42) (few : length bs ≤ k) where
-  pub suffix-bits : suffix k (b ∷ bs) ≡ onBits (length bs) (readDigits 2 4095 bs)
+  pub suffix-bits : suffix k (b ∷ bs) ≡ onBits (length bs) (readDigits 2 (mostSuffixes - 1) bs)
   unfolding suffix readDigits
   suffix-bits = go (allDigits 2 bs) refl
     where
-      go : (t : Bool) → allDigits 2 bs ≡ t → suffix k (b ∷ bs) ≡ onBits (length bs) (readDigits 2 4095 bs)
+      go : (t : Bool) → allDigits 2 bs ≡ t → suffix k (b ∷ bs) ≡ onBits (length bs) (readDigits 2 (mostSuffixes - 1) bs)
       go true e =
-          let below : value 2 bs < 2 ^ 12 = lt-of-lt-of-le (value-below 2 bs (omega arith) e) (pow-mono {j = 12} (omega arith)) in
-          simp (le-leb 1 k some, le-leb k mostBits most, eq-eqb b 42 star, le-leb (length bs) k few, e, le-leb (value 2 bs) 4095 (omega arith))
+          let below : value 2 bs < 2 ^ mostBits = lt-of-lt-of-le (value-below 2 bs (omega arith) e) (pow-mono {j = mostBits} (omega arith)) in
+          simp (le-leb 1 k some, le-leb k mostBits most, eq-eqb b 42 star, le-leb (length bs) k few, e, le-leb (value 2 bs) (mostSuffixes - 1) (omega arith))
       go false e = simp (e, both-false)
 
 -- the text of a suffix reads back

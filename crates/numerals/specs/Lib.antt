@@ -1,5 +1,7 @@
 -- What document 01 says of numbers, percentages, suffixes, fields and lines.
 pub mod Pick
+pub mod Limits
+pub mod Sums
 pub mod Refusals
 pub mod Digits
 pub mod Decimal

@@ -6,6 +6,7 @@ use mathlib.Core.Path.{_≡_}
 use lib.Dec.{leb, ltb, eqb}
 use lib.ListN.{length, getD}
 use Rattle.numerals.specs.Pick.{pick, both}
+use Rattle.numerals.specs.Limits.{mostBits}
 use Rattle.numerals.specs.Refusals.{no2}
 use Rattle.numerals.specs.Digits.{allDigits, value, lowest, put, putEnd}
 use Rattle.numerals.specs.declared.digits.Number.{Number}
@@ -14,10 +15,6 @@ use Rattle.numerals.specs.declared.digits.Written.{Written}
 use Rattle.numerals.specs.declared.digits.Written.the-variants.{Refused}
 use Rattle.numerals.specs.declared.suffixes.SuffixRead.{SuffixRead}
 use Rattle.numerals.specs.declared.suffixes.SuffixRead.the-variants.{Suffix, Bad}
-
--- the most bits that a suffix has, and the largest k (document 01, "Units and limits")
-abbrev pub mostBits : ℕ
-mostBits = 12
 
 -- a suffix has at most so many bits, and a value that its l bits have
 unfoldable pub isSuffix : ℕ → ℕ → Bool

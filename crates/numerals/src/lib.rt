@@ -1,5 +1,6 @@
 // Decimal numbers, percentages, suffixes and their tree places, and the fields of a text: read and written.
 mod digits;
+mod limits;
 mod numbers;
 mod percentages;
 mod places;
@@ -9,6 +10,17 @@ mod text;
 
 pub use digits::Number;
 pub use digits::Written;
+pub use limits::DECIMALS;
+pub use limits::MOST_BACKENDS;
+pub use limits::MOST_BITS;
+pub use limits::MOST_CAPACITY;
+pub use limits::MOST_RULES;
+pub use limits::MOST_SERVICES;
+pub use limits::MOST_SUFFIXES;
+pub use limits::MOST_VOLUME;
+pub use limits::TEXT_LIMIT;
+pub use limits::TOTAL_LIMIT;
+pub use limits::UNIT;
 pub use numbers::decimal_width;
 pub use numbers::read_number;
 pub use numbers::write_number;

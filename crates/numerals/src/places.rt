@@ -1,26 +1,28 @@
 // The tree places of all twelve-bit suffixes.
+use crate::limits::MOST_SUFFIXES;
 ghost use mathlib.Core.Path.{_≡_};
 ghost use Prim.Native.Nat.{_<_};
+ghost use Rattle.numerals.specs.Limits.{mostBits, mostSuffixes};
 ghost use Rattle.numerals.specs.Suffix.{place, Places};
 
 // The tree places of all twelve-bit suffixes, by their value.
-pub fn all_places() -> [u16; 4096]
-    ensures { λ r. ⌜ Places 12 r ⌝ }
+pub fn all_places() -> [u16; MOST_SUFFIXES]
+    ensures { λ r. ⌜ Places mostBits r ⌝ }
 {
     PLACES
 }
 
 // The tree place of a twelve-bit suffix.
 pub fn place_of_twelve(value: usize) -> usize
-    requires { ⌜ value < 4096 ⌝ }
-    ensures { λ r. ⌜ r ≡ place 12 value ⌝ }
+    requires { ⌜ value < mostSuffixes ⌝ }
+    ensures { λ r. ⌜ r ≡ place mostBits value ⌝ }
 {
     let all = all_places();
     all[value] as usize
 }
 
 // The places of all twelve-bit suffixes, by their value.
-const PLACES: [u16; 4096] = [
+const PLACES: [u16; MOST_SUFFIXES] = [
     0,
     2048,
     1024,

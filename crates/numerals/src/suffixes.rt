@@ -1,13 +1,15 @@
 // Suffixes and their tree places.
 use crate::digits::Number;
 use crate::digits::Written;
+use crate::limits::MOST_BITS;
+use crate::limits::MOST_SUFFIXES;
 use crate::refusal::Refusal;
 ghost use mathlib.Core.Path.{_≡_};
 ghost use lib.Seq.{slice};
 ghost use Rattle.numerals.specs.Suffix.{isSuffix, suffix, putSuffix, putSuffixEnd, suffixPlace};
 
-// The most bits that a suffix has.
-const MOST_BITS: usize = 12;
+// The largest value that the bits of a suffix have.
+const MOST_VALUE: u64 = (MOST_SUFFIXES - 1) as u64;
 
 // What reading a suffix finds: its number of bits and the bits as a number, the last bit lowest.
 pub enum SuffixRead {
@@ -47,7 +49,7 @@ pub fn read_suffix(s: &[u8], from: usize, to: usize, k: usize) -> SuffixRead
     if k < len {
         return SuffixRead::Bad;
     }
-    let read = crate::digits::read_digits(s, from + 1, end, 2, 4095);
+    let read = crate::digits::read_digits(s, from + 1, end, 2, MOST_VALUE);
     let Number::Value(v) = read else {
         return SuffixRead::Bad;
     };

@@ -7,8 +7,8 @@ use native.Mathlib.Omega.{arith}
 use native.Mathlib.Decide.{ℕ-discrete}
 use lib.ListN.{length, getD, set}
 use lib.Seq.{getD-set-same, getD-set-other}
-use Rattle.expansion.proofs.Sums.{sum-ext}
-use Rattle.expansion.proofs.Searches.{argmax-ext}
+use Rattle.numerals.proofs.Sums.{sum-ext}
+use Rattle.numerals.proofs.Searches.{argmax-ext}
 use Rattle.packing.specs.Grants.{Problem, Grants, saving, next, rules, total, more, grantStep}
 use Rattle.packing.proofs.Runs.{more-same, more-other, Goes, Stops, goes-or-stops, step-goes, step-stops, next-lt}
 

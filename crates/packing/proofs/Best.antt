@@ -5,8 +5,8 @@ use mathlib.Core.Logic.{inl, inr}
 use native.Mathlib.Omega.{arith}
 use native.Mathlib.Nat.{mul-le-mul-right, le-trans}
 use native.Mathlib.Decide.{ℕ-discrete, decLe, decLt, le-ind}
-use Rattle.expansion.specs.Sums.{sumTo}
-use Rattle.expansion.proofs.Sums.{sum-le, sum-add, sum-mul}
+use Rattle.numerals.specs.Sums.{sumTo}
+use Rattle.numerals.proofs.Sums.{sum-le, sum-add, sum-mul}
 use Rattle.packing.specs.Grants.{Problem, Grants, saving, next, rules, total, more, grantsAfter, packed, Allowed, Convex}
 use Rattle.packing.proofs.Runs.{more-same, more-other, more-le, along, next-max, packed-allowed, Ends, packed-ends, next-lt}
 

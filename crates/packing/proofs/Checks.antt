@@ -8,12 +8,13 @@ use lib.Dec.{leb, ltb, eqb}
 use lib.ListN.{length, getD, take, drop, length-drop}
 use lib.Seq.{drop-cons, drop-drop}
 use borrow.Author.Tests.{lt-ltb, le-ltb, le-leb, leb-true, ltb-true}
-use Rattle.expansion.specs.Answer.{unit, andThen, orElse, inLimits, checkWeights}
+use Rattle.expansion.specs.Answer.{andThen, orElse, inLimits, checkWeights}
+use Rattle.numerals.specs.Limits.{unit}
 use Rattle.numerals.specs.declared.refusal.Refusal.{Refusal}
 use Rattle.numerals.specs.declared.refusal.Refusal.the-variants.{Malformed, BadField, TooMany, NoService, TableShort}
 use Rattle.expansion.specs.declared.call.Checked.the-variants.{Sound as Passed, Refused as Turned}
 use Rattle.expansion.proofs.Checks.{both-passed, test-passed, limits, weights-passed, call-weights}
-use Rattle.expansion.proofs.Searches.{true-both}
+use Rattle.numerals.proofs.Searches.{true-both}
 use Rattle.packing.specs.Count.{services, weightsOf}
 use Rattle.packing.specs.Table.{ruleBudget}
 use Rattle.packing.specs.Answer.{chunks, servicesOf, checkService, checkFrom, checkServices, checkHead, checkAll}

@@ -11,7 +11,7 @@ use Rattle.expansion.specs.Steps.{frame, isWithin, isNoGain, endOf, listOf}
 use Rattle.expansion.specs.Sound.{Sound}
 use Rattle.expansion.specs.declared.rule.Rule.{Rule}
 use Rattle.expansion.specs.declared.rule.Ended.the-variants.{Within, NoGain, Budget}
-use Rattle.expansion.proofs.Sums.{sum-const}
+use Rattle.numerals.proofs.Sums.{sum-const}
 use Rattle.expansion.proofs.Base.{base-sound}
 use Rattle.expansion.proofs.NoGain.{no-gain-le}
 use Rattle.expansion.proofs.Turns.{good-after}

@@ -13,8 +13,8 @@ use lib.ListN.{length, getD, set}
 use lib.Seq.{getD-set-same, getD-set-other}
 use borrow.Author.Tests.{lt-ltb, le-ltb}
 use Rattle.numerals.specs.Pick.{pick}
-use Rattle.expansion.proofs.Sums.{sum-const}
-use Rattle.expansion.proofs.Searches.{argmax-is, argmax-ext}
+use Rattle.numerals.proofs.Sums.{sum-const}
+use Rattle.numerals.proofs.Searches.{argmax-is, argmax-ext}
 use Rattle.packing.specs.Grants.{Problem, Grants, saving, next, rules, more, grantsAfter, packed}
 use Rattle.packing.specs.Stored.{storedCost, storedProblem, storedSaving, savings, AllPayable, Allotted}
 use Rattle.packing.specs.Tournament.{Replaced, keyOf, Entered}

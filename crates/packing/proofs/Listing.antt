@@ -9,7 +9,8 @@ use lib.Seq.{sets, getD-set-same, getD-set-other, getD-at}
 use borrow.Author.Tests.{le-leb}
 use Rattle.expansion.specs.Imbalance.{Frame}
 use Rattle.expansion.specs.Steps.{firstRule, frame, after, endOf, listOf, stair, stairsTo}
-use Rattle.expansion.specs.Answer.{unit, checkCall, answer, filled, listMade, lensMade, valuesMade, backendsMade, stairsMade, recordMade}
+use Rattle.expansion.specs.Answer.{checkCall, answer, filled, listMade, lensMade, valuesMade, backendsMade, stairsMade, recordMade}
+use Rattle.numerals.specs.Limits.{unit}
 use Rattle.expansion.specs.Kept.{noRule}
 use Rattle.expansion.specs.declared.rule.Rule.{Rule}
 use Rattle.expansion.specs.declared.rule.Record.{Record}

@@ -8,13 +8,13 @@ use native.Mathlib.Nat.{zero-mul, mul-zero}
 use native.Mathlib.Omega.{arith}
 use lib.ListN.{length, getD, drop, List·getD-eq-default}
 use lib.Seq.{drop-length}
-use Rattle.expansion.specs.Sums.{sumTo}
+use Rattle.numerals.specs.Sums.{sumTo}
 use Rattle.expansion.specs.FirstMatch.{gives, share}
 use Rattle.expansion.specs.Imbalance.{Frame, backends, has, excess, imbalance}
 use Rattle.expansion.specs.Steps.{frame, firstRule, after, oldest, stair}
-use Rattle.expansion.specs.Answer.{unit}
+use Rattle.numerals.specs.Limits.{unit}
 use Rattle.expansion.specs.declared.rule.Rule.{Rule}
-use Rattle.expansion.proofs.Sums.{sum-ext, sum-zero, count-const}
+use Rattle.numerals.proofs.Sums.{sum-ext, sum-zero, count-const}
 use Rattle.expansion.proofs.Bounds.{imbalance-bound}
 use Rattle.expansion.proofs.Turns.{good-after, oldest-all}
 use Rattle.expansion.proofs.Stairs.{stair-falls}

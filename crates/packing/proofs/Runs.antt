@@ -8,9 +8,9 @@ use native.Mathlib.Decide.{ℕ-discrete, decLe, decLt, le-ind}
 use lib.Dec.{ltb, eqb}
 use borrow.Author.Tests.{ltb-true, ltb-false, lt-ltb, le-ltb, eq-eqb, ne-eqb}
 use Rattle.numerals.specs.Pick.{pick}
-use Rattle.expansion.specs.Sums.{sumTo}
-use Rattle.expansion.proofs.Sums.{sum-one}
-use Rattle.expansion.proofs.Searches.{argmax-is}
+use Rattle.numerals.specs.Sums.{sumTo}
+use Rattle.numerals.proofs.Sums.{sum-one}
+use Rattle.numerals.proofs.Searches.{argmax-is}
 use Rattle.packing.specs.Grants.{Problem, Grants, saving, next, rules, more, grantStep, grantsAfter, packed, Allowed}
 
 pub more-same : (g : Grants) (s : ℕ) → more g s s ≡ suc (g s)

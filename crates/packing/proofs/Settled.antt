@@ -7,7 +7,7 @@ use native.Mathlib.Omega.{arith}
 use lib.ListN.{length}
 use lib.Dec.{leb}
 use Rattle.numerals.specs.Pick.{pick}
-use Rattle.expansion.specs.Sums.{sumTo}
+use Rattle.numerals.specs.Sums.{sumTo}
 use Rattle.numerals.specs.declared.refusal.Refusal.{Refusal}
 use Rattle.numerals.specs.declared.refusal.Refusal.the-variants.{ShortLoan}
 use Rattle.expansion.specs.declared.call.Checked.the-variants.{Sound as Passed, Refused as Turned}

@@ -10,8 +10,8 @@ use lib.Dec.{eqb}
 use lib.ListN.{length, drop, length-append}
 use borrow.Author.Tests.{eq-eqb, ne-eqb}
 use Rattle.numerals.specs.Pick.{pick}
-use Rattle.expansion.specs.Sums.{sumTo}
-use Rattle.expansion.proofs.Sums.{sum-ext}
+use Rattle.numerals.specs.Sums.{sumTo}
+use Rattle.numerals.proofs.Sums.{sum-ext}
 use Rattle.expansion.proofs.Turns.{oldest-all, length-oldest}
 use Rattle.expansion.specs.Imbalance.{imbalance}
 use Rattle.expansion.specs.Steps.{oldest, stair}

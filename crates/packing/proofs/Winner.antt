@@ -6,8 +6,8 @@ use native.Mathlib.Decide.{ℕ-discrete, decLe, decLt}
 use native.Mathlib.Omega.{arith}
 use lib.ListN.{length, getD, set, replicate, length-set, length-replicate, getD-replicate}
 use lib.Seq.{getD-set-same, getD-set-other}
-use Rattle.expansion.specs.Sums.{argmax}
-use Rattle.expansion.proofs.Searches.{IsArgmax, argmax-is, argmax-unique}
+use Rattle.numerals.specs.Sums.{argmax}
+use Rattle.numerals.proofs.Searches.{IsArgmax, argmax-is, argmax-unique}
 use Rattle.packing.specs.Tournament.{greaterChild, Tournament, Replaced, keyOf, Entered}
 
 -- a store elsewhere leaves a node as it was

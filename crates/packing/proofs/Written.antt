@@ -5,11 +5,11 @@ use mathlib.Core.List.{List, [], _∷_, _++_, reverse, reverse-reverse}
 use native.Mathlib.Omega.{arith}
 use lib.ListN.{length, getD, length-reverse}
 use lib.Seq.{take-all}
-use Rattle.expansion.specs.Sums.{sumTo}
+use Rattle.numerals.specs.Sums.{sumTo}
 use Rattle.expansion.specs.Steps.{oldest}
 use Rattle.expansion.specs.Kept.{noRule, newestFirst}
 use Rattle.expansion.specs.declared.rule.Rule.{Rule}
-use Rattle.expansion.proofs.Sums.{sum-ext}
+use Rattle.numerals.proofs.Sums.{sum-ext}
 use Rattle.expansion.proofs.Listing.{take-newest, oldest-newest}
 use Rattle.packing.specs.Grants.{Grants}
 use Rattle.packing.specs.Count.{Line, Services, services}

@@ -5,7 +5,8 @@ use lib.Dec.{leb, ltb, eqb}
 use lib.ListN.{length, take, drop}
 use lib.Seq.{sets}
 use Rattle.numerals.specs.Pick.{pick}
-use Rattle.expansion.specs.Answer.{unit, andThen, orElse, inLimits, checkWeights}
+use Rattle.expansion.specs.Answer.{andThen, orElse, inLimits, checkWeights}
+use Rattle.numerals.specs.Limits.{unit}
 use Rattle.expansion.specs.Steps.{endOf}
 use Rattle.numerals.specs.Refusals.{no1, no2, no4, no5, no6, no7}
 use Rattle.expansion.specs.declared.rule.Ended.{Ended}

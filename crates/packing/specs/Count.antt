@@ -5,7 +5,7 @@ use mathlib.Core.List.{List, [], _∷_}
 use lib.Dec.{eqb}
 use lib.ListN.{length, getD}
 use Rattle.numerals.specs.Pick.{pick, both}
-use Rattle.expansion.specs.Sums.{sumTo, countTo, argmax}
+use Rattle.numerals.specs.Sums.{sumTo, countTo, argmax}
 use Rattle.expansion.specs.FirstMatch.{matches}
 use Rattle.expansion.specs.declared.rule.Rule.{Rule}
 

@@ -3,7 +3,7 @@ use Prim.Native.Nat.{ℕ, zero, suc, _-_, _≤_, _<_}
 use mathlib.Core.Bool.{true, false}
 use lib.Dec.{ltb, eqb}
 use Rattle.numerals.specs.Pick.{pick}
-use Rattle.expansion.specs.Sums.{sumTo, argmax}
+use Rattle.numerals.specs.Sums.{sumTo, argmax}
 
 -- The services, what each costs (volume × imbalance) at a grant, its least grant, and the capacity of the table.
 pub record Problem : Type 0 where

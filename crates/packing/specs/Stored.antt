@@ -5,7 +5,7 @@ use mathlib.Core.List.{List, [], _∷_, _++_}
 use lib.Dec.{ltb}
 use lib.ListN.{length, getD}
 use Rattle.numerals.specs.Pick.{pick}
-use Rattle.expansion.specs.Sums.{sumTo}
+use Rattle.numerals.specs.Sums.{sumTo}
 use Rattle.packing.specs.Grants.{Problem, packed}
 
 -- what service s costs at x rules: its volume × the stair after them; past the end of its list it stays at the last stair

@@ -4,9 +4,9 @@ use Rattle.numerals.specs.Digits.{isDigit, allDigits, value, valueFrom, onValue
 use Rattle.numerals.specs.Decimal.{noLeadingZero, isNumeral, number}
 use Rattle.numerals.specs.Text.{onto, split}
 use Rattle.numerals.specs.Percentage.{fraction, atMostAll, percentOf, percentage}
-use Rattle.expansion.specs.Answer.{unit}
+use Rattle.numerals.specs.Limits.{unit, textLimit}
 use Rattle.sheets.specs.Reading.{then, unless, onField, same}
-use Rattle.sheets.specs.PercentageSheet.{headFields, weightFields, sum, serviceFields, serviceLines, volumesOf, weightsOf, whole, sheetLines, textLimit, readSheet}
+use Rattle.sheets.specs.PercentageSheet.{headFields, weightFields, sum, serviceFields, serviceLines, volumesOf, weightsOf, whole, sheetLines, readSheet}
 use Rattle.sheets.specs.Cases.{bytes, cases, AllRight}
 
 pub right : AllRight cases

@@ -11,7 +11,7 @@ use borrow.Author.Tests.{eqb-true, eq-eqb, ne-eqb, lt-ltb, le-ltb}
 use Rattle.numerals.specs.Pick.{pick, both}
 use Rattle.numerals.proofs.Choice.{both-right, both-false, by-less}
 use Rattle.expansion.specs.FirstMatch.{matches}
-use Rattle.expansion.proofs.Sums.{count-ext}
+use Rattle.numerals.proofs.Sums.{count-ext}
 use Rattle.numerals.specs.declared.refusal.Refusal.the-variants.{UnknownService}
 use Rattle.packing.specs.Count.{Line, matchesLine, givesLine}
 use Rattle.sheets.specs.Reading.{got}

@@ -22,8 +22,8 @@ use Rattle.numerals.specs.declared.refusal.Refusal.{Refusal}
 use Rattle.numerals.specs.Refusals.{no2, no4, no9, no11}
 use Rattle.packing.specs.Count.{Line}
 use Rattle.sheets.specs.Reading.{Reading, got, atNoLine, then, unless, onField}
-use Rattle.sheets.specs.PercentageSheet.{textLimit}
-use Rattle.sheets.specs.RuleSheet.{Table, TableHead, tableWord, totalLimit, lineText, linesText, tableFields, onSuffix, countOf, inOrder, placed, ruleFields, ruleLines, closed, wholeTable, tableLines, readTable, isLine, checkLines, checkEnd, checkSheet}
+use Rattle.numerals.specs.Limits.{textLimit, totalLimit}
+use Rattle.sheets.specs.RuleSheet.{Table, TableHead, tableWord, lineText, linesText, tableFields, onSuffix, countOf, inOrder, placed, ruleFields, ruleLines, closed, wholeTable, tableLines, readTable, isLine, checkLines, checkEnd, checkSheet}
 use Rattle.sheets.specs.Behind.{line}
 use Rattle.sheets.specs.Calls.{linesFrom, brokenFrom, brokenText, linesHanded, handedText, tableHanded, ValuesFit}
 use Rattle.sheets.proofs.Words.{same-refl}

@@ -9,11 +9,12 @@ use lib.ListN.{length, getD, take, length-append}
 use lib.Seq.{take-append-seam, drop-append-seam}
 use borrow.Author.Tests.{lt-ltb, le-leb, eq-eqb}
 use Rattle.numerals.specs.Pick.{pick}
-use Rattle.expansion.specs.Answer.{unit, inLimits, checkWeights}
+use Rattle.expansion.specs.Answer.{inLimits, checkWeights}
+use Rattle.numerals.specs.Limits.{unit}
 use Rattle.numerals.specs.declared.refusal.Refusal.the-variants.{ShortLoan}
 use Rattle.expansion.specs.declared.call.Checked.the-variants.{Sound as Passed}
 use Rattle.expansion.proofs.Checks.{weights-sum}
-use Rattle.expansion.proofs.Searches.{true-all}
+use Rattle.numerals.proofs.Searches.{true-all}
 use Rattle.packing.specs.Count.{services}
 use Rattle.packing.specs.Answer.{chunks, servicesOf, checkService, checkFrom, checkServices, checkHead, checkAll, linesMade, packedOf, figuresMade, cells, figuresBuffer, tableBuffer, written, answer, filled}
 use Rattle.packing.specs.declared.call.Packed.{Packed}

@@ -6,8 +6,8 @@ use native.Mathlib.Nat.{le-trans, mul-le-mul}
 use native.Mathlib.Omega.{arith}
 use lib.ListN.{length, getD}
 use lib.Pow.{pow-mono}
-use Rattle.expansion.specs.Answer.{unit}
-use Rattle.expansion.specs.Sums.{sumTo}
+use Rattle.numerals.specs.Limits.{unit, totalLimit}
+use Rattle.numerals.specs.Sums.{sumTo}
 use Rattle.expansion.specs.Imbalance.{Frame, backends, imbalance}
 use Rattle.expansion.specs.Steps.{firstRule, frame, after, listOf, oldest, stair}
 use Rattle.expansion.specs.Sound.{AllFormed, Sound}
@@ -15,7 +15,7 @@ use Rattle.expansion.specs.declared.rule.Rule.{Rule}
 use Rattle.expansion.proofs.Base.{base-sound, base-formed, base-falling}
 use Rattle.expansion.proofs.Bounds.{imbalance-bound}
 use Rattle.expansion.proofs.Shape.{falling-after, front-after}
-use Rattle.expansion.proofs.Sums.{sum-le, sum-most, sum-at}
+use Rattle.numerals.proofs.Sums.{sum-le, sum-most, sum-at}
 use Rattle.expansion.proofs.Turns.{good-after, formed-after, length-le, length-oldest, oldest-after}
 use Rattle.packing.specs.Count.{Services, services, volume, weightsOf}
 use Rattle.packing.specs.Demand.{Balanced, Fitting}
@@ -26,7 +26,7 @@ use Rattle.packing.proofs.Demand.{granted-fitting}
 use Rattle.packing.proofs.Tables.{length-table}
 use Rattle.sheets.specs.Reading.{got}
 use Rattle.sheets.specs.PercentageSheet.{Sheet, readSheet}
-use Rattle.sheets.specs.RuleSheet.{totalLimit, checkTable}
+use Rattle.sheets.specs.RuleSheet.{checkTable}
 use Rattle.sheets.specs.Calls.{servicesIn, tableFor}
 use Rattle.sheets.proofs.Ladder.{Ladder, ladder, ladder-some, Granted, Ready, table-sorted}
 use Rattle.sheets.proofs.SheetLimits.{Limits, limits, sum-places}

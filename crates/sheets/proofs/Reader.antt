@@ -17,7 +17,7 @@ use Rattle.numerals.specs.Text.{split, indexOf}
 use Rattle.numerals.proofs.Slice.{slice-none, slice-length}
 use Rattle.numerals.proofs.Fields.{cut, cut-last, split-some}
 use Rattle.sheets.specs.Reading.{Reading, got, turned, then, unless}
-use Rattle.sheets.specs.PercentageSheet.{textLimit}
+use Rattle.numerals.specs.Limits.{textLimit}
 use Rattle.sheets.specs.RuleSheet.{Table, TableHead, tableFields, tableLines, readTable, countOf, placed, ruleFields, ruleLines, closed, wholeTable, isLine, checkLines}
 use Rattle.sheets.specs.Behind.{lastOf, Behind, placing}
 use Rattle.sheets.specs.Calls.{refusedAt}

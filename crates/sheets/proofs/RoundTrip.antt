@@ -13,8 +13,8 @@ use Rattle.numerals.proofs.Suffix.{suffix-only}
 use Rattle.packing.specs.Count.{Line}
 use Rattle.packing.specs.Answer.{cells}
 use Rattle.sheets.specs.Reading.{Reading, got, turned, atNoLine, unless, field}
-use Rattle.sheets.specs.PercentageSheet.{textLimit}
-use Rattle.sheets.specs.RuleSheet.{Table, TableHead, tableWord, totalLimit, tableText, tableFields, placed, ruleFields, ruleLines, wholeTable, tableLines, readTable, checkTable}
+use Rattle.numerals.specs.Limits.{textLimit, totalLimit}
+use Rattle.sheets.specs.RuleSheet.{Table, TableHead, tableWord, tableText, tableFields, placed, ruleFields, ruleLines, wholeTable, tableLines, readTable, checkTable}
 use Rattle.sheets.specs.Calls.{linesFrom, brokenFrom, handedText, tableHanded, ValuesFit}
 use Rattle.sheets.proofs.Readings.{not-got, got-same, unless-got, onField-got, onSuffix-got, then-got, same-true}
 use Rattle.sheets.proofs.Joins.{join, join-split, by-number}

@@ -11,15 +11,15 @@ use Rattle.numerals.specs.Decimal.{noLeadingZero, isNumeral, number, widthIn, w
 use Rattle.numerals.specs.Percentage.{fraction, atMostAll, percentOf, percentage}
 use Rattle.numerals.specs.Suffix.{suffix, suffixText}
 use Rattle.numerals.specs.Text.{onto, split}
-use Rattle.expansion.specs.Answer.{unit}
+use Rattle.numerals.specs.Limits.{unit, textLimit, totalLimit}
 use Rattle.numerals.specs.Refusals.{no1, no2, no4, no5, no8, no9, no10, no11, no12}
 use Rattle.expansion.specs.FirstMatch.{matches}
-use Rattle.expansion.specs.Sums.{sumTo, countTo}
+use Rattle.numerals.specs.Sums.{sumTo, countTo}
 use Rattle.packing.specs.Cases.{line}
 use Rattle.packing.specs.Count.{matchesLine}
 use Rattle.sheets.specs.Reading.{Reading, got, turned, then, unless, onField, same}
-use Rattle.sheets.specs.PercentageSheet.{headFields, weightFields, sum, serviceFields, serviceLines, whole, sheetLines, textLimit, readSheet}
-use Rattle.sheets.specs.RuleSheet.{Table, totalLimit, lineText, linesText, tableFields, onSuffix, countOf, inOrder, placed, ruleFields, ruleLines, closed, wholeTable, tableLines, readTable, isLine, checkLines, checkEnd, checkSheet}
+use Rattle.sheets.specs.PercentageSheet.{headFields, weightFields, sum, serviceFields, serviceLines, whole, sheetLines, readSheet}
+use Rattle.sheets.specs.RuleSheet.{Table, lineText, linesText, tableFields, onSuffix, countOf, inOrder, placed, ruleFields, ruleLines, closed, wholeTable, tableLines, readTable, isLine, checkLines, checkEnd, checkSheet}
 use Rattle.sheets.specs.Calls.{refusedAt, linesFrom, brokenFrom, brokenText, linesHanded, handedText, tableHanded, firstBackend, hasService, lookupIn, lookupAnswer, moved, churnOf, churnAnswer}
 use Rattle.sheets.specs.Cases.{bytes}
 use Rattle.sheets.proofs.TableTexts.{linesWidth}

@@ -12,11 +12,11 @@ use lib.Seq.{take-suc, take-all, getD-set-same, getD-set-other}
 use borrow.Author.Tests.{ltb-true, eq-eqb, ne-eqb}
 use Rattle.numerals.specs.Pick.{pick}
 use Rattle.numerals.proofs.Choice.{both-left, by-less}
-use Rattle.expansion.specs.Sums.{sumTo, countTo}
+use Rattle.numerals.specs.Sums.{sumTo, countTo, listTo}
 use Rattle.expansion.specs.FirstMatch.{share}
 use Rattle.expansion.specs.Sound.{Complete}
 use Rattle.numerals.specs.declared.refusal.Refusal.the-variants.{ShortLoan, UnknownService}
-use Rattle.expansion.proofs.Sums.{sum-ext, count-suc}
+use Rattle.numerals.proofs.Sums.{sum-ext, count-suc}
 use Rattle.expansion.proofs.Count.{share-sum}
 use Rattle.packing.specs.Count.{Line, matchesLine, givesLine, ownRules}
 use Rattle.packing.proofs.Lines.{gives-own}
@@ -25,7 +25,7 @@ use Rattle.sheets.specs.RuleSheet.{Table, countOf, readTable}
 use Rattle.sheets.specs.Calls.{refusedAt, textOf, firstBackend, hasService}
 use Rattle.sheets.specs.Writing.{linesIn}
 use Rattle.sheets.specs.Rows.{firstOf}
-use Rattle.sheets.specs.Shares.{listTo, sharesBelow, sharesOf, countIn, countAnswer}
+use Rattle.sheets.specs.Shares.{sharesBelow, sharesOf, countIn, countAnswer}
 use Rattle.sheets.specs.declared.answer.Counted.the-variants.{Shares, Refused}
 use Rattle.sheets.specs.declared.rule_sheet.TableHead.{TableHead}
 use Rattle.sheets.proofs.Steps.{sum-more}

@@ -16,9 +16,9 @@ use Rattle.numerals.specs.declared.digits.Number.{Number}
 use Rattle.numerals.specs.declared.digits.Number.the-variants.{Value, Bad}
 use Rattle.numerals.proofs.Base.{picked}
 use Rattle.numerals.proofs.Decimal.{only-text}
-use Rattle.expansion.specs.Answer.{unit}
-use Rattle.expansion.specs.Sums.{sumTo}
-use Rattle.expansion.proofs.Sums.{sum-none, sum-suc, sum-ext, sum-split}
+use Rattle.numerals.specs.Limits.{unit}
+use Rattle.numerals.specs.Sums.{sumTo}
+use Rattle.numerals.proofs.Sums.{sum-none, sum-suc, sum-ext, sum-split}
 use Rattle.sheets.specs.Reading.{got, field}
 use Rattle.sheets.specs.PercentageSheet.{Sheet, Head, Service, headFields, weightFields, sum, serviceFields, serviceLines, volumesOf, weightsOf, whole, sheetLines, readSheet}
 use Rattle.sheets.proofs.Readings.{not-got, got-same, unless-got, onField-got, then-got}

@@ -8,11 +8,12 @@ use borrow.Author.Tests.{ltb-true}
 use Rattle.numerals.specs.Text.{split}
 use Rattle.numerals.proofs.Decimal.{only-text}
 use Rattle.numerals.proofs.Suffix.{suffix-only}
-use Rattle.expansion.specs.Sums.{sumTo}
-use Rattle.expansion.proofs.Sums.{sum-one, sum-most, sum-zero}
+use Rattle.numerals.specs.Sums.{sumTo}
+use Rattle.numerals.proofs.Sums.{sum-one, sum-most, sum-zero}
 use Rattle.packing.specs.Count.{Line}
 use Rattle.sheets.specs.Reading.{got, field}
-use Rattle.sheets.specs.RuleSheet.{Table, totalLimit, countOf, tableFields, ruleFields, ruleLines, placed, wholeTable, tableLines, readTable, checkTable}
+use Rattle.sheets.specs.RuleSheet.{Table, countOf, tableFields, ruleFields, ruleLines, placed, wholeTable, tableLines, readTable, checkTable}
+use Rattle.numerals.specs.Limits.{totalLimit}
 use Rattle.sheets.specs.Behind.{line}
 use Rattle.sheets.proofs.Readings.{not-got, got-same, unless-got, onField-got, onSuffix-got, then-got}
 use Rattle.sheets.proofs.TableChecks.{Follows, InOrder, formed, is-formed, Proper, checked}

@@ -13,7 +13,8 @@ use Rattle.numerals.specs.declared.digits.Number.the-variants.{Value, Bad}
 use Rattle.numerals.specs.declared.refusal.Refusal.{Refusal}
 use Rattle.numerals.specs.declared.refusal.Refusal.the-variants.{Malformed, BadField, TooLong}
 use Rattle.sheets.specs.Reading.{Reading, got, turned, then, unless, onField}
-use Rattle.sheets.specs.PercentageSheet.{headFields, weightFields, sum, serviceFields, serviceLines, whole, sheetLines, textLimit, readSheet}
+use Rattle.sheets.specs.PercentageSheet.{headFields, weightFields, sum, serviceFields, serviceLines, whole, sheetLines, readSheet}
+use Rattle.numerals.specs.Limits.{textLimit}
 
 unfoldable pub behind : {A : Type 0} → List A → Reading (List A) → Reading (List A)
 behind done r = then r (λ xs. got (done ++ xs))

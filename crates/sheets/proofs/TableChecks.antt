@@ -11,7 +11,8 @@ use Rattle.numerals.specs.Pick.{both}
 use Rattle.numerals.proofs.Choice.{both-left, both-right}
 use Rattle.packing.specs.Count.{Line}
 use Rattle.sheets.specs.Reading.{got, then, unless}
-use Rattle.sheets.specs.RuleSheet.{Table, totalLimit, countOf, inOrder, placed, closed, isLine, checkLines, checkEnd, checkSheet, checkTable}
+use Rattle.sheets.specs.RuleSheet.{Table, countOf, inOrder, placed, closed, isLine, checkLines, checkEnd, checkSheet, checkTable}
+use Rattle.numerals.specs.Limits.{totalLimit}
 use Rattle.sheets.proofs.Readings.{got-same, unless-got, then-got}
 
 -- a rule line in its limits

@@ -14,8 +14,8 @@ use Rattle.expansion.specs.declared.call.Checked.the-variants.{Sound, Refused}
 use Rattle.numerals.specs.declared.refusal.Refusal.the-variants.{Malformed, BadField, Order, TooLong}
 use Rattle.packing.specs.Count.{Line}
 use Rattle.sheets.specs.Reading.{Reading, got, turned, then, unless}
-use Rattle.sheets.specs.PercentageSheet.{textLimit}
-use Rattle.sheets.specs.RuleSheet.{Table, totalLimit, closed, checkLines, checkEnd, checkSheet, checkTable}
+use Rattle.numerals.specs.Limits.{textLimit, totalLimit}
+use Rattle.sheets.specs.RuleSheet.{Table, closed, checkLines, checkEnd, checkSheet, checkTable}
 use Rattle.sheets.specs.Calls.{linesFrom, brokenFrom, handedText, tableHanded}
 use Rattle.sheets.specs.Rows.{Limited}
 use Rattle.sheets.specs.Writing.{linesIn, tableIn, CheckedAs, checkedFrom}

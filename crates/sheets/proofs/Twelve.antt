@@ -11,7 +11,7 @@ use Rattle.numerals.specs.Percentage.{fraction, atMostAll, percentOf, percentag
 use Rattle.numerals.specs.Digits.{lowest}
 use Rattle.numerals.specs.Suffix.{suffix, place}
 use Rattle.expansion.proofs.Cases.{worked-show, p6-one-suffix}
-use Rattle.expansion.specs.Answer.{unit}
+use Rattle.numerals.specs.Limits.{unit}
 use Rattle.packing.specs.Table.{granted}
 use Rattle.packing.proofs.Cases.{p7}
 use Rattle.sheets.specs.Reading.{onField}

@@ -11,9 +11,9 @@ use Rattle.numerals.specs.Percentage.{fraction, atMostAll, percentOf, percentag
 use Rattle.numerals.specs.Pick.{pick}
 use Rattle.numerals.specs.Suffix.{suffix, suffixText, place}
 use Rattle.numerals.specs.Text.{onto, split}
-use Rattle.expansion.specs.Answer.{unit}
+use Rattle.numerals.specs.Limits.{unit, textLimit, totalLimit}
 use Rattle.numerals.specs.Refusals.{no7}
-use Rattle.expansion.specs.Sums.{sumTo, countTo, allTo, firstTo, argmax, lastmax}
+use Rattle.numerals.specs.Sums.{sumTo, countTo, allTo, firstTo, argmax, lastmax}
 use Rattle.expansion.specs.FirstMatch.{matches, gives, share}
 use Rattle.expansion.specs.Imbalance.{backends, weight, has, wants, excess, shortfall, imbalance, giver, receiver, largestExcess, largestShortfall}
 use Rattle.expansion.specs.Steps.{firstRule, frame, isWithin, reduction, reductionAt, term, isNoGain, isWhole, termLength, lowestPlace, newRule, step, after, endOf, listOf, oldest, stair}
@@ -25,8 +25,8 @@ use Rattle.packing.specs.Answer.{linesMade, figuresTo, figuresMade, figuresBuff
 use Rattle.packing.specs.Demand.{Fitting}
 use Rattle.packing.specs.Cases.{line}
 use Rattle.sheets.specs.Reading.{Reading, got, turned, then, unless, onField, same}
-use Rattle.sheets.specs.PercentageSheet.{Sheet, headFields, weightFields, sum, serviceFields, serviceLines, volumesOf, weightsOf as rowsOf, whole, sheetLines, textLimit, readSheet}
-use Rattle.sheets.specs.RuleSheet.{Table, totalLimit, lineText, linesText, tableText, tableFields, onSuffix, countOf, inOrder, placed, ruleFields, ruleLines, closed, wholeTable, tableLines, readTable, isLine, checkLines, checkEnd, checkSheet, checkTable}
+use Rattle.sheets.specs.PercentageSheet.{Sheet, headFields, weightFields, sum, serviceFields, serviceLines, volumesOf, weightsOf as rowsOf, whole, sheetLines, readSheet}
+use Rattle.sheets.specs.RuleSheet.{Table, lineText, linesText, tableText, tableFields, onSuffix, countOf, inOrder, placed, ruleFields, ruleLines, closed, wholeTable, tableLines, readTable, isLine, checkLines, checkEnd, checkSheet, checkTable}
 use Rattle.sheets.specs.Calls.{refusedAt, servicesIn, tableFor, planOf, planAnswer, figuresFor, sheetText, printText, printRead}
 use Rattle.sheets.specs.Demand.{Demand3}
 use Rattle.sheets.specs.Cases.{bytes, cases}

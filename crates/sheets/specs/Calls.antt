@@ -7,8 +7,8 @@ use lib.ListN.{length, getD}
 use lib.Seq.{sets}
 use Rattle.numerals.specs.Pick.{pick, both}
 use Rattle.numerals.specs.Decimal.{decimal}
-use Rattle.expansion.specs.Sums.{countTo}
-use Rattle.expansion.specs.Answer.{unit}
+use Rattle.numerals.specs.Sums.{countTo}
+use Rattle.numerals.specs.Limits.{unit, textLimit}
 use Rattle.numerals.specs.declared.refusal.Refusal.{Refusal}
 use Rattle.numerals.specs.Refusals.{no7, no8, no11, no12}
 use Rattle.packing.specs.Grants.{total}
@@ -16,7 +16,7 @@ use Rattle.packing.specs.Count.{Line, Services, services, matchesLine}
 use Rattle.packing.specs.Table.{problem, granted}
 use Rattle.packing.specs.Answer.{linesMade, figuresMade, cells, noBuffer, figuresBuffer, tableBuffer}
 use Rattle.sheets.specs.Reading.{Reading, got, turned, then, unless}
-use Rattle.sheets.specs.PercentageSheet.{Sheet, readSheet, textLimit}
+use Rattle.sheets.specs.PercentageSheet.{Sheet, readSheet}
 use Rattle.sheets.specs.RuleSheet.{Table, tableWord, linesText, tableText, countOf, readTable, checkSheet}
 use Rattle.sheets.specs.declared.answer.Refused.{Refused}
 use Rattle.sheets.specs.declared.answer.Plan.{Plan}

@@ -4,7 +4,7 @@ use mathlib.Core.Path.{_≡_}
 use mathlib.Core.List.{List}
 use lib.ListN.{length, take}
 use Rattle.expansion.specs.Steps.{endOf}
-use Rattle.expansion.specs.Answer.{unit}
+use Rattle.numerals.specs.Limits.{unit}
 use Rattle.expansion.specs.declared.rule.Ended.the-variants.{NoGain}
 use Rattle.packing.specs.Grants.{Grants}
 use Rattle.packing.specs.Count.{counted, countedLargestExcess, countedLargestShortfall, ownRules}

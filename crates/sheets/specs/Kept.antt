@@ -7,7 +7,7 @@ use lib.ListN.{length, take, drop}
 use lib.Seq.{slice}
 use Rattle.numerals.specs.Pick.{pick}
 use Rattle.numerals.specs.Text.{split}
-use Rattle.expansion.specs.Answer.{unit}
+use Rattle.numerals.specs.Limits.{unit}
 use Rattle.numerals.specs.Refusals.{no3, no5, no6}
 use Rattle.sheets.specs.Reading.{Reading, got, turned, then, unless}
 use Rattle.sheets.specs.PercentageSheet.{Sheet, Service, headFields, weightFields, serviceFields, serviceLines, sum}

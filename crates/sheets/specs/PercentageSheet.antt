@@ -7,7 +7,7 @@ use lib.ListN.{length, drop}
 use Rattle.numerals.specs.Decimal.{number}
 use Rattle.numerals.specs.Percentage.{percentage}
 use Rattle.numerals.specs.Text.{split}
-use Rattle.expansion.specs.Answer.{unit}
+use Rattle.numerals.specs.Limits.{unit, textLimit}
 use Rattle.numerals.specs.Refusals.{no1, no3, no4, no5, no6, no11}
 use Rattle.sheets.specs.Reading.{Reading, got, turned, then, unless, onField, same, field}
 
@@ -96,10 +96,6 @@ unfoldable pub sheetLines : List (List ℕ) → Reading Sheet
 sheetLines [] = turned no1 1
 sheetLines (l ∷ []) = turned no1 1
 sheetLines (l ∷ m ∷ ls) = then (headFields (split 32 l)) (λ h. then (serviceLines 0 (m ∷ ls)) (whole h))
-
--- the limit of a text in bytes
-unfoldable pub textLimit : ℕ
-textLimit = 65536
 
 unfoldable pub readSheet : List ℕ → Reading Sheet
 readSheet text = unless (leb (length text) textLimit) no11 0 (sheetLines (split 10 text))

@@ -6,7 +6,7 @@ use mathlib.Core.List.{List, [], _∷_, reverse}
 use lib.Dec.{ltb, eqb}
 use lib.ListN.{length, getD, take}
 use Rattle.numerals.specs.Pick.{pick}
-use Rattle.expansion.specs.Sums.{countTo}
+use Rattle.numerals.specs.Sums.{countTo}
 use Rattle.numerals.specs.Refusals.{no8, no12}
 use Rattle.packing.specs.Count.{Line}
 use Rattle.packing.specs.Answer.{cells}

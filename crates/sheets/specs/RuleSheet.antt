@@ -14,17 +14,13 @@ use Rattle.expansion.specs.declared.rule.Rule.{Rule}
 use Rattle.numerals.specs.Refusals.{no1, no2, no4, no5, no9, no10, no11}
 use Rattle.packing.specs.Count.{Line}
 use Rattle.sheets.specs.Reading.{Reading, got, turned, then, unless, onField, same, field}
-use Rattle.sheets.specs.PercentageSheet.{textLimit}
+use Rattle.numerals.specs.Limits.{textLimit, totalLimit}
 
 -- what a rule sheet says; services and backends by their place from 0
 pub record Table : Type 0 where
   pub k : ℕ
   pub total : ℕ
   pub lines : List Line
-
--- the largest total
-unfoldable pub totalLimit : ℕ
-totalLimit = 2621440000000000
 
 -- TABLE
 abbrev pub tableWord : List ℕ

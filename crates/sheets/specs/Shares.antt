@@ -1,10 +1,10 @@
 -- The shares of a service of a rule sheet, by the count by first match (document 01, under that heading): what the call answers, and what it writes.
-use Prim.Native.Nat.{ℕ, zero, suc, _-_, _^_}
-use mathlib.Core.List.{List, [], _∷_, _++_}
+use Prim.Native.Nat.{ℕ, _-_, _^_}
+use mathlib.Core.List.{List}
 use lib.Dec.{leb}
 use lib.Seq.{sets}
 use Rattle.numerals.specs.Pick.{pick}
-use Rattle.expansion.specs.Sums.{countTo}
+use Rattle.numerals.specs.Sums.{countTo, listTo}
 use Rattle.numerals.specs.Refusals.{no7, no8}
 use Rattle.packing.specs.Count.{Line, givesLine}
 use Rattle.sheets.specs.Reading.{Reading, got, turned}
@@ -12,11 +12,6 @@ use Rattle.sheets.specs.RuleSheet.{Table, readTable}
 use Rattle.sheets.specs.Calls.{refusedAt, hasService}
 use Rattle.sheets.specs.declared.answer.Counted as counted
 use Rattle.sheets.specs.declared.answer.Counted.the-variants.{Shares, Refused}
-
--- f 0, f 1, .., f (n - 1)
-unfoldable pub listTo : ℕ → (ℕ → ℕ) → List ℕ
-listTo zero f = []
-listTo (suc n) f = listTo n f ++ f n ∷ []
 
 -- how many numbers below `all` the first matching line of service s gives to each of the 32 backends, services and backends by their place from 0
 unfoldable pub sharesBelow : ℕ → List Line → ℕ → List ℕ

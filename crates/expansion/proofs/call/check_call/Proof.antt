@@ -1,7 +1,7 @@
 -- `call::check_call` meets its contract: each of its tests is one of the definition's, in the same order.
 use mathlib.Core.Path.{sym, _∙_}
 use borrow.Author.Tests.{not-true, not-false}
-use Rattle.expansion.specs.Answer.{unit}
+use Rattle.numerals.specs.Limits.{unit}
 use Rattle.expansion.proofs.Checks.{call-bits, call-tolerance, call-budget, call-weights}
 use Rattle.expansion.proofs.call.check_call.Statement.{statement}
 use Rattle.expansion.proofs.call.check_call.Tie as tie

@@ -7,11 +7,12 @@ use native.Mathlib.Omega.{arith}
 use lib.Dec.{leb, eqb}
 use lib.ListN.{length, getD}
 use borrow.Author.Tests.{le-leb, eq-eqb, ne-eqb}
-use Rattle.expansion.specs.Sums.{sumTo, allTo}
-use Rattle.expansion.specs.Answer.{unit, orElse, checkWeights}
+use Rattle.numerals.specs.Sums.{sumTo, allTo}
+use Rattle.expansion.specs.Answer.{orElse, checkWeights}
+use Rattle.numerals.specs.Limits.{unit}
 use Rattle.numerals.specs.declared.refusal.Refusal.the-variants.{Unbalanced}
-use Rattle.expansion.proofs.Sums.{sum-suc}
-use Rattle.expansion.proofs.Searches.{true-both, all-suc}
+use Rattle.numerals.proofs.Sums.{sum-suc}
+use Rattle.numerals.proofs.Searches.{true-both, all-suc}
 use Rattle.expansion.proofs.Checks.{weights-none, weights-many, weights-over, weights-sum}
 use Rattle.expansion.proofs.call.check_weights.Statement.{statement}
 use Rattle.expansion.proofs.call.check_weights.Tie as tie

@@ -4,7 +4,7 @@ use mathlib.Core.Path.{sym}
 use native.Mathlib.Omega.{arith}
 use lib.Dec.{leb}
 use borrow.Author.Tests.{leb-true, le-leb, lt-leb}
-use Rattle.expansion.proofs.Searches.{same-test}
+use Rattle.numerals.proofs.Searches.{same-test}
 use Rattle.expansion.proofs.call.has_room.Statement.{statement}
 use Rattle.expansion.proofs.call.has_room.Tie as tie
 

@@ -7,7 +7,7 @@ use lib.Pow.{pow-pos}
 use borrow.Author.Needs.{needs}
 use Rattle.numerals.specs.Suffix.{place}
 use Rattle.expansion.specs.Kept.{Given, lowered, nodeOf}
-use Rattle.expansion.proofs.Powers.{pow-few, shifted}
+use Rattle.numerals.proofs.Powers.{pow-few, shifted}
 use Rattle.expansion.proofs.Count.{pow-split}
 use Rattle.expansion.proofs.holders.hand_over.Statement.{statement}
 use Rattle.expansion.proofs.holders.hand_over.Tie as tie

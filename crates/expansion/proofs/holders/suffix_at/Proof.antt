@@ -6,7 +6,7 @@ use native.Mathlib.Omega.{arith}
 use borrow.Author.Needs.{needs}
 use Rattle.numerals.specs.Suffix.{place}
 use Rattle.numerals.proofs.Place.{place-read}
-use Rattle.expansion.proofs.Powers.{pow-few}
+use Rattle.numerals.proofs.Powers.{pow-few}
 use Rattle.expansion.proofs.holders.suffix_at.Statement.{statement}
 use Rattle.expansion.proofs.holders.suffix_at.Tie as tie
 

@@ -7,9 +7,9 @@ use lib.Signed.{mag}
 use mir.Syntax.{w64}
 use mir.Val.{toZ}
 use borrow.Author.Needs.{needs}
-use Rattle.expansion.specs.Answer.{unit}
+use Rattle.numerals.specs.Limits.{unit}
 use Rattle.expansion.specs.Kept.{entryOf}
-use Rattle.expansion.proofs.Powers.{shifted}
+use Rattle.numerals.proofs.Powers.{shifted}
 use Rattle.expansion.proofs.Signed.{pos-less, mag-sub, back, plain, unit-few, parts-few, wants-few, parts-read}
 use Rattle.expansion.proofs.ledger.entry.Statement.{statement}
 use Rattle.expansion.proofs.ledger.entry.Tie as tie

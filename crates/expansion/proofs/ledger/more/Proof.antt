@@ -2,7 +2,7 @@
 use Prim.Native.Nat.{_*_}
 use lib.IntN.{pos, _+ℤ_}
 use borrow.Author.Needs.{needs}
-use Rattle.expansion.specs.Answer.{unit}
+use Rattle.numerals.specs.Limits.{unit}
 use Rattle.expansion.specs.Kept.{moreOf}
 use Rattle.expansion.proofs.Signed.{back, small-read, few-more, parts-read}
 use Rattle.expansion.proofs.ledger.more.Statement.{statement}

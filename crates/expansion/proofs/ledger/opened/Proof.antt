@@ -12,10 +12,10 @@ use lib.ListN.{length, getD, set, length-set}
 use lib.Seq.{getD-set-same, getD-set-other}
 use borrow.Author.Tests.{eq-eqb, ne-eqb}
 use Rattle.numerals.specs.Pick.{pick}
-use Rattle.expansion.specs.Answer.{unit}
+use Rattle.numerals.specs.Limits.{unit}
 use Rattle.expansion.specs.Kept.{noBackend, entryAt, entryOf}
 use Rattle.expansion.specs.declared.ledger.Backend.{Backend}
-use Rattle.expansion.proofs.Powers.{pow-few, shifted}
+use Rattle.numerals.proofs.Powers.{pow-few, shifted}
 use Rattle.expansion.proofs.ledger.opened.Statement.{statement}
 use Rattle.expansion.proofs.ledger.opened.Tie as tie
 

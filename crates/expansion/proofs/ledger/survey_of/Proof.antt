@@ -8,10 +8,10 @@ use lib.IntN.{ℤ, pos, negℤ, natAbs, _-ℤ_, +ℤ-idl}
 use lib.Signed.{mag, ltZ}
 use mir.Syntax.{w64}
 use mir.Val.{toZ, ofZ}
-use Rattle.expansion.specs.Sums.{sumTo}
+use Rattle.numerals.specs.Sums.{sumTo}
 use Rattle.expansion.specs.Kept.{over, under, Small, errorAt}
 use Rattle.expansion.specs.declared.ledger.Extreme.{Extreme}
-use Rattle.expansion.proofs.Sums.{sum-none, sum-next, sum-most}
+use Rattle.numerals.proofs.Sums.{sum-none, sum-next, sum-most}
 use Rattle.expansion.proofs.Signed.{over-mag, mag-neg, above, below-zero, back, small-read}
 use Rattle.expansion.proofs.Surveys.{top, top-none, top-raised, top-zero, top-largest}
 use Rattle.expansion.proofs.ledger.survey_of.Statement.{statement}

@@ -5,12 +5,12 @@ use mathlib.Core.Path.{_≡_, refl, sym, _∙_}
 use native.Mathlib.Omega.{arith}
 use lib.ListN.{length}
 use borrow.Author.Needs.{needs}
-use Rattle.expansion.specs.Answer.{unit}
+use Rattle.numerals.specs.Limits.{unit}
 use Rattle.expansion.specs.Steps.{frame, newRule, after}
 use Rattle.expansion.specs.Kept.{Small, errorAt, nextFor}
 use Rattle.expansion.specs.declared.rule.Move.{Move}
 use Rattle.expansion.specs.declared.run.Next.the-variants.{Go}
-use Rattle.expansion.proofs.Powers.{pow-few, shifted}
+use Rattle.numerals.proofs.Powers.{pow-few, shifted}
 use Rattle.expansion.proofs.Ready.{Ready, movedBy, next-fewer}
 use Rattle.expansion.proofs.Surveys.{surveyed-sized, surveyed-next}
 use Rattle.expansion.proofs.Standing.{small, ready-go, index-falls, adds-rule, stands-moved}

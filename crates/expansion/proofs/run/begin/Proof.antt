@@ -4,7 +4,7 @@ use mathlib.Core.Path.{refl, _∙_}
 use native.Mathlib.Omega.{arith}
 use lib.ListN.{length}
 use borrow.Author.Needs.{needs}
-use Rattle.expansion.specs.Answer.{unit}
+use Rattle.numerals.specs.Limits.{unit}
 use Rattle.expansion.specs.Steps.{firstRule, frame}
 use Rattle.expansion.specs.Kept.{Small, errorAt, Keeps}
 use Rattle.expansion.proofs.Checks.{each-weight}

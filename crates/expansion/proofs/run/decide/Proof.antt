@@ -12,15 +12,15 @@ use mir.Val.{toZ, ofZ}
 use borrow.Author.Needs.{needs}
 use borrow.Author.Tests.{leb-true, leb-false, eq-eqb, ne-eqb}
 use Rattle.numerals.specs.Pick.{pick, both}
-use Rattle.expansion.specs.Answer.{unit}
-use Rattle.expansion.specs.Sums.{lastmax}
+use Rattle.numerals.specs.Limits.{unit}
+use Rattle.numerals.specs.Sums.{lastmax}
 use Rattle.expansion.specs.Steps.{reduction}
 use Rattle.expansion.specs.Kept.{over, Sized, Best, nextFor}
 use Rattle.expansion.specs.declared.rule.Ended.the-variants.{Within, NoGain}
 use Rattle.expansion.specs.declared.ledger.Extreme.{Extreme}
 use Rattle.expansion.specs.declared.run.Next.{Next}
 use Rattle.expansion.specs.declared.run.Next.the-variants.{Stop, Go}
-use Rattle.expansion.proofs.Powers.{shifted}
+use Rattle.numerals.proofs.Powers.{shifted}
 use Rattle.expansion.proofs.Reduction.{reduction-le}
 use Rattle.expansion.proofs.Signed.{back, plain, wants-few}
 use Rattle.expansion.proofs.run.decide.Statement.{statement}

@@ -5,8 +5,8 @@ use mathlib.Core.Path.{_≡_, sym, ap, _∙_}
 use native.Mathlib.Numerals.{add-one}
 use native.Mathlib.Omega.{arith}
 use lib.ListN.{length, getD}
-use Rattle.expansion.specs.Sums.{argmax}
-use Rattle.expansion.proofs.Searches.{argmax-one, argmax-higher, argmax-kept}
+use Rattle.numerals.specs.Sums.{argmax}
+use Rattle.numerals.proofs.Searches.{argmax-one, argmax-higher, argmax-kept}
 use Rattle.expansion.proofs.run.heaviest.Statement.{statement}
 use Rattle.expansion.proofs.run.heaviest.Tie as tie
 

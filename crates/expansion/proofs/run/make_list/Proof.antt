@@ -6,7 +6,7 @@ use lib.ListN.{length, set, replicate, length-set, length-replicate}
 use borrow.Author.Needs.{needs}
 use Rattle.expansion.specs.Imbalance.{imbalance}
 use Rattle.expansion.specs.Steps.{frame, after}
-use Rattle.expansion.specs.Answer.{unit}
+use Rattle.numerals.specs.Limits.{unit}
 use Rattle.expansion.specs.Kept.{Stands, Adds, Listed}
 use Rattle.expansion.specs.declared.list.RuleList.{RuleList}
 use Rattle.expansion.specs.declared.run.Next.the-variants.{Go}

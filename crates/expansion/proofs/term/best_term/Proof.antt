@@ -14,12 +14,12 @@ use mir.Syntax.{w64}
 use mir.Val.{toZ, ofZ}
 use borrow.Author.Needs.{needs}
 use borrow.Author.Tests.{leb-true, leb-false}
-use Rattle.expansion.specs.Answer.{unit}
+use Rattle.numerals.specs.Limits.{unit}
 use Rattle.expansion.specs.Steps.{reduction}
 use Rattle.expansion.specs.Kept.{over, Best}
-use Rattle.expansion.proofs.Powers.{pow-few, shifted}
+use Rattle.numerals.proofs.Powers.{pow-few, shifted}
 use Rattle.expansion.proofs.Reduction.{reduction-term}
-use Rattle.expansion.proofs.Searches.{Led, led-start, led-higher, led-kept, led-end}
+use Rattle.numerals.proofs.Searches.{Led, led-start, led-higher, led-kept, led-end}
 use Rattle.expansion.proofs.Signed.{back, plain, parts-few, term-read}
 use Rattle.expansion.proofs.term.best_term.Statement.{statement}
 use Rattle.expansion.proofs.term.best_term.Tie as tie

@@ -7,6 +7,7 @@ use mathlib.Core.Path.{_≡_, sym, ap, _∙_}
 use lib.ListN.{length}
 use lib.Seq.{slice, length-slice}
 use borrow.Author.Needs.{needs}
+use Rattle.numerals.specs.Limits.{decimals}
 use Rattle.numerals.specs.Digits.{readDigits, onValue}
 use Rattle.numerals.specs.Percentage.{fraction}
 use Rattle.numerals.specs.declared.digits.Number.the-variants.{Value}
@@ -19,7 +20,7 @@ use Rattle.numerals.proofs.percentages.read_fraction.Tie as tie
 returns : tie.Need-returns
 returns c =
     let a = c .before .before .args in
-    sym (ap (fraction 4) (slice-none (a .from) (a .to) (a .s .now) (omega arith)) ∙ fraction-none 4)
+    sym (ap (fraction decimals) (slice-none (a .from) (a .to) (a .s .now) (omega arith)) ∙ fraction-none decimals)
 
 sub-if2 : tie.Need-sub-if2
 sub-if2 c = search needs
@@ -27,7 +28,7 @@ sub-if2 c = search needs
 returns-2 : tie.Need-returns-2
 returns-2 c =
     let a = c .before .before .before .args in
-    sym (fraction-long 4 _ (omega (arith, length-slice (a .from) (a .to) (a .s .now) (c .before .before .before .pre))))
+    sym (fraction-long decimals _ (omega (arith, length-slice (a .from) (a .to) (a .s .now) (c .before .before .before .pre))))
 
 read-digits-requires : tie.Need-read-digits-requires
 read-digits-requires c κs = search needs
@@ -35,14 +36,14 @@ read-digits-requires c κs = search needs
 whole :
     (c : tie.After-read-digits)
     → let a = c .before .before .before .before .args in
-    fraction 4 (slice (a .from) (a .to) (a .s .now)) ≡ onValue (c .read-digits .result) (λ v. Value (v * 10 ^ (4 - (a .to - a .from))))
+    fraction decimals (slice (a .from) (a .to) (a .s .now)) ≡ onValue (c .read-digits .result) (λ v. Value (v * 10 ^ (decimals - (a .to - a .from))))
 whole c =
     let a = c .before .before .before .before .args in
     let part = slice (a .from) (a .to) (a .s .now) in
     let l : length part ≡ a .to - a .from = length-slice _ _ _ (c .before .before .before .before .pre) in
-    fraction-read 4 part (omega arith) (omega arith)
-    ∙ ap (λ k. onValue (readDigits 10 9999 part) (λ v. Value (v * 10 ^ (4 - k)))) l
-    ∙ ap (λ r. onValue r (λ v. Value (v * 10 ^ (4 - (a .to - a .from))))) (sym (c .read-digits .ensures))
+    fraction-read decimals part (omega arith) (omega arith)
+    ∙ ap (λ k. onValue (readDigits 10 (10 ^ decimals - 1) part) (λ v. Value (v * 10 ^ (decimals - k)))) l
+    ∙ ap (λ r. onValue r (λ v. Value (v * 10 ^ (decimals - (a .to - a .from))))) (sym (c .read-digits .ensures))
 
 enum-known-read : tie.Need-enum-known-read
 enum-known-read c = search needs
@@ -64,8 +65,8 @@ mul-t9 : tie.Need-mul-t9
 mul-t9 c =
     let a = c .before .before .before .before .before .before .before .before .args in
     let r = c .before .before .before .before in
-    let v : c .before .before .read .given .0 .0 ≤ 9999 = read-limit 10 9999 _ (slice (a .from) (a .to) (a .s .now)) (sym (r .read-digits .ensures) ∙ c .before .before .read .given .1) in
-    let w : c .worth .result ≤ 10000 = le-trans (le-of-eq (c .worth .ensures)) (pow-le-pow-right {n = 10} (omega arith) {j = 4} (omega arith)) in
+    let v : c .before .before .read .given .0 .0 ≤ (10 ^ decimals - 1) = read-limit 10 (10 ^ decimals - 1) _ (slice (a .from) (a .to) (a .s .now)) (sym (r .read-digits .ensures) ∙ c .before .before .read .given .1) in
+    let w : c .worth .result ≤ 10 ^ decimals = le-trans (le-of-eq (c .worth .ensures)) (pow-le-pow-right {n = 10} (omega arith) {j = decimals} (omega arith)) in
     omega (arith, mul-le-mul v w)
 
 returns-4 : tie.Need-returns-4

@@ -1,10 +1,11 @@
 -- `percentages::read_percentage` meets its contract: the number before the dot, and the fraction between it and the end where there is no second dot.
 -- Assumes nothing.
-use Prim.Native.Nat.{_+_, _*_}
+use Prim.Native.Nat.{_+_, _*_, _^_}
 use native.Mathlib.Omega.{arith}
 use mathlib.Core.Path.{_≡_, sym, ap, _∙_}
 use lib.Seq.{slice}
 use borrow.Author.Needs.{needs}
+use Rattle.numerals.specs.Limits.{decimals}
 use Rattle.numerals.specs.Digits.{onValue}
 use Rattle.numerals.specs.Decimal.{number}
 use Rattle.numerals.specs.Percentage.{fraction, atMostAll, percentage}
@@ -34,10 +35,10 @@ enum-told c = search needs
 -- the part that is read ends with the text
 part :
     (c : tie.After-least)
-    → let a = c .before .before .args in percentage 4 (slice (a .from) (a .to) (a .s .now)) ≡ percentage 4 (slice (a .from) (c .least .result) (a .s .now))
+    → let a = c .before .before .args in percentage decimals (slice (a .from) (a .to) (a .s .now)) ≡ percentage decimals (slice (a .from) (c .least .result) (a .s .now))
 part c =
     let a = c .before .before .args in
-    ap (percentage 4) (slice-end (a .from) (a .to) (c .least .result) (a .s .now) (c .least .ensures))
+    ap (percentage decimals) (slice-end (a .from) (a .to) (c .least .result) (a .s .now) (c .least .ensures))
 
 -- the number before the dot
 before-dot :
@@ -54,7 +55,7 @@ returns c =
     let a = l .before .before .args in
     sym
     (part l
-    ∙ percent-bad 4 (a .from) (l .least .result) (f .find .result) (a .s .now) (omega arith) (f .find .ensures)
+    ∙ percent-bad decimals (a .from) (l .least .result) (f .find .result) (a .s .now) (omega arith) (f .find .ensures)
     (sym (c .before .before .read-number .ensures) ∙ c .enum-told .given .1))
 
 mul-at-most-all : tie.Need-mul-at-most-all
@@ -67,21 +68,21 @@ at-most-all-requires c κs = search needs
 no-dot :
     (c : tie.Then1)
     → let a = c .before .before .before .before .before .before .before .before .args in
-    percentage 4 (slice (a .from) (a .to) (a .s .now)) ≡ atMostAll 4 (c .before .before .whole .given .0 .0 * 10000)
+    percentage decimals (slice (a .from) (a .to) (a .s .now)) ≡ atMostAll decimals (c .before .before .whole .given .0 .0 * 10 ^ decimals)
 unfolding onValue
 no-dot c =
     let f = c .before .before .before .before .before in
     let l = f .before in
     let a = l .before .before .args in
     part l
-    ∙ percent-last 4 (a .from) (l .least .result) (f .find .result) (a .s .now) (omega arith) (f .find .ensures) (c .if1 .taken)
+    ∙ percent-last decimals (a .from) (l .least .result) (f .find .result) (a .s .now) (omega arith) (f .find .ensures) (c .if1 .taken)
     ∙ rw (before-dot (c .before))
 
 dot :
     (c : tie.After-read-fraction)
     → let a = c .before .before .before .before .before .before .before .before .before .before .before .args in
-    percentage 4 (slice (a .from) (a .to) (a .s .now))
-    ≡ onValue (c .read-fraction .result) (λ u. atMostAll 4 (c .before .before .before .before .before .whole .given .0 .0 * 10000 + u))
+    percentage decimals (slice (a .from) (a .to) (a .s .now))
+    ≡ onValue (c .read-fraction .result) (λ u. atMostAll decimals (c .before .before .before .before .before .whole .given .0 .0 * 10 ^ decimals + u))
 unfolding onValue
 dot c =
     let n = c .before .before in
@@ -89,7 +90,7 @@ dot c =
     let l = f .before in
     let a = l .before .before .args in
     part l
-    ∙ percent-cut 4 (a .from) (l .least .result) (f .find .result) (a .s .now) (omega arith) (f .find .ensures)
+    ∙ percent-cut decimals (a .from) (l .least .result) (f .find .result) (a .s .now) (omega arith) (f .find .ensures)
     (n .find2 .result) (n .before .if1 .left) (n .find2 .ensures) (omega (arith, c .before .if2 .left))
     ∙ rw (before-dot (n .before .before), c .read-fraction .ensures)
 
@@ -111,7 +112,7 @@ returns-3 c =
     let a = l .before .before .args in
     sym
     (part l
-    ∙ percent-two 4 (a .from) (l .least .result) (f .find .result) (a .s .now) (omega arith) (f .find .ensures)
+    ∙ percent-two decimals (a .from) (l .least .result) (f .find .result) (a .s .now) (omega arith) (f .find .ensures)
     (n .find2 .result) (n .before .if1 .left) (n .find2 .ensures) (omega (arith, c .if2 .taken)))
 
 add-read-fraction : tie.Need-add-read-fraction
@@ -142,7 +143,7 @@ add-at-most-all : tie.Need-add-at-most-all
 add-at-most-all c =
     let r = c .before .before .before in
     omega
-    (arith, only-text 0 999 _ _ (before-dot (r .before .before .before .before)) .high, fraction-below 4 _ _ (sym (r .read-fraction .ensures) ∙ c .before .fraction .given .1))
+    (arith, only-text 0 999 _ _ (before-dot (r .before .before .before .before)) .high, fraction-below decimals _ _ (sym (r .read-fraction .ensures) ∙ c .before .fraction .given .1))
 
 at-most-all-requires-2 : tie.Need-at-most-all-requires-2
 at-most-all-requires-2 c κs = search needs

@@ -3,6 +3,7 @@
 use Prim.Native.Nat.{_-_}
 use native.Mathlib.Omega.{arith}
 use mathlib.Core.Path.{_≡_}
+use Rattle.numerals.specs.Limits.{decimals}
 use Rattle.numerals.proofs.percentages.worth.Statement.{statement}
 use Rattle.numerals.proofs.percentages.worth.Tie as tie
 
@@ -20,7 +21,7 @@ returns-4 c = rw (c .match .keys4)
 
 returns-5 : tie.Need-returns-5
 returns-5 c =
-    let none : 4 - c .before .args .n ≡ 0 = omega (arith, c .match .rest .1, c .match .rest .0 .1, c .match .rest .0 .0 .1, c .match .rest .0 .0 .0 .1) in
+    let none : decimals - c .before .args .n ≡ 0 = omega (arith, c .match .rest .1, c .match .rest .0 .1, c .match .rest .0 .0 .1, c .match .rest .0 .0 .0 .1) in
     rw none
 
 pub worth-spec : {M : Type 1} → statement M

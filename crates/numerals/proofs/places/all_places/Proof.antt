@@ -2,6 +2,7 @@
 use mathlib.Core.Path.{refl}
 use mathlib.Core.List.{List}
 use Prim.Native.Nat.{ℕ}
+use Rattle.numerals.specs.Limits.{mostBits}
 use Rattle.numerals.specs.Digits.{lowest, value, valueFrom}
 use Rattle.numerals.specs.Suffix.{place}
 use Rattle.numerals.proofs.Table.{at}
@@ -16,7 +17,7 @@ table c = lts.m2 reads.Pre reads.Post (c .args) .0
 
 returns : tie.Need-returns
 unfolding place lowest value valueFrom
-returns c = record { long = refl; at = at (place 12) (table c) refl }
+returns c = record { long = refl; at = at (place mostBits) (table c) refl }
 
 pub all-places-spec : {M : Type 1} → statement M
 all-places-spec = tie.close (tie.spec returns)

@@ -1,17 +1,12 @@
 -- `suffixes::is_suffix` meets its contract: one test after the other.
-use mathlib.Core.Path.{_≡_, _∙_}
-use Prim.Native.Nat.{ℕ, _*_, _%_, _^_, _≤_}
-use native.Mathlib.Nat.{one-mul}
+use Prim.Native.Nat.{_≤_}
 use native.Mathlib.Omega.{arith}
-use lib.Dec.{lit<}
-use lib.Pow.{shl-exact}
 use borrow.Author.Tests.{le-leb, lt-leb}
-use Rattle.numerals.specs.Suffix.{mostBits, isSuffix}
+use Rattle.numerals.specs.Suffix.{isSuffix}
+use Rattle.numerals.specs.Limits.{mostBits}
+use Rattle.numerals.proofs.Powers.{shifted}
 use Rattle.numerals.proofs.suffixes.is_suffix.Statement.{statement}
 use Rattle.numerals.proofs.suffixes.is_suffix.Tie as tie
-
-shifted : (l : ℕ) → l ≤ mostBits → (1 * 2 ^ l) % 2 ^ 64 ≡ 2 ^ l
-shifted l h = shl-exact 1 l 64 (lit< tt) (omega arith) ∙ one-mul (2 ^ l)
 
 returns : tie.Need-returns
 unfolding isSuffix

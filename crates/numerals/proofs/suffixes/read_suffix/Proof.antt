@@ -5,6 +5,7 @@ use native.Mathlib.Omega.{arith}
 use lib.ListN.{length}
 use lib.Seq.{slice}
 use borrow.Author.Needs.{needs}
+use Rattle.numerals.specs.Limits.{mostSuffixes}
 use Rattle.numerals.specs.Digits.{readDigits}
 use Rattle.numerals.specs.Suffix.{suffix}
 use Rattle.numerals.proofs.Slice.{slice-more, slice-none, slice-length, slice-end}
@@ -71,7 +72,7 @@ whole c =
     sym (slice-end (a .from + 1) (a .to) (least .result) (a .s .now) (least .ensures)) in
     ap (suffix (a .k)) (slice-more (a .from) (a .to) (a .s .now) (omega arith) (omega arith))
     ∙ suffix-bits (a .k) _ bits (two .before .if1 .left) (two .if2 .left) (c .before .before .if4 .left) (omega arith)
-    ∙ ap₂ onBits long (sym (c .read-digits .ensures ∙ ap (readDigits 2 4095) same))
+    ∙ ap₂ onBits long (sym (c .read-digits .ensures ∙ ap (readDigits 2 (mostSuffixes - 1)) same))
 
 enum-known-read : tie.Need-enum-known-read
 enum-known-read c = search needs

@@ -6,7 +6,8 @@ use native.Mathlib.Nat.{lt-of-lt-of-le}
 use lib.Pow.{pow-mono}
 use borrow.Author.Needs.{needs}
 use borrow.Author.Tests.{not-true, not-false}
-use Rattle.numerals.specs.Suffix.{mostBits, isSuffix, suffixPlace}
+use Rattle.numerals.specs.Suffix.{isSuffix, suffixPlace}
+use Rattle.numerals.specs.Limits.{mostBits}
 use Rattle.numerals.specs.declared.digits.Number.the-variants.{Value}
 use Rattle.numerals.proofs.Place.{place-first}
 use Rattle.numerals.proofs.Suffix.{Limits, suffix-limits}

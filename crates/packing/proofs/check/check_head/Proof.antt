@@ -1,6 +1,7 @@
 -- `check::check_head` meets its contract: each of its tests is one of the definition's, in the same order.
 use borrow.Author.Tests.{le-leb, lt-leb}
-use Rattle.expansion.specs.Answer.{unit, inLimits}
+use Rattle.expansion.specs.Answer.{inLimits}
+use Rattle.numerals.specs.Limits.{unit}
 use Rattle.packing.specs.Answer.{checkHead}
 use Rattle.packing.proofs.check.check_head.Statement.{statement}
 use Rattle.packing.proofs.check.check_head.Tie as tie

@@ -5,7 +5,7 @@ use mathlib.Core.Path.{_≡_, refl, ap, _∙_}
 use native.Mathlib.Omega.{arith}
 use native.Mathlib.Numerals.{add-one}
 use lib.ListN.{length, getD}
-use Rattle.expansion.specs.Sums.{sumTo}
+use Rattle.numerals.specs.Sums.{sumTo}
 use Rattle.packing.specs.Stored.{storedTotal, Payable}
 use Rattle.packing.proofs.Payable.{cost-small}
 use Rattle.packing.proofs.grants.total_cost.Statement.{statement}

@@ -6,7 +6,7 @@ use native.Mathlib.Numerals.{add-one}
 use native.Mathlib.Omega.{arith}
 use lib.ListN.{length, getD}
 use lib.Seq.{sets}
-use Rattle.expansion.specs.Sums.{sumTo}
+use Rattle.numerals.specs.Sums.{sumTo}
 use Rattle.packing.specs.Stored.{storedTable}
 use Rattle.packing.proofs.Stores.{sum-before, table-more}
 use Rattle.packing.proofs.output.write_table.Statement.{statement}

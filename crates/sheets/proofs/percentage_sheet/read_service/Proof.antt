@@ -9,7 +9,7 @@ use lib.Seq.{slice, take-suc-set}
 use borrow.Author.Needs.{needs}
 use borrow.Author.Tests.{eq-eqb, ne-eqb}
 use Rattle.numerals.specs.Text.{split}
-use Rattle.expansion.specs.Answer.{unit}
+use Rattle.numerals.specs.Limits.{unit}
 use Rattle.sheets.specs.Reading.{then, unless}
 use Rattle.sheets.specs.Kept.{Opened, Weighed}
 use Rattle.sheets.proofs.percentage_sheet.read_service.Statement.{statement}

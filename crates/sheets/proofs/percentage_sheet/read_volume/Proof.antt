@@ -10,7 +10,7 @@ use borrow.Author.Needs.{needs}
 use borrow.Author.Tests.{lt-ltb, le-ltb, lt-leb, le-leb, not-true, not-false}
 use Rattle.numerals.specs.Decimal.{number}
 use Rattle.numerals.specs.Text.{split}
-use Rattle.expansion.specs.Answer.{unit}
+use Rattle.numerals.specs.Limits.{unit}
 use Rattle.numerals.specs.declared.refusal.Refusal.the-variants.{Unbalanced}
 use Rattle.sheets.specs.Reading.{got, then, same, field, unless, onField}
 use Rattle.sheets.specs.PercentageSheet.{serviceWord, weightFields, sum, serviceFields}

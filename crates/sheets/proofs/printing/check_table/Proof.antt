@@ -8,8 +8,7 @@ use lib.ListN.{length}
 use lib.Seq.{slice, take-all}
 use borrow.Author.Tests.{lt-leb}
 use Rattle.numerals.proofs.Choice.{both-false}
-use Rattle.sheets.specs.PercentageSheet.{textLimit}
-use Rattle.sheets.specs.RuleSheet.{totalLimit}
+use Rattle.numerals.specs.Limits.{textLimit, totalLimit}
 use Rattle.sheets.specs.Calls.{handedText}
 use Rattle.sheets.specs.Writing.{counted}
 use Rattle.sheets.proofs.TableHanded.{handed-long, handed-bits, handed-count, handed-total, handed-lines}

@@ -2,7 +2,7 @@
 use Prim.Native.Nat.{_^_, _≤_, _<_}
 use native.Mathlib.Omega.{arith}
 use borrow.Author.Tests.{lt-ltb, le-ltb, le-leb, lt-leb}
-use Rattle.expansion.proofs.Powers.{shifted}
+use Rattle.numerals.proofs.Powers.{shifted}
 use Rattle.sheets.specs.RuleSheet.{isLine}
 use Rattle.sheets.proofs.printing.is_line.Statement.{statement}
 use Rattle.sheets.proofs.printing.is_line.Tie as tie

@@ -1,6 +1,6 @@
 -- `rule_sheet::read_sheet_lines` meets its contract: each return by line 1, or by what the lines behind it come to.
 use mathlib.Core.Path.{sym, ap, _∙_}
-use Rattle.sheets.specs.PercentageSheet.{textLimit}
+use Rattle.numerals.specs.Limits.{textLimit}
 use Rattle.sheets.specs.Rows.{sheetAnswer}
 use Rattle.sheets.proofs.Reader.{read-long, read-cut, read-turned, read-got, turned-back}
 use borrow.Author.Needs.{needs}

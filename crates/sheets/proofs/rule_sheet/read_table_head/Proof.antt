@@ -7,7 +7,8 @@ use borrow.Author.Tests.{eq-eqb, ne-eqb, not-true, not-false}
 use Rattle.numerals.specs.Decimal.{number}
 use Rattle.numerals.specs.Text.{split}
 use Rattle.sheets.specs.Reading.{Reading, got, same, field, unless, onField}
-use Rattle.sheets.specs.RuleSheet.{TableHead, totalLimit, tableWord, tableFields}
+use Rattle.sheets.specs.RuleSheet.{TableHead, tableWord, tableFields}
+use Rattle.numerals.specs.Limits.{totalLimit}
 use borrow.Author.Needs.{needs}
 use Rattle.sheets.proofs.rule_sheet.read_table_head.Statement.{statement}
 use Rattle.sheets.proofs.rule_sheet.read_table_head.Tie as tie

@@ -8,7 +8,7 @@ use lib.Seq.{sets}
 use borrow.Author.Tests.{lt-ltb, lt-leb, le-leb}
 use Rattle.numerals.specs.Pick.{pick}
 use Rattle.numerals.specs.declared.refusal.Refusal.the-variants.{ShortLoan, UnknownService}
-use Rattle.expansion.proofs.Powers.{shifted}
+use Rattle.numerals.proofs.Powers.{shifted}
 use Rattle.sheets.specs.Calls.{refusedAt}
 use Rattle.sheets.specs.Shares.{countIn, countAnswer}
 use Rattle.sheets.specs.declared.answer.Counted.the-variants.{Shares, Refused}

@@ -3,7 +3,7 @@ use Prim.Native.Nat.{_-_, _≤_}
 use mathlib.Core.Path.{_≡_, _∙_}
 use mathlib.Core.Logic.{⊎-elim}
 use native.Mathlib.Omega.{arith}
-use Rattle.expansion.proofs.Sums.{count-le}
+use Rattle.numerals.proofs.Sums.{count-le}
 use Rattle.packing.specs.Count.{givesLine}
 use Rattle.sheets.specs.Writing.{linesIn}
 use Rattle.sheets.specs.Calls.{firstBackend}

@@ -5,7 +5,7 @@ use mathlib.Core.Bool.{true, false}
 use native.Mathlib.Omega.{arith}
 use lib.Dec.{ltb}
 use borrow.Author.Tests.{le-ltb, lt-ltb, eq-eqb, ne-eqb}
-use Rattle.expansion.proofs.Powers.{shifted}
+use Rattle.numerals.proofs.Powers.{shifted}
 use Rattle.sheets.specs.Writing.{linesIn}
 use Rattle.sheets.specs.Rows.{movedOf, comparedOf}
 use Rattle.sheets.specs.declared.answer.Churned.the-variants.{Moved, Refused}

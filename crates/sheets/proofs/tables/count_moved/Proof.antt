@@ -8,8 +8,8 @@ use native.Mathlib.Numerals.{add-one}
 use native.Mathlib.Omega.{arith}
 use lib.Dec.{eqb}
 use borrow.Author.Tests.{eq-eqb, ne-eqb}
-use Rattle.expansion.specs.Sums.{countTo}
-use Rattle.expansion.proofs.Sums.{sum-none, count-suc, count-le}
+use Rattle.numerals.specs.Sums.{countTo}
+use Rattle.numerals.proofs.Sums.{sum-none, count-suc, count-le}
 use Rattle.sheets.specs.Writing.{linesIn}
 use Rattle.sheets.specs.Rows.{firstOf, movedOf}
 use Rattle.sheets.proofs.tables.count_moved.Statement.{statement}

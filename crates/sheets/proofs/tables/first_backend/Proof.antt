@@ -9,7 +9,7 @@ use lib.Pow.{pow-pos}
 use lib.Seq.{slice}
 use mir.Syntax.{w64}
 use mir.Val.{Fits}
-use Rattle.expansion.proofs.Powers.{shifted}
+use Rattle.numerals.proofs.Powers.{shifted}
 use Rattle.packing.specs.Count.{Line}
 use Rattle.sheets.specs.Calls.{linesFrom}
 use Rattle.sheets.specs.Writing.{linesIn}

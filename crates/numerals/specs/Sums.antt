@@ -1,13 +1,19 @@
 -- Sums, counts and searches over the numbers below n.
 use Prim.Native.Nat.{ℕ, zero, suc, _+_}
 use mathlib.Core.Bool.{Bool, true}
+use mathlib.Core.List.{List, [], _∷_, _++_}
 use lib.Dec.{leb, ltb}
 use Rattle.numerals.specs.Pick.{pick, both}
 
 -- f 0 + f 1 + .. + f (n - 1)
 unfoldable pub sumTo : ℕ → (ℕ → ℕ) → ℕ
 sumTo zero f = 0
 sumTo (suc n) f = sumTo n f + f n
+
+-- f 0, f 1, .., f (n - 1)
+unfoldable pub listTo : ℕ → (ℕ → ℕ) → List ℕ
+listTo zero f = []
+listTo (suc n) f = listTo n f ++ f n ∷ []
 
 -- how many numbers below n pass the test
 unfoldable pub countTo : ℕ → (ℕ → Bool) → ℕ

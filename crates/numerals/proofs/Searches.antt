@@ -6,8 +6,8 @@ use native.Mathlib.Decide.{ℕ-discrete, decLt}
 use native.Mathlib.Omega.{arith}
 use lib.Dec.{ltb}
 use borrow.Author.Tests.{ltb-true, ltb-false, lt-ltb, le-ltb, le-leb, lt-leb}
 use Rattle.numerals.specs.Pick.{pick, both}
-use Rattle.expansion.specs.Sums.{allTo, firstTo, argmax, lastmax}
+use Rattle.numerals.specs.Sums.{allTo, firstTo, argmax, lastmax}
 
 -- two tests at once
 

@@ -1,0 +1,45 @@
+-- The unit and the limits (document 01, "Units and limits" and "Rule sheet and program"), each named once. `src/limits.rt` has the same names as constants.
+use Prim.Native.Nat.{ℕ}
+
+-- k, and the bits of a suffix
+abbrev pub mostBits : ℕ
+mostBits = 12
+
+-- the suffixes of so many bits: 2 ^ mostBits
+abbrev pub mostSuffixes : ℕ
+mostSuffixes = 4096
+
+-- backends of a service; they are labelled from 1
+abbrev pub mostBackends : ℕ
+mostBackends = 32
+
+-- services; they are numbered from 1
+abbrev pub mostServices : ℕ
+mostServices = 64
+
+-- rules of one service, and the budget of a list
+abbrev pub mostRules : ℕ
+mostRules = 32
+
+-- the capacity C, and the rules of a table
+abbrev pub mostCapacity : ℕ
+mostCapacity = 2048
+
+abbrev pub mostVolume : ℕ
+mostVolume = 10000
+
+-- digits behind the dot of a percentage
+abbrev pub decimals : ℕ
+decimals = 4
+
+-- the sum of a service's weights, 100 percent in parts of 10 ^ decimals: millionths
+unfoldable pub unit : ℕ
+unit = 1000000
+
+-- a text in bytes
+unfoldable pub textLimit : ℕ
+textLimit = 65536
+
+-- the total of a table
+unfoldable pub totalLimit : ℕ
+totalLimit = 2621440000000000
