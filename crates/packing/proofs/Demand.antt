@@ -6,8 +6,7 @@ use mathlib.Core.List.{List}
 use native.Mathlib.Omega.{arith}
 use lib.ListN.{length}
 use Rattle.numerals.specs.Pick.{pick}
-use Rattle.expansion.specs.Imbalance.{Frame}
-use Rattle.expansion.specs.Steps.{frame, isWithin, isNoGain, endOf, listOf}
+use Rattle.expansion.specs.Steps.{frame, isWithin, isNoGain, endOf, listOf, Frame}
 use Rattle.expansion.specs.Sound.{Sound}
 use Rattle.expansion.specs.declared.rule.Rule.{Rule}
 use Rattle.expansion.specs.declared.rule.Ended.the-variants.{Within, NoGain, Budget}

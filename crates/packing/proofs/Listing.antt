@@ -7,8 +7,7 @@ use native.Mathlib.Omega.{arith}
 use lib.ListN.{length, getD, set, take, drop, length-set, length-append, length-map, length-reverse, List·getD-append, List·getD-map}
 use lib.Seq.{sets, getD-set-same, getD-set-other, getD-at}
 use borrow.Author.Tests.{le-leb}
-use Rattle.expansion.specs.Imbalance.{Frame}
-use Rattle.expansion.specs.Steps.{firstRule, frame, after, endOf, listOf, stair, stairsTo}
+use Rattle.expansion.specs.Steps.{firstRule, frame, after, endOf, listOf, stair, stairsTo, Frame}
 use Rattle.expansion.specs.Answer.{checkCall, answer, filled, listMade, lensMade, valuesMade, backendsMade, stairsMade, recordMade}
 use Rattle.numerals.specs.Limits.{unit}
 use Rattle.expansion.specs.Kept.{noRule}

@@ -10,8 +10,8 @@ use lib.ListN.{length, getD, drop, List·getD-eq-default}
 use lib.Seq.{drop-length}
 use Rattle.numerals.specs.Sums.{sumTo}
 use Rattle.expansion.specs.FirstMatch.{gives, share}
-use Rattle.expansion.specs.Imbalance.{Frame, backends, has, excess, imbalance}
-use Rattle.expansion.specs.Steps.{frame, firstRule, after, oldest, stair}
+use Rattle.expansion.specs.Imbalance.{backends, has, excess, imbalance}
+use Rattle.expansion.specs.Steps.{frame, firstRule, after, oldest, stair, Frame}
 use Rattle.numerals.specs.Limits.{unit}
 use Rattle.expansion.specs.declared.rule.Rule.{Rule}
 use Rattle.numerals.proofs.Sums.{sum-ext, sum-zero, count-const}

@@ -1,8 +1,7 @@
 -- The table of grants (document 01, "Packing" and "The count by first match"), and the packing that finds the grants.
 use Prim.Native.Nat.{ℕ, zero, suc, _*_}
 use mathlib.Core.List.{List, [], _∷_, _++_}
-use Rattle.expansion.specs.Imbalance.{Frame}
-use Rattle.expansion.specs.Steps.{frame, listOf, oldest, stair}
+use Rattle.expansion.specs.Steps.{frame, listOf, oldest, stair, Frame}
 use Rattle.expansion.specs.declared.rule.Rule.{Rule}
 use Rattle.packing.specs.Grants.{Problem, Grants, packed}
 use Rattle.packing.specs.Count.{Line, Services, services, volume, weightsOf}
