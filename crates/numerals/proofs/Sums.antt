@@ -183,9 +183,9 @@ getD-end (y ∷ xs) x d = getD-end xs x d
 pub list-at : (n : ℕ) (f : ℕ → ℕ) (i d : ℕ) → i < n → getD (listTo n f) i d ≡ f i
 unfolding listTo
 list-at zero f i d l = absurd (omega arith)
-list-at (suc n) f i d l = go (ℕ-discrete i n)
+list-at (suc n) f i d l = go (ℕ-discrete i n) (list-at n f i d)
   where
-    go : Dec (i ≡ n) → getD (listTo n f ++ f n ∷ []) i d ≡ f i
-    go (yes e) =
+    go : Dec (i ≡ n) → (i < n → getD (listTo n f) i d ≡ f i) → getD (listTo n f ++ f n ∷ []) i d ≡ f i
+    go (yes e) ih =
         ap (λ (x : ℕ). getD (listTo n f ++ f n ∷ []) x d) (e ∙ sym (length-list n f)) ∙ getD-end (listTo n f) (f n) d ∙ ap f (sym e)
-    go (no m) = getD-front (listTo n f) (f n ∷ []) i d (omega (arith, length-list n f)) ∙ list-at n f i d (omega arith)
+    go (no m) ih = getD-front (listTo n f) (f n ∷ []) i d (omega (arith, length-list n f)) ∙ ih (omega arith)
