@@ -28,7 +28,7 @@ fn show_rule(
         print::bytes(b" ");
         print::suffix(lens[i], values[i]);
         print::bytes(b">");
-        print::place(backends[i]);
+        print::number(backends[i] as u64);
         print::bytes(b":");
         print::number(stairs[i]);
     }

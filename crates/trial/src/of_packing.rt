@@ -72,11 +72,11 @@ fn show_line(i: usize, table: &[usize; 8192]) {
         print::bytes(b",");
     }
     if i < 2048 {
-        print::place(table[4 * i]);
+        print::number(table[4 * i] as u64);
         print::bytes(b" ");
         print::suffix(table[4 * i + 1], table[4 * i + 2]);
         print::bytes(b" ");
-        print::place(table[4 * i + 3]);
+        print::number(table[4 * i + 3] as u64);
     }
 }
 

@@ -130,13 +130,13 @@ mod tests {
     fn a_table_in_numbers_shows_its_whole_buffer() {
         let said = |header, payload| said("sheets", header, payload);
         assert_eq!(
-            said("W 5 0 20", "0 0 0 1"),
+            said("W 5 0 20", "1 0 0 2"),
             "end 18 TABLE 5 1 0/1 * 2/......\n"
         );
-        assert_eq!(said("W 5 0 2", "0 0 0 1"), "REFUSED 7 0 ......\n");
-        assert_eq!(said("W 5 0 2", "0 0 0 1 1"), "REFUSED 1 0 ......\n");
-        assert_eq!(said("W 0 0 2", "0 0 0 1 1"), "REFUSED 2 0 ......\n");
-        assert_eq!(said("W 0 0 2", "0 65536 0 1"), "REFUSED 11 0 ......\n");
+        assert_eq!(said("W 5 0 2", "1 0 0 2"), "REFUSED 7 0 ......\n");
+        assert_eq!(said("W 5 0 2", "1 0 0 2 1"), "REFUSED 1 0 ......\n");
+        assert_eq!(said("W 0 0 2", "1 0 0 2 1"), "REFUSED 2 0 ......\n");
+        assert_eq!(said("W 0 0 2", "1 65536 0 2"), "REFUSED 11 0 ......\n");
         assert_eq!(said("W 5 0 0", ""), "REFUSED 2 0 ....\n");
     }
 
