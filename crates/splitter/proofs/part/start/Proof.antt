@@ -3,8 +3,8 @@ use mathlib.Core.Path.{sym}
 use native.Mathlib.Omega.{arith}
 use lib.Seq.{length-take-le, take-all}
 use borrow.Author.Needs.{needs}
-use Rattle.splitter.proofs.input.start.Statement.{statement}
-use Rattle.splitter.proofs.input.start.Tie as tie
+use Rattle.splitter.proofs.part.start.Statement.{statement}
+use Rattle.splitter.proofs.part.start.Tie as tie
 
 slice-aggregate-result : tie.Need-slice-aggregate-result
 slice-aggregate-result c =
