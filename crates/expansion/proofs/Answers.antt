@@ -1,5 +1,5 @@
 -- What a call answers, by its cases: turned back by a check, too little room, or the list that the program made.
-use Prim.Native.Nat.{ℕ, zero, suc, _+_, _≤_, _<_}
+use Prim.Native.Nat.{ℕ, zero, suc, _+_, _-_, _≤_, _<_}
 use mathlib.Core.Bool.{true, false}
 use mathlib.Core.List.{List, [], _∷_, _++_, reverse, map}
 use mathlib.Core.Path.{_≡_, refl, ap, ap₂, sym, _∙_}
@@ -9,10 +9,11 @@ use lib.ListN.{length, getD, take}
 use lib.Seq.{take-suc}
 use borrow.Author.Tests.{leb-false, le-leb, lt-leb}
 use Rattle.expansion.specs.Imbalance.{Frame}
-use Rattle.expansion.specs.Steps.{frame, stair, stairsTo}
+use Rattle.expansion.specs.Steps.{firstRule, frame, after, listOf, stair, stairsTo}
 use Rattle.expansion.specs.Answer.{checkCall, listMade, stairsMade, recordMade, answer}
 use Rattle.numerals.specs.Limits.{unit}
-use Rattle.expansion.specs.Kept.{Made}
+use Rattle.expansion.specs.Inner.Lists.{newestFirst}
+use Rattle.expansion.specs.Inner.Run.{Made}
 use Rattle.expansion.specs.declared.rule.Rule.{Rule}
 use Rattle.numerals.specs.declared.refusal.Refusal.{Refusal}
 use Rattle.numerals.specs.declared.refusal.Refusal.the-variants.{ShortLoan}
@@ -36,24 +37,39 @@ stairs-taken F rs xs (suc c) l h =
     ∙ ap₂ (λ (ys : List ℕ) (y : ℕ). ys ++ y ∷ []) (stairs-taken F rs xs c (omega arith) (λ i m. h i (omega arith))) (h c (omega arith))
 
 -- the list that was made, as the answer has it
-module _ (k tolerance budget : ℕ) (ws : List ℕ) (r : Run) (M : Made k tolerance budget ws r) where
+module _ (k tolerance budget : ℕ) (ws : List ℕ) (r : Run) (M : Made (frame k unit tolerance ws) budget r) where
+  list-is : listMade k tolerance budget ws ≡ after (frame k unit tolerance ws) (budget - length (frame k unit tolerance ws .start))
+  unfolding listMade listOf frame firstRule
+  list-is = refl
+
+  made-rules : newestFirst (r .list .rules) (r .list .count) ≡ listMade k tolerance budget ws
+  made-rules = M .rules ∙ sym list-is
+
+  made-stair : (c : ℕ) → c < r .list .count → getD (r .list .stairs) c 0 ≡ stair (frame k unit tolerance ws) (suc c) (listMade k tolerance budget ws)
+  unfolding frame firstRule
+  made-stair c l =
+      let same : c ≡ suc c - 1 = omega arith in
+      ap (λ (i : ℕ). getD (r .list .stairs) i 0) same
+      ∙ M .stairs (suc c) (omega arith) (omega arith)
+      ∙ ap (stair (frame k unit tolerance ws) (suc c)) (sym list-is)
+
   pub made-count : r .list .count ≡ length (listMade k tolerance budget ws)
-  made-count = sym (length-newest (r .list .rules) (r .list .count)) ∙ ap length (M .rules)
+  made-count = sym (length-newest (r .list .rules) (r .list .count)) ∙ ap length made-rules
 
   pub made-record : recordMade k tolerance budget ws ≡ record { ended = r .ended; rules = r .list .count }
   unfolding recordMade
-  made-record = rw (made-count, M .ended)
+  made-record = rw (made-count, M .ended, list-is)
 
   pub made-column : (f : Rule → ℕ) → r .list .count ≤ length (r .list .rules)
       → map f (take (r .list .count) (r .list .rules)) ≡ map f (reverse (listMade k tolerance budget ws))
   made-column f l =
-      column-newest f (r .list .rules) (r .list .count) l ∙ ap (λ (rs : List Rule). map f (reverse rs)) (M .rules)
+      column-newest f (r .list .rules) (r .list .count) l ∙ ap (λ (rs : List Rule). map f (reverse rs)) made-rules
 
   pub made-stairs : r .list .count ≤ length (r .list .stairs)
       → take (r .list .count) (r .list .stairs) ≡ stairsMade k tolerance budget ws
   unfolding stairsMade
   made-stairs l =
-      stairs-taken (frame k unit tolerance ws) (listMade k tolerance budget ws) (r .list .stairs) (r .list .count) l (M .stairs)
+      stairs-taken (frame k unit tolerance ws) (listMade k tolerance budget ws) (r .list .stairs) (r .list .count) l made-stair
       ∙ ap (stairsTo (frame k unit tolerance ws) (listMade k tolerance budget ws)) made-count
 
   -- too little room, or enough

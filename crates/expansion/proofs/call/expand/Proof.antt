@@ -9,6 +9,7 @@ use lib.ListN.{length, take, length-map}
 use lib.Seq.{sets}
 use borrow.Author.Needs.{needs}
 use borrow.Author.Tests.{not-true, not-false, leb-true}
+use Rattle.numerals.specs.Limits.{mostRules}
 use Rattle.expansion.specs.Answer.{checkCall, listMade, lensMade, valuesMade, backendsMade}
 use Rattle.expansion.specs.declared.rule.Rule.{Rule}
 use Rattle.expansion.specs.declared.call.Checked.the-variants.{Sound as Passed}
@@ -113,10 +114,10 @@ same-length-4 : tie.Need-same-length-4
 same-length-4 c = search needs
 
 -- the arrays of the list
-rules-long : (c : tie.After-make-list) → length (c .make-list .result .list .rules) ≡ 32
+rules-long : (c : tie.After-make-list) → length (c .make-list .result .list .rules) ≡ mostRules
 rules-long c = simp length-map at (c .make-list .ok .1 .1 .0 .1 .1 .0 .1 .0 .1)
 
-stairs-long : (c : tie.After-make-list) → length (c .make-list .result .list .stairs) ≡ 32
+stairs-long : (c : tie.After-make-list) → length (c .make-list .result .list .stairs) ≡ mostRules
 stairs-long c = simp length-map at (c .make-list .ok .1 .1 .0 .1 .1 .1 .0 .1 .0 .1)
 
 returns-3 : tie.Need-returns-3
