@@ -95,7 +95,7 @@ fn advance(
 ) -> State
     requires { ⌜ ((cap : ℕ) × (x : ℕ) × (start : List rule.Rule) × Stands (framed k cap tolerance (now weights) start) x (now holder) (now low) state) ⌝ }
     requires { ⌜ Places mostBits (now places) × (state .next ≡ Next.Go m) ⌝ }
-    ensures { λ r. ⌜ ((cap x : ℕ) (start : List rule.Rule) → Stands (framed k cap tolerance (now (weights .entry)) start) x (now (holder .entry)) (now (low .entry)) state → Stands (framed k cap tolerance (now (weights .entry)) start) (suc x) (now (holder .exit)) (now (low .exit)) r × Adds (framed k cap tolerance (now (weights .entry)) start) x (r .rule)) ⌝ }
+    ensures { λ r. ⌜ ((cap x : ℕ) (start : List rule.Rule) → let F = framed k cap tolerance (now (weights .entry)) start in Stands F x (now (holder .entry)) (now (low .entry)) state → Stands F (suc x) (now (holder .exit)) (now (low .exit)) r × Adds F x (r .rule)) ⌝ }
 {
     let n = weights.len();
     let value = crate::holders::hand_over(holder, low, places, k, m);
@@ -124,8 +124,8 @@ fn begin(
     cap: usize,
     newest: Rule,
 ) -> State
-    requires { ⌜ ((start : List rule.Rule) × Fits (framed k cap tolerance (now weights) start) × Shared (framed k cap tolerance (now weights) start) (now shares)) ⌝ }
-    ensures stands { λ r. ⌜ ((start : List rule.Rule) (holder low : List ℕ) → Fits (framed k cap tolerance (now (weights .entry)) start) → Shared (framed k cap tolerance (now (weights .entry)) start) (now (shares .entry)) → Holds k start holder low → length holder ≡ mostSuffixes → length low ≡ mostBackends → Stands (framed k cap tolerance (now (weights .entry)) start) 0 holder low r) ⌝ }
+    requires { ⌜ ((start : List rule.Rule) × let F = framed k cap tolerance (now weights) start in Fits F × Shared F (now shares)) ⌝ }
+    ensures stands { λ r. ⌜ ((start : List rule.Rule) (holder low : List ℕ) → let F = framed k cap tolerance (now (weights .entry)) start in Fits F → Shared F (now (shares .entry)) → Holds k start holder low → length holder ≡ mostSuffixes → length low ≡ mostBackends → Stands F 0 holder low r) ⌝ }
     ensures newest { λ r. ⌜ r .rule ≡ newest ⌝ }
 {
     let n = weights.len();
@@ -158,19 +158,17 @@ fn go_on(
     holder: &mut [u16],
     low: &mut [u16],
     places: &[u16],
-    begun: State,
-    rules: RuleList,
+    mut state: State,
+    mut list: RuleList,
     weights: &[u64],
     k: usize,
     tolerance: u64,
     budget: usize,
 ) -> Run
-    requires { ⌜ ((cap : ℕ) × (x : ℕ) × (start : List rule.Rule) × Stands (framed k cap tolerance (now weights) start) x (now holder) (now low) begun × Listed (framed k cap tolerance (now weights) start) x rules) ⌝ }
-    requires { ⌜ (rules .count ≤ budget) × ((budget ≤ mostRules) × Places mostBits (now places)) ⌝ }
-    ensures { λ r. ⌜ ((cap x : ℕ) (start : List rule.Rule) → Stands (framed k cap tolerance (now (weights .entry)) start) x (now (holder .entry)) (now (low .entry)) begun → Listed (framed k cap tolerance (now (weights .entry)) start) x rules → Made (framed k cap tolerance (now (weights .entry)) start) budget r) ⌝ }
+    requires { ⌜ ((cap : ℕ) × (x : ℕ) × (start : List rule.Rule) × let F = framed k cap tolerance (now weights) start in Stands F x (now holder) (now low) state × Listed F x list) ⌝ }
+    requires { ⌜ (list .count ≤ budget) × ((budget ≤ mostRules) × Places mostBits (now places)) ⌝ }
+    ensures { λ r. ⌜ ((cap x : ℕ) (start : List rule.Rule) → let F = framed k cap tolerance (now (weights .entry)) start in Stands F x (now (holder .entry)) (now (low .entry)) state → Listed F x list → Made F budget r) ⌝ }
 {
-    let mut state = begun;
-    let mut list = rules;
     loop {
         let n = list.count;
         let wanted = state.next;

@@ -27,17 +27,17 @@ frame s = at s (s .pre .0)
 
 each-weight : (s : tie.Start) (b : ℕ) → getD (s .args .weights .now) b 0 ≤ unit
 unfolding weight
-each-weight s = weight-le (frame s) (s .pre .1 .sound)
+each-weight s = weight-le (frame s) (s .pre .1 .0 .sound)
 
 each-share : (s : tie.Start) (b : ℕ) → b < backends (frame s) → getD (s .args .shares .now) b 0 ≤ mostSuffixes
 each-share s b l =
-    omega (arith, s .pre .2 .each b l, share-le (s .args .k) (s .pre .0) b, pow-few (s .args .k) (s .pre .1 .few-bits))
+    omega (arith, s .pre .1 .1 .each b l, share-le (s .args .k) (s .pre .0) b, pow-few (s .args .k) (s .pre .1 .0 .few-bits))
 
 opened-requires : tie.Need-opened-requires
 unfolding backends
 opened-requires c κs =
     let s = c .before .before in
-    ((s .pre .1 .few-bits, (s .pre .1 .few, s .pre .2 .long)), λ b l. (each-weight s b, each-share s b l))
+    ((s .pre .1 .0 .few-bits, (s .pre .1 .0 .few, s .pre .1 .1 .long)), λ b l. (each-weight s b, each-share s b l))
 
 module _ (c : tie.After-opened) where
   abbrev s : tie.Start
@@ -49,20 +49,20 @@ module _ (c : tie.After-opened) where
 
   smalls : (b : ℕ) → b < length (s .args .weights .now) → Small (errorAt (c .opened .result) b)
   unfolding backends
-  smalls = small (frame s) (s .pre .1) (s .pre .0) (c .opened .result) (keeps (s .pre .0) (s .pre .1) (s .pre .2))
+  smalls = small (frame s) (s .pre .1 .0) (s .pre .0) (c .opened .result) (keeps (s .pre .0) (s .pre .1 .0) (s .pre .1 .1))
 
   some : 0 < length (s .args .weights .now)
   unfolding backends
-  some = someone (frame s) (s .pre .1)
+  some = someone (frame s) (s .pre .1 .0)
 
 survey-of-requires : tie.Need-survey-of-requires
 unfolding backends
-survey-of-requires c κs = ((some c, s c .pre .1 .few), smalls c)
+survey-of-requires c κs = ((some c, s c .pre .1 .0 .few), smalls c)
 
 decide-requires : tie.Need-decide-requires
 decide-requires c κs =
     let o = c .before in
-    let f = s o .pre .1 in (
+    let f = s o .pre .1 .0 in (
       (f .few-bits, (f .tolerable, omega (arith, f .few-bits, f .sound .below))),
       surveyed-sized (o .opened .result) (length (s o .args .weights .now)) (c .survey-of .result) (c .survey-of .ensures) (some o) (smalls o),
     )

@@ -23,19 +23,19 @@ pub record After (F : Frame) (x : ℕ) (holder low : List ℕ) (st : State) (lis
   pub listed : Listed F x list
 
 abbrev Inv-loop : tie.InvT-loop
-Inv-loop holder₀ low₀ places weights k tolerance budget state₀ list₀ holder low state list =
+Inv-loop holder₀ low₀ places state₀ weights k tolerance budget list₀ holder low state list =
     ((cap x : ℕ) (start : List Rule) → After (framed k cap tolerance weights start) x holder₀ low₀ state₀ list₀
     → (y : ℕ) × After (framed k cap tolerance weights start) y holder low state list)
     × ((list .count ≤ budget) × ((length (list .rules) ≡ mostRules) × (length (list .stairs) ≡ mostRules)))
 
 abbrev μ-loop : tie.MeasureT-loop
-μ-loop holder₀ low₀ places weights k tolerance budget state₀ list₀ holder low state list = budget - list .count
+μ-loop holder₀ low₀ places state₀ weights k tolerance budget list₀ holder low state list = budget - list .count
 
 -- the arrays of the list
-rules-long : (c : tie.Start Inv-loop μ-loop) → length (c .args .rules .rules) ≡ mostRules
+rules-long : (c : tie.Start Inv-loop μ-loop) → length (c .args .t5 .rules) ≡ mostRules
 rules-long c = simp length-map at (c .good .1 .1 .1 .1 .0 .1 .1 .0 .1 .0 .1)
 
-stairs-long : (c : tie.Start Inv-loop μ-loop) → length (c .args .rules .stairs) ≡ mostRules
+stairs-long : (c : tie.Start Inv-loop μ-loop) → length (c .args .t5 .stairs) ≡ mostRules
 stairs-long c = simp length-map at (c .good .1 .1 .1 .1 .0 .1 .1 .1 .0 .1 .0 .1)
 
 loop-holds : tie.Need-loop-holds Inv-loop μ-loop
@@ -52,13 +52,13 @@ module _ (c : tie.At-loop Inv-loop μ-loop) where
   F = framed (s .args .k) (s .pre .0 .0) (s .args .tolerance) (s .args .weights .now) (s .pre .0 .2)
 
   at : (y : ℕ) × After F y (c .loop .holder) (c .loop .low) (c .loop .state) (c .loop .list)
-  at = c .loop .inv .0 (s .pre .0 .0) (s .pre .0 .1) (s .pre .0 .2) (record { stands = s .pre .0 .3; listed = s .pre .0 .4 })
+  at = c .loop .inv .0 (s .pre .0 .0) (s .pre .0 .1) (s .pre .0 .2) (record { stands = s .pre .0 .3 .0; listed = s .pre .0 .3 .1 })
 
   holders-long : length (c .loop .holder) ≡ length (s .args .holder .now)
-  holders-long = at .1 .stands .long .0 ∙ sym (s .pre .0 .3 .long .0)
+  holders-long = at .1 .stands .long .0 ∙ sym (s .pre .0 .3 .0 .long .0)
 
   lows-long : length (c .loop .low) ≡ length (s .args .low .now)
-  lows-long = at .1 .stands .long .1 ∙ sym (s .pre .0 .3 .long .1)
+  lows-long = at .1 .stands .long .1 ∙ sym (s .pre .0 .3 .0 .long .1)
 
 in-budget-requires : tie.Need-in-budget-requires Inv-loop μ-loop
 in-budget-requires c κs = search needs

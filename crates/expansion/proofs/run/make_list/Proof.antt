@@ -73,7 +73,7 @@ sub-begin c = s (c .before) .pre .0 .some-bits
 
 begin-requires : tie.Need-begin-requires
 unfolding frame
-begin-requires c κs = (firstRule (s (c .before) .args .weights .now), fitting (c .before), shared (c .before))
+begin-requires c κs = (firstRule (s (c .before) .args .weights .now), (fitting (c .before), shared (c .before)))
 
 of-one-requires : tie.Need-of-one-requires
 of-one-requires c κs = search needs
@@ -115,7 +115,7 @@ unfolding frame
 go-on-requires c κs =
     let o = c .before .before .before in
     let z = s (h o) in (
-      (z .args .k - 1, 0, firstRule (z .args .weights .now), stands o, listed o),
+      (z .args .k - 1, 0, firstRule (z .args .weights .now), (stands o, listed o)),
       (omega (arith, ap (λ (l : RuleList). l .count) (o .of-one .ensures), z .pre .1 .0), (z .pre .1 .1, h o .before .all-places .ensures)),
     )
 
