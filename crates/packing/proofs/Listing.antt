@@ -10,7 +10,7 @@ use borrow.Author.Tests.{le-leb}
 use Rattle.expansion.specs.Steps.{firstRule, frame, after, endOf, listOf, stair, stairsTo, Frame}
 use Rattle.expansion.specs.Answer.{checkCall, answer, filled, listMade, lensMade, valuesMade, backendsMade, stairsMade, recordMade}
 use Rattle.numerals.specs.Limits.{unit}
-use Rattle.expansion.specs.Kept.{noRule}
+use Rattle.expansion.specs.Inner.Lists.{noRule}
 use Rattle.expansion.specs.declared.rule.Rule.{Rule}
 use Rattle.expansion.specs.declared.rule.Record.{Record}
 use Rattle.expansion.specs.declared.call.Checked.the-variants.{Sound as Passed}
