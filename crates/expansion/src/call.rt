@@ -89,7 +89,8 @@ fn copy_out(
     backends: &mut [usize],
     stairs: &mut [u64],
 )
-    requires { ⌜ (list .count ≤ mostRules) × ((at + list .count ≤ length (now lens)) × ((at + list .count ≤ length (now values)) × ((at + list .count ≤ length (now backends)) × (at + list .count ≤ length (now stairs))))) ⌝ }
+    requires { ⌜ (list .count ≤ mostRules) × ((at + list .count ≤ length (now lens)) × ((at + list .count ≤ length (now values))
+        × ((at + list .count ≤ length (now backends)) × (at + list .count ≤ length (now stairs))))) ⌝ }
     ensures lens { λ _. ⌜ now (lens .exit) ≡ sets (now (lens .entry)) at (map (λ r. r .len) (take (list .count) (list .rules))) ⌝ }
     ensures values { λ _. ⌜ now (values .exit) ≡ sets (now (values .entry)) at (map (λ r. r .value) (take (list .count) (list .rules))) ⌝ }
     ensures backends { λ _. ⌜ now (backends .exit) ≡ sets (now (backends .entry)) at (map (λ r. r .backend) (take (list .count) (list .rules))) ⌝ }
@@ -133,7 +134,8 @@ pub fn expand(
     backends: &mut [usize],
     stairs: &mut [u64],
 ) -> Expanded
-    ensures answer { λ r. ⌜ r ≡ answer k tolerance budget (now (weights .entry)) at (min (min (length (now (lens .entry))) (length (now (values .entry)))) (min (length (now (backends .entry))) (length (now (stairs .entry))))) ⌝ }
+    ensures answer { λ r. ⌜ r ≡ answer k tolerance budget (now (weights .entry)) at
+        (min (min (length (now (lens .entry))) (length (now (values .entry)))) (min (length (now (backends .entry))) (length (now (stairs .entry))))) ⌝ }
     ensures lens { λ r. ⌜ now (lens .exit) ≡ filled r (now (lens .entry)) at (lensMade k tolerance budget (now (weights .entry))) ⌝ }
     ensures values { λ r. ⌜ now (values .exit) ≡ filled r (now (values .entry)) at (valuesMade k tolerance budget (now (weights .entry))) ⌝ }
     ensures backends { λ r. ⌜ now (backends .exit) ≡ filled r (now (backends .entry)) at (backendsMade k tolerance budget (now (weights .entry))) ⌝ }
