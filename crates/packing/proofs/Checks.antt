@@ -12,14 +12,14 @@ use Rattle.expansion.specs.Answer.{andThen, orElse, inLimits, checkWeights}
 use Rattle.numerals.specs.Limits.{unit}
 use Rattle.numerals.specs.declared.refusal.Refusal.{Refusal}
 use Rattle.numerals.specs.declared.refusal.Refusal.the-variants.{Malformed, BadField, TooMany, NoService, TableShort}
-use Rattle.expansion.specs.declared.call.Checked.the-variants.{Sound as Passed, Refused as Turned}
+use Rattle.expansion.specs.declared.call.Checked.the-variants.{Sound as Passed, Refused as Failed}
 use Rattle.expansion.proofs.Checks.{both-passed, test-passed, limits, weights-passed, call-weights}
 use Rattle.numerals.proofs.Searches.{true-both}
 use Rattle.packing.specs.Count.{services, weightsOf}
 use Rattle.packing.specs.Table.{ruleBudget}
 use Rattle.packing.specs.Answer.{chunks, servicesOf, checkService, checkFrom, checkServices, checkHead, checkAll}
 use Rattle.packing.specs.Demand.{Balanced}
-use Rattle.packing.specs.Kept.{start, Sized}
+use Rattle.packing.specs.Inner.Lists.{start, Sized}
 
 -- the weights of the first service begin at the start
 pub start-zero : (sizes : List ℕ) → start sizes 0 ≡ 0
@@ -57,20 +57,20 @@ unfolding checkFrom
 from-step volumes sizes ws s at l m =
     rw (drop-cons volumes s 0 l, drop-cons sizes s 0 m, checkFrom, drop-drop (getD sizes s 0) at ws)
 
-from-many : (s : ℕ) (vs ns ws : List ℕ) → 64 ≤ s → 0 < max (length vs) (length ns) → checkFrom s vs ns ws ≡ Turned TooMany
+from-many : (s : ℕ) (vs ns ws : List ℕ) → 64 ≤ s → 0 < max (length vs) (length ns) → checkFrom s vs ns ws ≡ Failed TooMany
 unfolding checkFrom
 from-many s [] [] ws h l = absurd (omega arith)
 from-many s [] (n ∷ ns) ws h l = simp (le-ltb s 64 h)
 from-many s (v ∷ vs) [] ws h l = simp (le-ltb s 64 h)
 from-many s (v ∷ vs) (n ∷ ns) ws h l = simp (le-ltb s 64 h)
 
-from-no-volume : (s : ℕ) (vs ns ws : List ℕ) → s < 64 → length vs ≡ 0 → 0 < length ns → checkFrom s vs ns ws ≡ Turned Malformed
+from-no-volume : (s : ℕ) (vs ns ws : List ℕ) → s < 64 → length vs ≡ 0 → 0 < length ns → checkFrom s vs ns ws ≡ Failed Malformed
 unfolding checkFrom
 from-no-volume s [] [] ws h e l = absurd (omega arith)
 from-no-volume s [] (n ∷ ns) ws h e l = simp (lt-ltb s 64 h)
 from-no-volume s (v ∷ vs) ns ws h e l = absurd (omega arith)
 
-from-no-size : (s : ℕ) (vs ns ws : List ℕ) → s < 64 → length ns ≡ 0 → 0 < length vs → checkFrom s vs ns ws ≡ Turned Malformed
+from-no-size : (s : ℕ) (vs ns ws : List ℕ) → s < 64 → length ns ≡ 0 → 0 < length vs → checkFrom s vs ns ws ≡ Failed Malformed
 unfolding checkFrom
 from-no-size s [] ns ws h e l = absurd (omega arith)
 from-no-size s (v ∷ vs) [] ws h e l = simp (lt-ltb s 64 h)
@@ -91,26 +91,26 @@ module _ (volumes sizes ws : List ℕ) (s at : ℕ)
   unfolding checkServices
   services-left = simp before
 
-  pub services-many : s < max (length volumes) (length sizes) → 64 ≤ s → checkServices volumes sizes ws ≡ Turned TooMany
+  pub services-many : s < max (length volumes) (length sizes) → 64 ≤ s → checkServices volumes sizes ws ≡ Failed TooMany
   services-many l h =
       services-left
       ∙ simp (from-many s (drop s volumes) (drop s sizes) (drop at ws) h (omega (arith, length-drop s volumes, length-drop s sizes)))
 
-  pub services-no-volume : s < 64 → length volumes ≤ s → s < length sizes → checkServices volumes sizes ws ≡ Turned Malformed
+  pub services-no-volume : s < 64 → length volumes ≤ s → s < length sizes → checkServices volumes sizes ws ≡ Failed Malformed
   services-no-volume h l m =
       services-left
       ∙ simp (from-no-volume s (drop s volumes) (drop s sizes) (drop at ws) h (omega (arith, length-drop s volumes)) (omega (arith, length-drop s sizes)))
 
-  pub services-no-size : s < 64 → s < length volumes → length sizes ≤ s → checkServices volumes sizes ws ≡ Turned Malformed
+  pub services-no-size : s < 64 → s < length volumes → length sizes ≤ s → checkServices volumes sizes ws ≡ Failed Malformed
   services-no-size h l m =
       services-left
       ∙ simp (from-no-size s (drop s volumes) (drop s sizes) (drop at ws) h (omega (arith, length-drop s sizes)) (omega (arith, length-drop s volumes)))
 
   module _ (place : s < 64) (volume : s < length volumes) (size : s < length sizes) where
-    pub services-turned :
-        (why : Refusal) → checkService (getD volumes s 0) (getD sizes s 0) (drop at ws) ≡ Turned why
-        → checkServices volumes sizes ws ≡ Turned why
-    services-turned why e =
+    pub services-failed :
+        (why : Refusal) → checkService (getD volumes s 0) (getD sizes s 0) (drop at ws) ≡ Failed why
+        → checkServices volumes sizes ws ≡ Failed why
+    services-failed why e =
         services-left ∙ simp (from-step volumes sizes ws s at volume size, lt-ltb s 64 place, e)
 
     pub services-passed :
@@ -179,9 +179,9 @@ from-first s v n vs ns ws e =
     )
 
 -- a service that lacks its volume or its size doesn't pass
-none-alone : (s : ℕ) → andThen (orElse (ltb s 64) TooMany) (Turned Malformed) ≡ Passed → ⊥
+none-alone : (s : ℕ) → andThen (orElse (ltb s 64) TooMany) (Failed Malformed) ≡ Passed → ⊥
 none-alone s e =
-    let p = both-passed (orElse (ltb s 64) TooMany) (Turned Malformed) e in
+    let p = both-passed (orElse (ltb s 64) TooMany) (Failed Malformed) e in
     let z : _≡_ {A = ℕ} 0 1 = cc (p .1) in
     omega arith
 

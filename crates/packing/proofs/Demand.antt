@@ -19,7 +19,7 @@ use Rattle.packing.specs.Grants.{Grants, rules, total, Allowed, Convex}
 use Rattle.packing.specs.Count.{Services, services, weightsOf, counted, countedLargestExcess, countedLargestShortfall, ownRules}
 use Rattle.packing.specs.Table.{ruleBudget, frameOf, listFor, table, problem, granted}
 use Rattle.packing.specs.Demand.{Balanced, Fitting, Demand}
-use Rattle.packing.proofs.Runs.{packed-allowed}
+use Rattle.packing.proofs.GrantSteps.{packed-allowed}
 use Rattle.packing.proofs.Best.{best}
 use Rattle.packing.proofs.Lines.{largest-excess-own, largest-shortfall-own}
 use Rattle.packing.proofs.Tables.{own-whole, counted-table}

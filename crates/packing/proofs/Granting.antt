@@ -16,11 +16,11 @@ use Rattle.numerals.specs.Pick.{pick}
 use Rattle.numerals.proofs.Sums.{sum-const}
 use Rattle.numerals.proofs.Searches.{argmax-is, argmax-ext}
 use Rattle.packing.specs.Grants.{Problem, Grants, saving, next, rules, more, grantsAfter, packed}
-use Rattle.packing.specs.Stored.{storedCost, storedProblem, storedSaving, savings, AllPayable, Allotted}
-use Rattle.packing.specs.Tournament.{Replaced, keyOf, Entered}
-use Rattle.packing.proofs.Runs.{Goes, Stops, step-goes, never-fall, rules-more, packed-at}
+use Rattle.packing.specs.Inner.Stored.{storedCost, storedProblem, storedSaving, savings, AllPayable, Allotted}
+use Rattle.packing.specs.Inner.Tournament.{Replaced, keyOf, Entered}
+use Rattle.packing.proofs.GrantSteps.{Goes, Stops, step-goes, never-fall, rules-more, packed-at}
 use Rattle.packing.proofs.Winner.{Greatest, entered-one, winner}
-use Rattle.packing.proofs.Agree.{Agree, more-set, rules-agree, step-agree, stops-agree}
+use Rattle.packing.proofs.EqualGrants.{Agree, more-set, rules-agree, step-agree, stops-agree}
 
 -- the grants in a list
 abbrev pub at : List ℕ → Grants

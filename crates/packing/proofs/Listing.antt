@@ -21,7 +21,7 @@ use Rattle.expansion.proofs.Turns.{length-le, length-oldest, oldest-after}
 use Rattle.packing.specs.Count.{services, weightsOf}
 use Rattle.packing.specs.Table.{ruleBudget, frameOf, listFor}
 use Rattle.packing.specs.Answer.{servicesOf, endNumber}
-use Rattle.packing.specs.Kept.{ruleAt, ListedTo, start}
+use Rattle.packing.specs.Inner.Lists.{ruleAt, ListedTo, start}
 use Rattle.packing.proofs.Checks.{chunk-at}
 
 -- stores from a position on

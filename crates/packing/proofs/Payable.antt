@@ -9,7 +9,7 @@ use lib.Dec.{ltb}
 use lib.ListN.{getD}
 use borrow.Author.Tests.{lt-ltb, le-ltb}
 use Rattle.numerals.specs.Pick.{pick}
-use Rattle.packing.specs.Stored.{storedSaving, Payable}
+use Rattle.packing.specs.Inner.Stored.{storedSaving, Payable}
 
 module _ {volume : ℕ} {stairs : List ℕ} {s count : ℕ} (p : Payable volume stairs s count) (grant : ℕ) (one : 1 ≤ grant) where
   -- the stair of a grant, where the program reads it

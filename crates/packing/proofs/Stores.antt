@@ -9,7 +9,7 @@ use native.Mathlib.Omega.{arith}
 use lib.ListN.{length, getD, set, length-append}
 use lib.Seq.{sets}
 use Rattle.numerals.specs.Sums.{sumTo}
-use Rattle.packing.specs.Stored.{storedFigures, storedCells, storedTable}
+use Rattle.packing.specs.Inner.Stored.{storedFigures, storedCells, storedTable}
 
 -- a run after another one
 pub sets-append : (l : List ℕ) (i : ℕ) (a b : List ℕ) → sets l i (a ++ b) ≡ sets (sets l i a) (i + length a) b

@@ -8,7 +8,7 @@ use lib.ListN.{length, getD, set, replicate, length-set, length-replicate, getD-
 use lib.Seq.{getD-set-same, getD-set-other}
 use Rattle.numerals.specs.Sums.{argmax}
 use Rattle.numerals.proofs.Searches.{IsArgmax, argmax-is, argmax-unique}
-use Rattle.packing.specs.Tournament.{greaterChild, Tournament, Replaced, keyOf, Entered}
+use Rattle.packing.specs.Inner.Tournament.{greaterChild, Tournament, Replaced, keyOf, Entered}
 
 -- a store elsewhere leaves a node as it was
 kept :

@@ -15,10 +15,10 @@ use Rattle.packing.specs.Grants.{Grants}
 use Rattle.packing.specs.Count.{Line, Services, services}
 use Rattle.packing.specs.Table.{listFor, linesOf, tableOf, table, granted}
 use Rattle.packing.specs.Answer.{linesMade, figuresTo, figuresMade, cells}
-use Rattle.packing.specs.Kept.{ruleAt, Listed, Granted}
-use Rattle.packing.specs.Stored.{storedFigures, storedCells, storedTable, Tabled}
+use Rattle.packing.specs.Inner.Lists.{ruleAt, Listed, Granted}
+use Rattle.packing.specs.Inner.Stored.{storedFigures, storedCells, storedTable, Tabled}
 use Rattle.packing.proofs.Tables.{length-table}
-use Rattle.packing.proofs.Meant.{within-list}
+use Rattle.packing.proofs.StoredCosts.{within-list}
 
 -- the c oldest rules of a list, told from its reverse
 pub oldest-reverse : (rs : List Rule) (c : ℕ) → c ≤ length rs → oldest c rs ≡ newestFirst (reverse rs) c

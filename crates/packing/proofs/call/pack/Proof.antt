@@ -4,9 +4,9 @@ use native.Mathlib.Omega.{arith}
 use lib.ListN.{getD-replicate}
 use Rattle.expansion.specs.declared.call.Checked.the-variants.{Sound as Passed}
 use Rattle.packing.specs.Answer.{servicesOf, checkAll}
-use Rattle.packing.specs.Kept.{Listed}
+use Rattle.packing.specs.Inner.Lists.{Listed}
 use Rattle.packing.proofs.Checks.{Accepted, all-passed, sized}
-use Rattle.packing.proofs.Settled.{claimed, answer-refused, answer-passed, Settled, ready, settled}
+use Rattle.packing.proofs.PackAnswer.{claimed, answer-refused, answer-passed, Settled, ready, settled}
 use borrow.Author.Needs.{needs}
 use Rattle.packing.proofs.call.pack.Statement.{statement}
 use Rattle.packing.proofs.call.pack.Tie as tie

@@ -5,8 +5,8 @@ use mathlib.Core.Path.{_≡_}
 use mathlib.Core.List.{List}
 use native.Mathlib.Omega.{arith}
 use borrow.Author.Needs.{needs}
-use Rattle.packing.specs.Stored.{savings}
-use Rattle.packing.specs.Tournament.{Replaced}
+use Rattle.packing.specs.Inner.Stored.{savings}
+use Rattle.packing.specs.Inner.Tournament.{Replaced}
 use Rattle.packing.proofs.Payable.{saving-small}
 use Rattle.packing.proofs.grants.enter.Statement.{statement}
 use Rattle.packing.proofs.grants.enter.Tie as tie

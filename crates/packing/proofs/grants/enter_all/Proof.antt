@@ -4,8 +4,8 @@ use Prim.Native.Nat.{ℕ, _+_, _-_, _≤_, _<_}
 use mathlib.Core.Path.{_≡_, refl}
 use native.Mathlib.Omega.{arith}
 use lib.ListN.{length}
-use Rattle.packing.specs.Stored.{savings}
-use Rattle.packing.specs.Tournament.{Entered}
+use Rattle.packing.specs.Inner.Stored.{savings}
+use Rattle.packing.specs.Inner.Tournament.{Entered}
 use Rattle.packing.proofs.Winner.{entered-none, entered-one}
 use Rattle.packing.proofs.grants.enter_all.Statement.{statement}
 use Rattle.packing.proofs.grants.enter_all.Tie as tie

@@ -5,7 +5,7 @@ use native.Mathlib.Omega.{arith}
 use lib.ListN.{getD}
 use borrow.Author.Needs.{needs}
 use borrow.Author.Tests.{lt-ltb, le-ltb}
-use Rattle.packing.specs.Stored.{storedSaving}
+use Rattle.packing.specs.Inner.Stored.{storedSaving}
 use Rattle.packing.proofs.Payable.{stair-falls, cost-small}
 use Rattle.packing.proofs.grants.saving.Statement.{statement}
 use Rattle.packing.proofs.grants.saving.Tie as tie

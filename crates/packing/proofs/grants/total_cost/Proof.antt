@@ -6,7 +6,7 @@ use native.Mathlib.Omega.{arith}
 use native.Mathlib.Numerals.{add-one}
 use lib.ListN.{length, getD}
 use Rattle.numerals.specs.Sums.{sumTo}
-use Rattle.packing.specs.Stored.{storedTotal, Payable}
+use Rattle.packing.specs.Inner.Stored.{storedTotal, Payable}
 use Rattle.packing.proofs.Payable.{cost-small}
 use Rattle.packing.proofs.grants.total_cost.Statement.{statement}
 use Rattle.packing.proofs.grants.total_cost.Tie as tie

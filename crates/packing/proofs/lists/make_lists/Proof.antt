@@ -9,7 +9,7 @@ use Rattle.expansion.specs.Answer.{checkCall, recordMade}
 use Rattle.expansion.specs.declared.call.Checked.the-variants.{Sound as Passed}
 use Rattle.expansion.specs.declared.call.Expanded.the-variants.{Made}
 use Rattle.packing.specs.Table.{ruleBudget}
-use Rattle.packing.specs.Kept.{start}
+use Rattle.packing.specs.Inner.Lists.{start}
 use Rattle.packing.proofs.Checks.{start-zero, start-suc}
 use Rattle.packing.proofs.Listing.{part, Entries, entries-none, made, entries-more, listed}
 use Rattle.packing.proofs.lists.make_lists.Statement.{statement}

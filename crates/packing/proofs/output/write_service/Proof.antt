@@ -5,7 +5,7 @@ use mathlib.Core.Path.{_≡_, refl, sym, _∙_}
 use native.Mathlib.Omega.{arith}
 use lib.ListN.{length, length-set}
 use lib.Seq.{sets}
-use Rattle.packing.specs.Stored.{storedCells}
+use Rattle.packing.specs.Inner.Stored.{storedCells}
 use Rattle.packing.proofs.Stores.{line-more, none-left}
 use Rattle.packing.proofs.output.write_service.Statement.{statement}
 use Rattle.packing.proofs.output.write_service.Tie as tie

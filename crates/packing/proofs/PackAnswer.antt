@@ -10,20 +10,20 @@ use Rattle.numerals.specs.Pick.{pick}
 use Rattle.numerals.specs.Sums.{sumTo}
 use Rattle.numerals.specs.declared.refusal.Refusal.{Refusal}
 use Rattle.numerals.specs.declared.refusal.Refusal.the-variants.{ShortLoan}
-use Rattle.expansion.specs.declared.call.Checked.the-variants.{Sound as Passed, Refused as Turned}
+use Rattle.expansion.specs.declared.call.Checked.the-variants.{Sound as Passed, Refused as Failed}
 use Rattle.packing.specs.Grants.{total}
 use Rattle.packing.specs.Count.{services, volume}
 use Rattle.packing.specs.Table.{problem, granted}
 use Rattle.packing.specs.Demand.{Demand}
 use Rattle.packing.specs.Answer.{servicesOf, checkAll, linesMade, packedOf, figuresMade, cells, noBuffer, figuresBuffer, tableBuffer, written, answer, onMade}
-use Rattle.packing.specs.Kept.{Listed, Granted}
-use Rattle.packing.specs.Stored.{storedTotal, storedFigures, storedTable, AllPayable, Allotted, Writable}
+use Rattle.packing.specs.Inner.Lists.{Listed, Granted}
+use Rattle.packing.specs.Inner.Stored.{storedTotal, storedFigures, storedTable, AllPayable, Allotted, Writable}
 use Rattle.packing.specs.declared.call.Packed.{Packed}
 use Rattle.packing.specs.declared.call.Packing.{Packing}
 use Rattle.packing.specs.declared.call.Packing.the-variants.{Made, Refused}
 use Rattle.packing.proofs.Demand.{granted-fitting, demand}
 use Rattle.packing.proofs.Checks.{Accepted, balanced, volume-le}
-use Rattle.packing.proofs.Meant.{granted-kept, rules-kept, granted-payable, total-meant, all-payable}
+use Rattle.packing.proofs.StoredCosts.{granted-kept, rules-kept, granted-payable, total-meant, all-payable}
 use Rattle.packing.proofs.Written.{table-meant, figures-meant, tabled, rules-made}
 
 -- what holds of the table holds of an answer that it was made
@@ -40,7 +40,7 @@ module _ (claim : Packed → Type 0) (p : Packed) where
 -- the answer by what the checks found
 module _ (k tolerance capacity : ℕ) (volumes sizes ws : List ℕ) (figuresRoom tableRoom : ℕ) where
   pub answer-refused :
-      (why : Refusal) → checkAll k tolerance capacity volumes sizes ws ≡ Turned why
+      (why : Refusal) → checkAll k tolerance capacity volumes sizes ws ≡ Failed why
       → answer k tolerance capacity volumes sizes ws figuresRoom tableRoom ≡ Refused why noBuffer
   unfolding answer
   answer-refused why e = rw e

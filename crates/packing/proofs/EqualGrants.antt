@@ -10,7 +10,7 @@ use lib.Seq.{getD-set-same, getD-set-other}
 use Rattle.numerals.proofs.Sums.{sum-ext}
 use Rattle.numerals.proofs.Searches.{argmax-ext}
 use Rattle.packing.specs.Grants.{Problem, Grants, saving, next, rules, total, more, grantStep}
-use Rattle.packing.proofs.Runs.{more-same, more-other, Goes, Stops, goes-or-stops, step-goes, step-stops, next-lt}
+use Rattle.packing.proofs.GrantSteps.{more-same, more-other, Goes, Stops, goes-or-stops, step-goes, step-stops, next-lt}
 
 abbrev pub Agree : Problem → Grants → Grants → Type 0
 Agree P g h = (s : ℕ) → s < P .services → g s ≡ h s

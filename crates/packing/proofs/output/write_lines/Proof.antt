@@ -1,4 +1,4 @@
--- `output::write_table` meets its contract. The loop's invariant: the cells of the services passed are written.
+-- `output::write_lines` meets its contract. The loop's invariant: the cells of the services passed are written.
 -- Assumes nothing.
 use Prim.Native.Nat.{ℕ, _+_, _-_, _*_, _≤_}
 use mathlib.Core.Path.{_≡_, refl, ap, _∙_}
@@ -7,10 +7,10 @@ use native.Mathlib.Omega.{arith}
 use lib.ListN.{length, getD}
 use lib.Seq.{sets}
 use Rattle.numerals.specs.Sums.{sumTo}
-use Rattle.packing.specs.Stored.{storedTable}
+use Rattle.packing.specs.Inner.Stored.{storedTable}
 use Rattle.packing.proofs.Stores.{sum-before, table-more}
-use Rattle.packing.proofs.output.write_table.Statement.{statement}
-use Rattle.packing.proofs.output.write_table.Tie as tie
+use Rattle.packing.proofs.output.write_lines.Statement.{statement}
+use Rattle.packing.proofs.output.write_lines.Tie as tie
 
 abbrev Inv-loop : tie.InvT-loop
 Inv-loop table₀ n grants lens values backends at₀ s₀ table at s =
@@ -84,8 +84,8 @@ returns c =
     l .inv .3
     ∙ ap (λ (n : ℕ). sets (a .table .now) 0 (storedTable (a .grants .now) (a .lens .now) (a .values .now) (a .backends .now) n)) all
 
-pub write-table-spec : {M : Type 1} → statement M
-write-table-spec =
+pub write-lines-spec : {M : Type 1} → statement M
+write-lines-spec =
     tie.close
     (tie.spec
     Inv-loop

@@ -24,9 +24,9 @@ use Rattle.packing.specs.Grants.{Problem, Grants, saving, next, total, m
 use Rattle.packing.specs.Count.{Services, services, volume, weightsOf}
 use Rattle.packing.specs.Table.{ruleBudget, frameOf, listFor, problem, granted}
 use Rattle.packing.specs.Demand.{Balanced}
-use Rattle.packing.specs.Kept.{Stepped, Granted}
-use Rattle.packing.specs.Stored.{storedCost, storedProblem, storedTotal, Payable, AllPayable, Allotted}
-use Rattle.packing.proofs.Runs.{more-same, more-other, Goes, along}
+use Rattle.packing.specs.Inner.Lists.{Stepped, Granted}
+use Rattle.packing.specs.Inner.Stored.{storedCost, storedProblem, storedTotal, Payable, AllPayable, Allotted}
+use Rattle.packing.proofs.GrantSteps.{more-same, more-other, Goes, along}
 use Rattle.packing.proofs.Tables.{saving-drop}
 use Rattle.packing.proofs.Demand.{sound, granted-fitting}
 
