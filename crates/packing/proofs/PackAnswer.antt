@@ -1,11 +1,12 @@
 -- What the packing answers, where the lists and the grants are those that the program keeps.
-use Prim.Native.Nat.{ℕ, _*_, _≤_}
-use mathlib.Core.Path.{_≡_, refl, sym, ap₂, _∙_}
+use Prim.Native.Nat.{ℕ, _*_, _≤_, _<_}
+use mathlib.Core.Path.{_≡_, refl, ap₂, _∙_}
 use mathlib.Core.Bool.{Bool, true, false}
 use mathlib.Core.List.{List}
 use native.Mathlib.Omega.{arith}
-use lib.ListN.{length}
+use lib.ListN.{length, getD}
 use lib.Dec.{leb}
+use Rattle.numerals.specs.Limits.{mostServices}
 use Rattle.numerals.specs.Pick.{pick}
 use Rattle.numerals.specs.Sums.{sumTo}
 use Rattle.numerals.specs.declared.refusal.Refusal.{Refusal}
@@ -13,18 +14,17 @@ use Rattle.numerals.specs.declared.refusal.Refusal.the-variants.{ShortLoan}
 use Rattle.expansion.specs.declared.call.Checked.the-variants.{Sound as Passed, Refused as Failed}
 use Rattle.packing.specs.Grants.{total}
 use Rattle.packing.specs.Count.{services, volume}
-use Rattle.packing.specs.Table.{problem, granted}
-use Rattle.packing.specs.Demand.{Demand}
-use Rattle.packing.specs.Answer.{servicesOf, checkAll, linesMade, packedOf, figuresMade, cells, noBuffer, figuresBuffer, tableBuffer, written, answer, onMade}
-use Rattle.packing.specs.Inner.Lists.{Listed, Granted}
-use Rattle.packing.specs.Inner.Stored.{storedTotal, storedFigures, storedTable, AllPayable, Allotted, Writable}
+use Rattle.packing.specs.Table.{problem, granted, oneEach}
+use Rattle.packing.specs.Answer.{servicesOf, checkAll, linesMade, packedOf, figuresOf, cellsOf, Demanded, noBuffer, figuresBuffer, tableBuffer, written, answer, onMade}
+use Rattle.packing.specs.Inner.Lists.{places, Listed, Granted}
+use Rattle.packing.specs.Inner.Stored.{storedTotal, storedLines, storedFigures, storedTable, held, AllPayable, Started, Allotted, Counted, Writable}
 use Rattle.packing.specs.declared.call.Packed.{Packed}
 use Rattle.packing.specs.declared.call.Packing.{Packing}
 use Rattle.packing.specs.declared.call.Packing.the-variants.{Made, Refused}
-use Rattle.packing.proofs.Demand.{granted-fitting, demand}
+use Rattle.packing.proofs.Demand.{granted-fitting, one-fits, demand}
 use Rattle.packing.proofs.Checks.{Accepted, balanced, volume-le}
-use Rattle.packing.proofs.StoredCosts.{granted-kept, rules-kept, granted-payable, total-meant, all-payable}
-use Rattle.packing.proofs.Written.{table-meant, figures-meant, tabled, rules-made}
+use Rattle.packing.proofs.StoredCosts.{granted-kept, total-kept, all-payable, all-started}
+use Rattle.packing.proofs.Written.{table-kept, lines-kept, lines-le, figures-kept, counted}
 
 -- what holds of the table holds of an answer that it was made
 module _ (claim : Packed → Type 0) (p : Packed) where
@@ -53,62 +53,75 @@ module _ (k tolerance capacity : ℕ) (volumes sizes ws : List ℕ) (figuresRoom
   unfolding answer services servicesOf
   answer-passed passed p e = rw (passed, e)
 
--- the lists and grants kept, with r rules in all, come to this
-pub record Settled (k tolerance capacity : ℕ) (volumes sizes ws lens values backends stairs counts ends grants : List ℕ) (r : ℕ) : Type 0 where
-  pub rules : r ≡ length (linesMade (servicesOf k volumes sizes ws) tolerance capacity)
-  pub payable : AllPayable volumes stairs grants
-  pub writable : Writable (length volumes) r grants counts ends lens values backends
-  pub figures :
-      storedFigures grants counts ends (length volumes) ≡ figuresMade (servicesOf k volumes sizes ws) tolerance capacity
+-- the lists and the grants kept come to this
+pub record Outcome (k tolerance capacity : ℕ) (volumes sizes ws lens values backends stairs counts ends grants : List ℕ) : Type 0 where
+  pub payable : AllPayable volumes stairs counts
+  pub counted : Counted (length volumes) grants counts
+  pub writable :
+      Writable (length volumes) (sumTo (length volumes) (storedLines grants counts)) grants counts ends lens values backends
+  pub figures : storedFigures grants counts ends (length volumes) ≡ figuresOf k tolerance capacity volumes sizes ws
   pub table :
-      storedTable grants lens values backends (length volumes)
-      ≡ cells (linesMade (servicesOf k volumes sizes ws) tolerance capacity)
+      storedTable (storedLines grants counts) lens values backends (length volumes)
+      ≡ cellsOf k tolerance capacity volumes sizes ws
   pub made :
-      (t : ℕ) → t ≡ storedTotal volumes stairs grants
+      (r t : ℕ) → r ≡ sumTo (length volumes) (storedLines grants counts) → t ≡ storedTotal volumes stairs counts grants
       → _≡_ {A = Packed} (record { rules = r; total = t }) (packedOf (servicesOf k volumes sizes ws) tolerance capacity)
   pub demand :
-      (t : ℕ) → t ≡ storedTotal volumes stairs grants
-      → Demand (servicesOf k volumes sizes ws) tolerance capacity t (linesMade (servicesOf k volumes sizes ws) tolerance capacity)
+      (t : ℕ) → t ≡ storedTotal volumes stairs counts grants → Demanded k tolerance capacity volumes sizes ws t
 
 module _ (k tolerance capacity : ℕ) (volumes sizes ws lens values backends stairs counts ends : List ℕ)
     (A : Accepted k tolerance capacity volumes sizes ws)
     (L : Listed (servicesOf k volumes sizes ws) tolerance lens values backends stairs counts ends) where
-  pub ready : length stairs ≡ 2048 → length counts ≡ 64 → AllPayable volumes stairs counts
+  pub payable : length stairs ≡ places → length counts ≡ mostServices → AllPayable volumes stairs counts
   unfolding servicesOf services volume
-  ready places room =
+  payable stored room =
       all-payable (servicesOf k volumes sizes ws) tolerance stairs counts (L .stepped) (balanced A) refl (A .few-bits)
-      (omega (arith, A .few, A .same)) (volume-le A) places (omega (arith, A .few, A .same))
+      (omega (arith, A .few, A .same)) (volume-le A) stored (omega (arith, A .few, A .same))
 
-  pub settled :
-      (grants : List ℕ) (r : ℕ) → length lens ≡ 2048 → length values ≡ 2048 → length backends ≡ 2048
-      → length stairs ≡ 2048 → length counts ≡ 64 → length ends ≡ 64 → length grants ≡ 64
-      → Allotted capacity volumes stairs counts grants r
-      → Settled k tolerance capacity volumes sizes ws lens values backends stairs counts ends grants r
+  -- grants of one rule each
+  pub started :
+      (grants : List ℕ) → length grants ≡ mostServices → ((s : ℕ) → s < length volumes → getD grants s 0 ≡ 1)
+      → Started volumes stairs counts grants
+  unfolding servicesOf services
+  started grants long ones =
+      all-started (servicesOf k volumes sizes ws) tolerance stairs counts (L .stepped) (balanced A) refl (A .few-bits) grants
+      (omega (arith, A .few, A .same)) (λ s l. omega (arith, ones s l))
+
+  pub outcome :
+      (from grants : List ℕ) (r : ℕ) → ((s : ℕ) → s < length volumes → getD from s 0 ≡ 1)
+      → length lens ≡ places → length values ≡ places → length backends ≡ places
+      → length stairs ≡ places → length counts ≡ mostServices → length ends ≡ mostServices → length grants ≡ mostServices
+      → Allotted (held from) capacity volumes stairs counts grants r
+      → Outcome k tolerance capacity volumes sizes ws lens values backends stairs counts ends grants
   unfolding servicesOf services packedOf linesMade
-  settled grants r e f g h i m j G =
+  outcome from grants r ones e f g h i m j G =
       let S = servicesOf k volumes sizes ws in
-      let few : length volumes ≤ 64 = omega (arith, A .few, A .same) in
-      let room : length volumes ≤ capacity = omega (arith, A .room, A .same) in
-      let kept : Granted S (granted S tolerance capacity) grants = granted-kept S tolerance stairs counts (L .stepped) capacity grants r G in
-      let sum : r ≡ sumTo (length volumes) (granted S tolerance capacity) =
-      rules-kept S tolerance stairs counts (L .stepped) capacity grants r G in
-      let lines : r ≡ length (linesMade S tolerance capacity) =
-      sum ∙ sym (rules-made S tolerance capacity (L .stepped .some)) in
-      let whole : storedTotal volumes stairs grants ≡ total (problem S tolerance capacity) (granted S tolerance capacity) =
-      total-meant S tolerance stairs counts (L .stepped) capacity grants room kept in
+      let few : length volumes ≤ mostServices = omega (arith, A .few, A .same) in
+      let room : sumTo (length volumes) oneEach ≤ capacity = one-fits S capacity (omega (arith, A .room, A .same)) in
+      let some : 0 < length volumes = omega (arith, A .some, A .same) in
+      let kept : Granted S (granted S tolerance oneEach capacity) grants =
+      granted-kept S tolerance stairs counts (L .stepped) oneEach capacity grants from ones some r G in
+      let lines : sumTo (length volumes) (storedLines grants counts) ≡ length (linesMade S tolerance capacity) =
+      lines-kept S tolerance lens values backends stairs counts ends L capacity grants kept in
+      let whole : storedTotal volumes stairs counts grants ≡ total (problem S tolerance oneEach capacity) (granted S tolerance oneEach capacity) =
+      total-kept S tolerance stairs counts (L .stepped) oneEach capacity grants kept in
+      let C : Counted (length volumes) grants counts =
+      counted S tolerance lens values backends stairs counts ends L grants few (omega arith) (omega arith) in
       record {
-        rules = lines;
-        payable = granted-payable S tolerance stairs counts (L .stepped) capacity grants room kept (omega arith) (ready h i);
+        payable = payable h i;
+        counted = C;
         writable = record {
-          few = few;
-          little = omega (arith, granted-fitting S tolerance capacity room .room, A .little-room);
-          given = omega arith;
-          counted = omega arith;
+          little = omega (
+            arith,
+            lines-le S tolerance lens values backends stairs counts ends L capacity grants kept,
+            granted-fitting S tolerance oneEach capacity room .room,
+            A .little-room,
+          );
           ended = omega arith;
-          tabled = λ n l. tabled S tolerance lens values backends stairs counts ends L capacity grants kept n few (omega arith) e f g (omega arith);
+          tabled = λ n l. record { counted = C; all-lens = e; all-values = f; all-backends = g; fits = l };
         };
-        figures = figures-meant S tolerance lens values backends stairs counts ends L capacity grants kept;
-        table = table-meant S tolerance lens values backends stairs counts ends L capacity grants kept;
-        made = λ t p. ap₂ (λ (r t : ℕ). record { rules = r; total = t }) lines (p ∙ whole);
-        demand = λ t p. rw (p ∙ whole) (demand S tolerance (balanced A) capacity room);
+        figures = figures-kept S tolerance lens values backends stairs counts ends L capacity grants kept;
+        table = table-kept S tolerance lens values backends stairs counts ends L capacity grants kept;
+        made = λ r t p q. ap₂ (λ (r t : ℕ). record { rules = r; total = t }) (p ∙ lines) (q ∙ whole);
+        demand = λ t p. rw (p ∙ whole) (demand S tolerance (balanced A) oneEach capacity (λ s l. omega arith) room);
       }
