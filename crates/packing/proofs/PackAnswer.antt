@@ -12,6 +12,7 @@ use Rattle.numerals.specs.Sums.{sumTo}
 use Rattle.numerals.specs.declared.refusal.Refusal.{Refusal}
 use Rattle.numerals.specs.declared.refusal.Refusal.the-variants.{ShortLoan}
 use Rattle.expansion.specs.declared.call.Checked.the-variants.{Sound as Passed, Refused as Failed}
+use Rattle.numerals.proofs.Sums.{sum-ext}
 use Rattle.packing.specs.Grants.{total}
 use Rattle.packing.specs.Count.{services, volume}
 use Rattle.packing.specs.Table.{problem, granted, oneEach}
@@ -58,7 +59,8 @@ pub record Outcome (k tolerance capacity : ℕ) (volumes sizes ws lens values ba
   pub payable : AllPayable volumes stairs counts
   pub counted : Counted (length volumes) grants counts
   pub writable :
-      Writable (length volumes) (sumTo (length volumes) (storedLines grants counts)) grants counts ends lens values backends
+      (r : ℕ) → r ≡ sumTo (length volumes) (storedLines grants counts)
+      → Writable (length volumes) r grants counts ends lens values backends
   pub figures : storedFigures grants counts ends (length volumes) ≡ figuresOf k tolerance capacity volumes sizes ws
   pub table :
       storedTable (storedLines grants counts) lens values backends (length volumes)
@@ -87,6 +89,18 @@ module _ (k tolerance capacity : ℕ) (volumes sizes ws lens values backends sta
       all-started (servicesOf k volumes sizes ws) tolerance stairs counts (L .stepped) (balanced A) refl (A .few-bits) grants
       (omega (arith, A .few, A .same)) (λ s l. omega (arith, ones s l))
 
+  -- they fit
+  pub ones-fit :
+      (grants : List ℕ) → ((s : ℕ) → s < length volumes → getD grants s 0 ≡ 1)
+      → sumTo (length volumes) (held grants) ≤ capacity
+  unfolding servicesOf services
+  ones-fit grants ones =
+      omega (
+        arith,
+        sum-ext (length volumes) (held grants) oneEach ones,
+        one-fits (servicesOf k volumes sizes ws) capacity (omega (arith, A .room, A .same)),
+      )
+
   pub outcome :
       (from grants : List ℕ) (r : ℕ) → ((s : ℕ) → s < length volumes → getD from s 0 ≡ 1)
       → length lens ≡ places → length values ≡ places → length backends ≡ places
@@ -110,15 +124,17 @@ module _ (k tolerance capacity : ℕ) (volumes sizes ws lens values backends sta
       record {
         payable = payable h i;
         counted = C;
-        writable = record {
+        writable = λ r p. record {
           little = omega (
             arith,
+            p,
             lines-le S tolerance lens values backends stairs counts ends L capacity grants kept,
             granted-fitting S tolerance oneEach capacity room .room,
             A .little-room,
           );
+          counted = C;
           ended = omega arith;
-          tabled = λ n l. record { counted = C; all-lens = e; all-values = f; all-backends = g; fits = l };
+          tabled = λ n l. record { counted = C; all-lens = e; all-values = f; all-backends = g; fits = omega (arith, p) };
         };
         figures = figures-kept S tolerance lens values backends stairs counts ends L capacity grants kept;
         table = table-kept S tolerance lens values backends stairs counts ends L capacity grants kept;

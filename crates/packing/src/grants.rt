@@ -1,5 +1,6 @@
 // The grants: the next rule goes, again and again, to the service whose next stair saves the most.
 use crate::lists::STRIDE;
+use crate::tournament::LAST;
 use crate::tournament::LEAVES;
 use crate::tournament::NODES;
 ghost use mathlib.Core.Path.{_≡_};
@@ -49,7 +50,7 @@ fn enter(
         (now (tree .exit)) ⌝ }
 {
     let gain = saving(volumes[s], stairs, s, counts[s], grants[s]);
-    crate::tournament::replace(tree, s, LEAVES as u64 * gain + (LEAVES - 1 - s) as u64);
+    crate::tournament::replace(tree, s, LEAVES as u64 * gain + (LAST - s) as u64);
 }
 
 // The tournament of all services; the key of a leaf without a service is 0.
@@ -105,7 +106,7 @@ pub fn grant_all(
         if tree[1] < LEAVES as u64 {
             return rules;
         }
-        let s = LEAVES - 1 - (tree[1] % LEAVES as u64) as usize;
+        let s = LAST - (tree[1] % LEAVES as u64) as usize;
         grants[s] = grants[s] + 1;
         enter(&mut tree, volumes, stairs, counts, grants, s);
         rules += 1;

@@ -6,6 +6,8 @@ ghost use Rattle.packing.specs.Inner.Tournament.{leaves, Tournament, Rep
 
 pub const LEAVES: usize = numerals::MOST_SERVICES;
 
+pub const LAST: usize = LEAVES - 1;
+
 pub const NODES: usize = 2 * LEAVES;
 
 fn greater(a: u64, b: u64) -> u64

@@ -113,5 +113,6 @@ pub record Tabled (n : ℕ) (grants counts lens values backends : List ℕ) (roo
 -- what is written into both lent buffers stands there: the grants of n services, with so many lines in all
 pub record Writable (n lines : ℕ) (grants counts ends lens values backends : List ℕ) : Type 0 where
   pub little : lines ≤ mostCapacity
+  pub counted : Counted n grants counts
   pub ended : n ≤ length ends
   pub tabled : (room : ℕ) → 4 * lines ≤ room → Tabled n grants counts lens values backends room

@@ -1,58 +1,71 @@
+-- `grants::all_lines` meets its contract. The loop's invariant: the number is that of the services passed, and at most `mostRules` for each.
+-- Assumes nothing.
+use Prim.Native.Nat.{ℕ, _-_, _*_, _≤_}
+use mathlib.Core.Path.{_≡_, refl, ap, _∙_}
+use native.Mathlib.Omega.{arith}
+use native.Mathlib.Numerals.{add-one}
+use borrow.Author.Needs.{needs}
+use lib.ListN.{getD}
+use Rattle.numerals.specs.Limits.{mostRules}
+use Rattle.numerals.specs.Sums.{sumTo}
+use Rattle.packing.specs.Inner.Stored.{storedLines}
 use Rattle.packing.proofs.grants.all_lines.Statement.{statement}
 use Rattle.packing.proofs.grants.all_lines.Tie as tie
-use Rattle.packing.proofs.grants.all_lines.Reads as reads
-use Rattle.packing.proofs.grants.all_lines.Lts as lts
-use Rattle.packing.proofs.grants.lines_of.Reads as lines-of-reads
 
 abbrev Inv-loop : tie.InvT-loop
-Inv-loop n grants counts lines₀ s₀ lines s = ?
+Inv-loop n grants counts lines₀ s₀ lines s =
+    (s ≤ n) × (lines ≡ sumTo s (storedLines grants counts)) × (lines ≤ mostRules * s)
 
 abbrev μ-loop : tie.MeasureT-loop
-μ-loop n grants counts lines₀ s₀ lines s = ?
+μ-loop n grants counts lines₀ s₀ lines s = n - s
 
--- src/grants.rt:139:5
 loop-holds : tie.Need-loop-holds Inv-loop μ-loop
-loop-holds c = ?
+unfolding sumTo
+loop-holds c = (omega arith, refl, omega arith)
 
--- src/grants.rt:140:27
 mul-lines-of : tie.Need-mul-lines-of Inv-loop μ-loop
-mul-lines-of c = ?
+mul-lines-of c = search needs
 
--- src/grants.rt:140:27
 shared-slice-read-lines-of : tie.Need-shared-slice-read-lines-of Inv-loop μ-loop
-shared-slice-read-lines-of c = ?
+shared-slice-read-lines-of c = omega (arith, c .before .before .before .before .before .pre .granted)
 
--- src/grants.rt:140:38
 mul-lines-of-2 : tie.Need-mul-lines-of-2 Inv-loop μ-loop
-mul-lines-of-2 c = ?
+mul-lines-of-2 c = search needs
 
--- src/grants.rt:140:38
 shared-slice-read-lines-of-2 : tie.Need-shared-slice-read-lines-of-2 Inv-loop μ-loop
-shared-slice-read-lines-of-2 c = ?
+shared-slice-read-lines-of-2 c = omega (arith, c .before .before .before .before .before .before .pre .listed)
 
--- src/grants.rt:140:18
 lines-of-requires : tie.Need-lines-of-requires Inv-loop μ-loop
-lines-of-requires c κs = ?
+lines-of-requires c κs = search needs
 
--- src/grants.rt:140:9
+-- its list is short
+few :
+    (c : tie.After-lines-of Inv-loop μ-loop)
+    → getD (c .before .before .before .before .before .before .before .args .counts .now) (c .before .before .before .before .loop .s) 0 ≤ mostRules
+few c =
+    c .before .before .before .before .before .before .before .pre .most (c .before .before .before .before .loop .s) (c .before .before .before .loop-test .taken)
+
 add-lines : tie.Need-add-lines Inv-loop μ-loop
-add-lines c = ?
+add-lines c = omega (arith, c .lines-of .ensures, few c)
 
--- src/grants.rt:141:9
 add-s : tie.Need-add-s Inv-loop μ-loop
-add-s c = ?
+add-s c = omega arith
 
--- src/grants.rt:139:5
 loop-less : tie.Need-loop-less Inv-loop μ-loop
-loop-less c = ?
+loop-less c = omega arith
 
--- src/grants.rt:139:5
 loop-again : tie.Need-loop-again Inv-loop μ-loop
-loop-again c = ?
+unfolding sumTo
+loop-again c =
+    let l = c .before .before .before .before .loop in
+    (omega arith, rw (add-one, l .inv .1, c .lines-of .ensures), omega (arith, c .lines-of .ensures, few c))
 
--- src/grants.rt:133:1
 returns : tie.Need-returns Inv-loop μ-loop
-returns c = ?
+returns c =
+    let a = c .before .before .before .before .args in
+    let l = c .before .loop in
+    let all : l .s ≡ a .n = omega arith in
+    l .inv .1 ∙ ap (λ (n : ℕ). sumTo n (storedLines (a .grants .now) (a .counts .now))) all
 
 pub all-lines-spec : {M : Type 1} → statement M
 all-lines-spec =

@@ -23,7 +23,7 @@ enter-requires : tie.Need-enter-requires Inv-loop μ-loop
 enter-requires c κs =
     let a = c .before .before .before .before .before .before .before in
     let l : c .before .before .loop .s < length (a .args .volumes .now) = omega arith in
-    (a .pre .0, ((l, omega (arith, a .pre .1 .room), a .pre .1 .one (c .before .before .loop .s) l), c .before .before .loop .inv .1 .tournament))
+    (a .pre .0, ((l, omega (arith, a .pre .1 .room), a .pre .1 .each (c .before .before .loop .s) l), c .before .before .loop .inv .1 .tournament))
 
 add-s : tie.Need-add-s Inv-loop μ-loop
 add-s c = omega arith

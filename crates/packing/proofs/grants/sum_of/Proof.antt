@@ -29,7 +29,9 @@ shared-slice-read-sum : tie.Need-shared-slice-read-sum Inv-loop μ-loop
 shared-slice-read-sum c = omega arith
 
 add-sum : tie.Need-add-sum Inv-loop μ-loop
-add-sum c = ?
+add-sum c =
+    let a = c .before .before .before in
+    omega (arith, sum-before (c .before .before .loop .s) (a .args .n) (held (a .args .grants .now)) (c .before .loop-test .taken))
 
 add-s : tie.Need-add-s Inv-loop μ-loop
 add-s c = omega arith
@@ -39,10 +41,16 @@ loop-less c = omega arith
 
 loop-again : tie.Need-loop-again Inv-loop μ-loop
 unfolding sumTo
-loop-again c = ?
+loop-again c =
+    let l = c .before .before .loop in
+    (omega arith, rw (add-one, l .inv .1))
 
 returns : tie.Need-returns Inv-loop μ-loop
-returns c = ?
+returns c =
+    let a = c .before .before .args in
+    let l = c .before .loop in
+    let all : l .s ≡ a .n = omega arith in
+    l .inv .1 ∙ ap (λ (n : ℕ). sumTo n (held (a .grants .now))) all
 
 pub sum-of-spec : {M : Type 1} → statement M
 sum-of-spec =
