@@ -8,8 +8,7 @@ use lib.Dec.{leb}
 use lib.ListN.{length, getD, take}
 use lib.Seq.{take-suc}
 use borrow.Author.Tests.{leb-false, le-leb, lt-leb}
-use Rattle.expansion.specs.Imbalance.{Frame}
-use Rattle.expansion.specs.Steps.{frame, stair, stairsTo}
+use Rattle.expansion.specs.Steps.{frame, stair, stairsTo, Frame}
 use Rattle.expansion.specs.Answer.{checkCall, listMade, stairsMade, recordMade, answer}
 use Rattle.numerals.specs.Limits.{unit}
 use Rattle.expansion.specs.Kept.{Made}

@@ -11,10 +11,10 @@ use lib.Seq.{getD-set-same, getD-set-other}
 use Rattle.numerals.specs.Pick.{pick, both}
 use Rattle.numerals.specs.Sums.{sumTo, argmax, lastmax}
 use Rattle.expansion.specs.FirstMatch.{share}
-use Rattle.expansion.specs.Imbalance.{Frame, backends, weight, has, wants, excess, shortfall, imbalance, giver, receiver, largestExcess, largestShortfall}
-use Rattle.expansion.specs.Steps.{frame, isWithin, reduction, reductionAt, term, isNoGain}
+use Rattle.expansion.specs.Imbalance.{backends, label, weight, has, wants, excess, shortfall, imbalance, giver, receiver, largestExcess, largestShortfall}
+use Rattle.expansion.specs.Steps.{isWithin, reduction, reductionAt, term, isNoGain, Frame}
 use Rattle.expansion.specs.Sound.{Sound}
-use Rattle.numerals.specs.Limits.{unit}
+use Rattle.numerals.specs.Limits.{mostBits, mostSuffixes, unit}
 use Rattle.expansion.specs.Kept.{over, under, Small, noBackend, entryAt, errorAt, entryOf, lessOf, moreOf, largestOf, nextFor, nextOf, Keeps}
 use Rattle.expansion.specs.declared.rule.Rule.{Rule}
 use Rattle.expansion.specs.declared.rule.Ended.the-variants.{Within, NoGain}
@@ -33,7 +33,7 @@ use Rattle.expansion.proofs.Signed.{over-sub, under-sub, mag-sides, wan
 
 -- the move of a turn
 unfoldable pub moveOf : Frame → List Rule → Move
-moveOf F rs = record { giver = giver F rs; receiver = receiver F rs; index = term F rs }
+moveOf F rs = record { giver = giver (F .targets) rs; receiver = receiver (F .targets) rs; index = term F rs }
 
 -- what comes next, by the definitions
 unfoldable pub nextBy : Frame → List Rule → Next
@@ -46,33 +46,33 @@ next unit slack cap g r o u =
     pick (both (leb o slack) (leb u slack)) (Stop Within)
     (pick (eqb (reduction u o (2 ^ i * unit)) 0) (Stop NoGain) (Go (record { giver = g; receiver = r; index = i })))
 
-module _ (F : Frame) (rs : List Rule) (L : Ledger) (K : Keeps F rs L) where
-  pub kept-share : (b : ℕ) → b < backends F → entryAt L b .share ≡ share (F .k) rs b
+module _ (F : Frame) (rs : List Rule) (L : Ledger) (K : Keeps (F .targets) rs L) where
+  pub kept-share : (b : ℕ) → b < backends (F .targets) → entryAt L b .share ≡ share (F .targets .k) rs (label (F .targets) b)
   unfolding entryOf
   kept-share b l = ap (λ (x : Backend). x .share) (K .entries b l)
 
-  pub kept-over : (b : ℕ) → b < backends F → over (errorAt L b) ≡ excess F rs b
+  pub kept-over : (b : ℕ) → b < backends (F .targets) → over (errorAt L b) ≡ excess (F .targets) rs b
   unfolding entryOf excess has wants
-  kept-over b l = ap (λ (x : Backend). over (x .error)) (K .entries b l) ∙ over-sub (has F rs b) (wants F b)
+  kept-over b l = ap (λ (x : Backend). over (x .error)) (K .entries b l) ∙ over-sub (has (F .targets) rs b) (wants (F .targets) b)
 
-  pub kept-under : (b : ℕ) → b < backends F → under (errorAt L b) ≡ shortfall F rs b
+  pub kept-under : (b : ℕ) → b < backends (F .targets) → under (errorAt L b) ≡ shortfall (F .targets) rs b
   unfolding entryOf shortfall has wants
-  kept-under b l = ap (λ (x : Backend). under (x .error)) (K .entries b l) ∙ under-sub (has F rs b) (wants F b)
+  kept-under b l = ap (λ (x : Backend). under (x .error)) (K .entries b l) ∙ under-sub (has (F .targets) rs b) (wants (F .targets) b)
 
-  pub kept-giver : argmax (λ b. over (errorAt L b)) (backends F) ≡ giver F rs
+  pub kept-giver : argmax (λ b. over (errorAt L b)) (backends (F .targets)) ≡ giver (F .targets) rs
   unfolding giver
-  kept-giver = argmax-ext (λ b. over (errorAt L b)) (excess F rs) (backends F) kept-over
+  kept-giver = argmax-ext (λ b. over (errorAt L b)) (excess (F .targets) rs) (backends (F .targets)) kept-over
 
-  pub kept-receiver : argmax (λ b. under (errorAt L b)) (backends F) ≡ receiver F rs
+  pub kept-receiver : argmax (λ b. under (errorAt L b)) (backends (F .targets)) ≡ receiver (F .targets) rs
   unfolding receiver
-  kept-receiver = argmax-ext (λ b. under (errorAt L b)) (shortfall F rs) (backends F) kept-under
+  kept-receiver = argmax-ext (λ b. under (errorAt L b)) (shortfall (F .targets) rs) (backends (F .targets)) kept-under
 
-  pub kept-imbalance : sumTo (backends F) (λ b. over (errorAt L b)) ≡ imbalance F rs
+  pub kept-imbalance : sumTo (backends (F .targets)) (λ b. over (errorAt L b)) ≡ imbalance (F .targets) rs
   unfolding imbalance
-  kept-imbalance = sum-ext (backends F) (λ b. over (errorAt L b)) (excess F rs) kept-over
+  kept-imbalance = sum-ext (backends (F .targets)) (λ b. over (errorAt L b)) (excess (F .targets) rs) kept-over
 
   -- a backend with an error has an entry
-  pub kept-inside : (b : ℕ) → b < backends F → 0 < excess F rs b + shortfall F rs b → b < length (L .at)
+  pub kept-inside : (b : ℕ) → b < backends (F .targets) → 0 < excess (F .targets) rs b + shortfall (F .targets) rs b → b < length (L .at)
   kept-inside b l h = go (decLt b (length (L .at)))
     where
       go : Dec (b < length (L .at)) → b < length (L .at)
@@ -81,11 +81,11 @@ module _ (F : Frame) (rs : List Rule) (L : Ledger) (K : Keeps F rs L) where
           let d : entryAt L b ≡ noBackend = List·getD-eq-default (L .at) noBackend {n = b} (omega arith) in
           absurd (omega (arith, kept-over b l, kept-under b l, ap (λ (x : Backend). over (x .error)) d, ap (λ (x : Backend). under (x .error)) d))
 
-  pub kept-few : F .k ≤ 12 → (b : ℕ) → b < backends F → entryAt L b .share ≤ 4096
-  kept-few few b l = omega (arith, kept-share b l, share-le (F .k) rs b, pow-few (F .k) few)
+  pub kept-few : F .targets .k ≤ mostBits → (b : ℕ) → b < backends (F .targets) → entryAt L b .share ≤ mostSuffixes
+  kept-few few b l = omega (arith, kept-share b l, share-le (F .targets .k) rs (label (F .targets) b), pow-few (F .targets .k) few)
 
-  module _ (S : Sound F) (same : F .unit ≡ unit) where
-    pub kept-small : F .k ≤ 12 → (b : ℕ) → b < backends F → Small (errorAt L b)
+  module _ (S : Sound F) (same : F .targets .unit ≡ unit) where
+    pub kept-small : F .targets .k ≤ mostBits → (b : ℕ) → b < backends (F .targets) → Small (errorAt L b)
     kept-small few b l =
         record {
           small = omega (
@@ -95,47 +95,47 @@ module _ (F : Frame) (rs : List Rule) (L : Ledger) (K : Keeps F rs L) where
             kept-under b l,
             excess-bound F rs b,
             shortfall-bound F S rs b,
-            wants-few (F .unit) (F .k) (omega arith) few,
+            wants-few (F .targets .unit) (F .targets .k) (omega arith) few,
           );
         }
 
-    largest-over : over (errorAt L (argmax (λ b. over (errorAt L b)) (backends F))) ≡ largestExcess F rs
+    largest-over : over (errorAt L (argmax (λ b. over (errorAt L b)) (backends (F .targets)))) ≡ largestExcess (F .targets) rs
     unfolding largestExcess
-    largest-over = ap (λ (b : ℕ). over (errorAt L b)) kept-giver ∙ kept-over (giver F rs) (giver-lt F S rs)
+    largest-over = ap (λ (b : ℕ). over (errorAt L b)) kept-giver ∙ kept-over (giver (F .targets) rs) (giver-lt F S rs)
 
-    largest-under : under (errorAt L (argmax (λ b. under (errorAt L b)) (backends F))) ≡ largestShortfall F rs
+    largest-under : under (errorAt L (argmax (λ b. under (errorAt L b)) (backends (F .targets)))) ≡ largestShortfall (F .targets) rs
     unfolding largestShortfall
-    largest-under = ap (λ (b : ℕ). under (errorAt L b)) kept-receiver ∙ kept-under (receiver F rs) (receiver-lt F S rs)
+    largest-under = ap (λ (b : ℕ). under (errorAt L b)) kept-receiver ∙ kept-under (receiver (F .targets) rs) (receiver-lt F S rs)
 
     abbrev slack : ℕ
-    slack = F .tolerance * 2 ^ (F .k)
+    slack = F .tolerance * 2 ^ (F .targets .k)
 
-    next-kept : nextOf L (backends F) (F .k) (F .tolerance) (F .cap)
-        ≡ next unit slack (F .cap) (argmax (λ b. over (errorAt L b)) (backends F)) (argmax (λ b. under (errorAt L b)) (backends F))
-        (over (errorAt L (argmax (λ b. over (errorAt L b)) (backends F)))) (under (errorAt L (argmax (λ b. under (errorAt L b)) (backends F))))
+    next-kept : nextOf L (backends (F .targets)) (F .targets .k) (F .tolerance) (F .cap)
+        ≡ next unit slack (F .cap) (argmax (λ b. over (errorAt L b)) (backends (F .targets))) (argmax (λ b. under (errorAt L b)) (backends (F .targets)))
+        (over (errorAt L (argmax (λ b. over (errorAt L b)) (backends (F .targets))))) (under (errorAt L (argmax (λ b. under (errorAt L b)) (backends (F .targets)))))
     unfolding nextOf nextFor largestOf next
     next-kept = refl
 
-    next-defined : next (F .unit) slack (F .cap) (giver F rs) (receiver F rs) (largestExcess F rs) (largestShortfall F rs)
+    next-defined : next (F .targets .unit) slack (F .cap) (giver (F .targets) rs) (receiver (F .targets) rs) (largestExcess (F .targets) rs) (largestShortfall (F .targets) rs)
         ≡ nextBy F rs
     unfolding next nextBy moveOf isNoGain term reductionAt
     next-defined = rw (within-is F S rs)
 
-    pub kept-next : nextOf L (backends F) (F .k) (F .tolerance) (F .cap)
+    pub kept-next : nextOf L (backends (F .targets)) (F .targets .k) (F .tolerance) (F .cap)
         ≡ nextBy F rs
     kept-next = next-kept ∙ cc (same, kept-giver, kept-receiver, largest-over, largest-under) ∙ next-defined
 
 -- c suffixes went from g to r
-module _ (F : Frame) (rs rs′ : List Rule) (L M : Ledger) (K : Keeps F rs L) (same : F .unit ≡ unit) (g r c : ℕ) (apart : g ≢ r)
-    (gave : share (F .k) rs′ g + c ≡ share (F .k) rs g) (got : share (F .k) rs′ r ≡ share (F .k) rs r + c)
-    (other : (b : ℕ) → b ≢ g → b ≢ r → share (F .k) rs′ b ≡ share (F .k) rs b)
+module _ (F : Frame) (rs rs′ : List Rule) (L M : Ledger) (K : Keeps (F .targets) rs L) (same : F .targets .unit ≡ unit) (g r c : ℕ) (apart : g ≢ r)
+    (gave : share (F .targets .k) rs′ (label (F .targets) g) + c ≡ share (F .targets .k) rs (label (F .targets) g)) (got : share (F .targets .k) rs′ (label (F .targets) r) ≡ share (F .targets .k) rs (label (F .targets) r) + c)
+    (other : (b : ℕ) → b < backends (F .targets) → b ≢ g → b ≢ r → share (F .targets .k) rs′ (label (F .targets) b) ≡ share (F .targets .k) rs (label (F .targets) b))
     (from : g < length (L .at)) (to : r < length (L .at))
     (is : M .at ≡ set (set (L .at) g (lessOf (entryAt L g) c)) r (moreOf (entryAt L r) c)) where
   abbrev entry : List Rule → ℕ → Backend
-  entry xs b = entryOf unit (F .k) (weight F b) (share (F .k) xs b)
+  entry xs b = entryOf unit (F .targets .k) (weight (F .targets) b) (share (F .targets .k) xs (label (F .targets) b))
 
-  before : (b : ℕ) → b < backends F → entryAt L b ≡ entry rs b
-  before b l = K .entries b l ∙ ap (λ (u : ℕ). entryOf u (F .k) (weight F b) (share (F .k) rs b)) same
+  before : (b : ℕ) → b < backends (F .targets) → entryAt L b ≡ entry rs b
+  before b l = K .entries b l ∙ ap (λ (u : ℕ). entryOf u (F .targets .k) (weight (F .targets) b) (share (F .targets .k) rs (label (F .targets) b))) same
 
   abbrev mid : List Backend
   mid = set (L .at) g (lessOf (entryAt L g) c)
@@ -143,55 +143,39 @@ module _ (F : Frame) (rs rs′ : List Rule) (L M : Ledger) (K : Keeps F rs L) (s
   now : (b : ℕ) → entryAt M b ≡ getD (set mid r (moreOf (entryAt L r) c)) b noBackend
   now b = ap (λ (xs : List Backend). getD xs b noBackend) is
 
-  at-r : r < backends F → entryAt M r ≡ entry rs′ r
+  at-r : r < backends (F .targets) → entryAt M r ≡ entry rs′ r
   at-r l =
       now r
       ∙ getD-set-same mid r (moreOf (entryAt L r) c) noBackend (omega (arith, length-set (L .at) g (lessOf (entryAt L g) c)))
       ∙ ap (λ (x : Backend). moreOf x c) (before r l)
-      ∙ entry-more (F .k) (weight F r) (share (F .k) rs r) c
-      ∙ ap (entryOf unit (F .k) (weight F r)) (sym got)
+      ∙ entry-more (F .targets .k) (weight (F .targets) r) (share (F .targets .k) rs (label (F .targets) r)) c
+      ∙ ap (entryOf unit (F .targets .k) (weight (F .targets) r)) (sym got)
 
-  at-g : g < backends F → entryAt M g ≡ entry rs′ g
+  at-g : g < backends (F .targets) → entryAt M g ≡ entry rs′ g
   at-g l =
       now g
       ∙ getD-set-other mid r g (moreOf (entryAt L r) c) noBackend apart
       ∙ getD-set-same (L .at) g (lessOf (entryAt L g) c) noBackend from
       ∙ ap (λ (x : Backend). lessOf x c) (before g l)
-      ∙ entry-less (F .k) (weight F g) (share (F .k) rs g) c (omega arith)
-      ∙ ap (entryOf unit (F .k) (weight F g)) (omega arith)
+      ∙ entry-less (F .targets .k) (weight (F .targets) g) (share (F .targets .k) rs (label (F .targets) g)) c (omega arith)
+      ∙ ap (entryOf unit (F .targets .k) (weight (F .targets) g)) (omega arith)
 
-  at-other : (b : ℕ) → b < backends F → b ≢ g → b ≢ r → entryAt M b ≡ entry rs′ b
+  at-other : (b : ℕ) → b < backends (F .targets) → b ≢ g → b ≢ r → entryAt M b ≡ entry rs′ b
   at-other b l d e =
       now b
       ∙ getD-set-other mid r b (moreOf (entryAt L r) c) noBackend e
       ∙ getD-set-other (L .at) g b (lessOf (entryAt L g) c) noBackend d
       ∙ before b l
-      ∙ ap (entryOf unit (F .k) (weight F b)) (sym (other b d e))
+      ∙ ap (entryOf unit (F .targets .k) (weight (F .targets) b)) (sym (other b l d e))
 
-  pub kept-moved : Keeps F rs′ M
+  pub kept-moved : Keeps (F .targets) rs′ M
   kept-moved =
       record {
         entries = λ b l. each b l (ℕ-discrete b r) (ℕ-discrete b g)
-            ∙ ap (λ (u : ℕ). entryOf u (F .k) (weight F b) (share (F .k) rs′ b)) (sym same);
+            ∙ ap (λ (u : ℕ). entryOf u (F .targets .k) (weight (F .targets) b) (share (F .targets .k) rs′ (label (F .targets) b))) (sym same);
       }
     where
-      each : (b : ℕ) → b < backends F → Dec (b ≡ r) → Dec (b ≡ g) → entryAt M b ≡ entry rs′ b
+      each : (b : ℕ) → b < backends (F .targets) → Dec (b ≡ r) → Dec (b ≡ g) → entryAt M b ≡ entry rs′ b
       each b l (yes e) d = ap (entryAt M) e ∙ at-r (omega arith) ∙ ap (entry rs′) (sym e)
       each b l (no n) (yes e) = ap (entryAt M) e ∙ at-g (omega arith) ∙ ap (entry rs′) (sym e)
       each b l (no n) (no m) = at-other b l m n
-
--- the same at the frame of document 01
-module _ (k tolerance : ℕ) (ws : List ℕ) (rs : List Rule) (L : Ledger) (K : Keeps (frame k unit tolerance ws) rs L) where
-  pub frame-imbalance : sumTo (length ws) (λ b. over (errorAt L b)) ≡ imbalance (frame k unit tolerance ws) rs
-  unfolding frame backends
-  frame-imbalance = kept-imbalance (frame k unit tolerance ws) rs L K
-
-  pub frame-small : Sound (frame k unit tolerance ws) → k ≤ 12 → (b : ℕ) → b < length ws → Small (errorAt L b)
-  unfolding frame backends
-  frame-small S few = kept-small (frame k unit tolerance ws) rs L K S refl few
-
-  pub frame-next : Sound (frame k unit tolerance ws)
-      → nextOf L (length ws) k tolerance (k - 1)
-      ≡ nextBy (frame k unit tolerance ws) rs
-  unfolding frame backends
-  frame-next S = kept-next (frame k unit tolerance ws) rs L K S refl

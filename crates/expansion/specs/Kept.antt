@@ -12,9 +12,9 @@ use Rattle.numerals.specs.Pick.{pick, both}
 use Rattle.numerals.specs.Suffix.{place}
 use Rattle.numerals.specs.Sums.{sumTo, allTo, firstTo, argmax, lastmax}
 use Rattle.expansion.specs.FirstMatch.{gives, share}
-use Rattle.expansion.specs.Imbalance.{Frame, backends, weight, imbalance}
-use Rattle.expansion.specs.Steps.{frame, reduction, after, stair, endOf}
-use Rattle.expansion.specs.Answer.{listMade}
+use Rattle.expansion.specs.Imbalance.{Targets, backends, label, weight, imbalance}
+use Rattle.expansion.specs.Steps.{frame, reduction, after, stair, endOf, Frame}
+use Rattle.expansion.specs.Answer.{frameMade, listMade}
 use Rattle.numerals.specs.Limits.{unit}
 use Rattle.expansion.specs.declared.rule.Rule.{Rule}
 use Rattle.expansion.specs.declared.rule.Ended.the-variants.{Within, NoGain, Budget}
@@ -130,8 +130,8 @@ inBudget (Stop e) c budget = Stop e
 inBudget (Go m) c budget = pick (ltb c budget) (Go m) (Stop Budget)
 
 -- the ledger after the rules rs: at each backend its weight, its share by first match and its error
-pub record Keeps (F : Frame) (rs : List Rule) (L : Ledger) : Type 0 where
-  pub entries : (b : ℕ) → b < backends F → entryAt L b ≡ entryOf (F .unit) (F .k) (weight F b) (share (F .k) rs b)
+pub record Keeps (T : Targets) (rs : List Rule) (L : Ledger) : Type 0 where
+  pub entries : (b : ℕ) → b < backends T → entryAt L b ≡ entryOf (T .unit) (T .k) (weight T b) (share (T .k) rs (label T b))
 
 -- b holds each of the `size` suffixes of node j
 unfoldable pub heldBy : List ℕ → ℕ → ℕ → ℕ → Bool
@@ -141,10 +141,11 @@ heldBy holder size b j = allTo size (λ i. eqb (getD holder (j * size + i) 0) b)
 unfoldable pub lowestHeld : List ℕ → ℕ → ℕ → ℕ → ℕ → ℕ
 lowestHeld holder size b from n = from + firstTo (n - from) (λ j. heldBy holder size b (from + j))
 
--- who holds the k-bit suffix of each tree place after the rules rs, and for each backend a place below which it holds none
-pub record Holds (k : ℕ) (rs : List Rule) (holder low : List ℕ) : Type 0 where
-  pub holders : (p : ℕ) → p < 2 ^ k → gives rs (place k p) (getD holder p 0) ≡ true
-  pub lows : (b p : ℕ) → p < 2 ^ k → p < getD low b 0 → getD holder p 0 ≢ b
+-- which backend holds the k-bit suffix of each tree place after the rules rs, and for each backend a place below which it holds none
+pub record Holds (T : Targets) (rs : List Rule) (holder low : List ℕ) : Type 0 where
+  pub known : (p : ℕ) → p < 2 ^ (T .k) → getD holder p 0 < backends T
+  pub holders : (p : ℕ) → p < 2 ^ (T .k) → gives rs (place (T .k) p) (label T (getD holder p 0)) ≡ true
+  pub lows : (b p : ℕ) → p < 2 ^ (T .k) → p < getD low b 0 → getD holder p 0 ≢ b
 
 -- the holders after `size` places from `at` on went to b
 pub record Given (at size b : ℕ) (holder holder′ : List ℕ) : Type 0 where
@@ -190,23 +191,23 @@ pub record Valid (k tolerance : ℕ) (ws : List ℕ) : Type 0 where
 -- the state of the program after its rules, those of document 01's run: the ledger and the holders that go with them, and what comes next
 pub record Stands (k tolerance : ℕ) (ws holder low : List ℕ) (st : State) : Type 0 where
   pub some-rules : 1 ≤ st .count
-  pub keeps : Keeps (frame k unit tolerance ws) (after (frame k unit tolerance ws) (st .count - 1)) (st .ledger)
-  pub holds : Holds k (after (frame k unit tolerance ws) (st .count - 1)) holder low
+  pub keeps : Keeps (frameMade k tolerance ws .targets) (after (frameMade k tolerance ws) (st .count - 1)) (st .ledger)
+  pub holds : Holds (frameMade k tolerance ws .targets) (after (frameMade k tolerance ws) (st .count - 1)) holder low
   pub long : (length holder ≡ 4096) × (length low ≡ 32)
-  pub stair : st .imbalance ≡ imbalance (frame k unit tolerance ws) (after (frame k unit tolerance ws) (st .count - 1))
+  pub stair : st .imbalance ≡ imbalance (frameMade k tolerance ws .targets) (after (frameMade k tolerance ws) (st .count - 1))
   pub next : st .next ≡ nextOf (st .ledger) (length ws) k tolerance (k - 1)
 
 -- the rule that comes before the first c of that run
 pub record Adds (k tolerance : ℕ) (ws : List ℕ) (c : ℕ) (r : Rule) : Type 0 where
-  pub rules : after (frame k unit tolerance ws) c ≡ r ∷ after (frame k unit tolerance ws) (c - 1)
+  pub rules : after (frameMade k tolerance ws) c ≡ r ∷ after (frameMade k tolerance ws) (c - 1)
 
 -- the list kept: the rules of that run and the imbalance after each
 pub record Listed (k tolerance : ℕ) (ws : List ℕ) (list : RuleList) : Type 0 where
   pub few-rules : list .count ≤ 32
-  pub rules : newestFirst (list .rules) (list .count) ≡ after (frame k unit tolerance ws) (list .count - 1)
+  pub rules : newestFirst (list .rules) (list .count) ≡ after (frameMade k tolerance ws) (list .count - 1)
   pub stairs :
       (c : ℕ) → c < list .count
-      → getD (list .stairs) c 0 ≡ imbalance (frame k unit tolerance ws) (after (frame k unit tolerance ws) c)
+      → getD (list .stairs) c 0 ≡ imbalance (frameMade k tolerance ws .targets) (after (frameMade k tolerance ws) c)
 
 -- the list of document 01 that a run came to: its rules, its stairs and how it ended
 pub record Made (k tolerance budget : ℕ) (ws : List ℕ) (r : Run) : Type 0 where
@@ -214,5 +215,5 @@ pub record Made (k tolerance budget : ℕ) (ws : List ℕ) (r : Run) : Type 0 wh
   pub rules : newestFirst (r .list .rules) (r .list .count) ≡ listMade k tolerance budget ws
   pub stairs :
       (c : ℕ) → c < r .list .count
-      → getD (r .list .stairs) c 0 ≡ stair (frame k unit tolerance ws) (suc c) (listMade k tolerance budget ws)
-  pub ended : r .ended ≡ endOf (frame k unit tolerance ws) (listMade k tolerance budget ws)
+      → getD (r .list .stairs) c 0 ≡ stair (frameMade k tolerance ws) (suc c) (listMade k tolerance budget ws)
+  pub ended : r .ended ≡ endOf (frameMade k tolerance ws) (listMade k tolerance budget ws)
