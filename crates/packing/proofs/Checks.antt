@@ -1,11 +1,11 @@
 -- The checks of a packing, service by service, and what they leave.
 use Prim.Native.Nat.{ℕ, zero, suc, _+_, _-_, _≤_, _<_, max}
-use mathlib.Core.List.{List, [], _∷_}
+use mathlib.Core.List.{List, [], _∷_, map}
 use mathlib.Core.Path.{_≡_, refl, ap, _∙_}
 use native.Mathlib.Numerals.{add-one}
 use native.Mathlib.Omega.{arith}
 use lib.Dec.{leb, ltb, eqb}
-use lib.ListN.{length, getD, take, drop, length-drop}
+use lib.ListN.{length, getD, take, drop, length-drop, List·getD-map}
 use lib.Seq.{drop-cons, drop-drop}
 use borrow.Author.Tests.{lt-ltb, le-ltb, le-leb, leb-true, ltb-true}
 use Rattle.expansion.specs.Answer.{andThen, orElse, inLimits, checkWeights}
@@ -14,11 +14,16 @@ use Rattle.numerals.specs.declared.refusal.Refusal.{Refusal}
 use Rattle.numerals.specs.declared.refusal.Refusal.the-variants.{Malformed, BadField, TooMany, NoService, TableShort}
 use Rattle.expansion.specs.declared.call.Checked.the-variants.{Sound as Passed, Refused as Failed}
 use Rattle.expansion.proofs.Checks.{both-passed, test-passed, limits, weights-passed, call-weights}
+use Rattle.numerals.specs.Sums.{listTo}
+use Rattle.expansion.specs.Imbalance.{backends, label, weight}
+use Rattle.expansion.specs.FirstMatch.{nobody}
+use Rattle.numerals.proofs.Sums.{list-at}
 use Rattle.numerals.proofs.Searches.{true-both}
-use Rattle.packing.specs.Count.{services, weightsOf}
+use Rattle.expansion.proofs.Base.{numbers-distinct}
+use Rattle.packing.specs.Count.{services, targetsOf}
 use Rattle.packing.specs.Table.{ruleBudget}
 use Rattle.packing.specs.Answer.{chunks, servicesOf, checkService, checkFrom, checkServices, checkHead, checkAll}
-use Rattle.packing.specs.Demand.{Balanced}
+use Rattle.packing.specs.Inner.Premises.{Balanced}
 use Rattle.packing.specs.Inner.Lists.{start, Sized}
 
 -- the weights of the first service begin at the start
@@ -44,6 +49,16 @@ chunk-at [] ws s l = absurd (omega arith)
 chunk-at (n ∷ ns) ws zero l = refl
 chunk-at (n ∷ ns) ws (suc s) l =
     chunk-at ns (drop n ws) s (omega arith) ∙ ap (take (getD ns s 0)) (drop-drop (start ns s) n ws)
+
+-- and their labels
+pub labels-at :
+    (sizes ws : List ℕ) (s : ℕ) → s < length sizes
+    → getD (map (λ (own : List ℕ). listTo (length own) suc) (chunks sizes ws)) s []
+    ≡ listTo (length (take (getD sizes s 0) (drop (start sizes s) ws))) suc
+unfolding listTo
+labels-at sizes ws s l =
+    List·getD-map (λ (own : List ℕ). listTo (length own) suc) (chunks sizes ws) s []
+    ∙ ap (λ (own : List ℕ). listTo (length own) suc) (chunk-at sizes ws s l)
 
 -- the checks from service s on: its line, one too many, one without a volume or without a size, and none
 
@@ -267,12 +282,14 @@ module _ {k tolerance capacity : ℕ} {volumes sizes ws : List ℕ} (A : Accepte
 
   -- and they are such as the demands are about
   pub balanced : Balanced (servicesOf k volumes sizes ws)
-  unfolding servicesOf services weightsOf unit
+  unfolding servicesOf services targetsOf backends label weight unit
   balanced =
       record {
         bits = A .some-bits;
         positive = omega arith;
         weigh = λ s l. let m : s < length sizes = omega (arith, A .same) in rw (chunk-at sizes ws s m) (weights-passed (take (getD sizes s 0) (drop (start sizes s) ws)) (A .each s m .known .weighed) .balanced);
+        distinct = λ s l. let m : s < length sizes = omega (arith, A .same) in rw (chunk-at sizes ws s m, labels-at sizes ws s m) (numbers-distinct (length (take (getD sizes s 0) (drop (start sizes s) ws))));
+        labelled = λ s l. let m : s < length sizes = omega (arith, A .same) in rw (chunk-at sizes ws s m, labels-at sizes ws s m) (λ b k e. omega (arith, list-at (length (take (getD sizes s 0) (drop (start sizes s) ws))) suc b nobody k));
       }
 
   pub volume-le : (s : ℕ) → s < length volumes → getD volumes s 0 ≤ mostVolume

@@ -4,7 +4,8 @@ use native.Mathlib.Nat.{mul-le-mul-left, mul-sub, le-trans}
 use Rattle.expansion.specs.Steps.{frame, firstRule, stair}
 use Rattle.expansion.specs.Sound.{Sound}
 use Rattle.expansion.proofs.Stairs.{stair-falls, stair-convex}
-use Rattle.packing.specs.Grants.{Grants, Convex}
+use Rattle.packing.specs.Grants.{Grants}
+use Rattle.packing.specs.Inner.Premises.{Convex}
 use Rattle.packing.specs.Count.{Services, services, volume}
 use Rattle.packing.specs.Table.{ruleBudget, frameOf, listFor, problem}
 

@@ -7,8 +7,8 @@ use native.Mathlib.Omega.{arith}
 use lib.ListN.{length}
 use Rattle.numerals.specs.Pick.{pick}
 use Rattle.numerals.specs.Sums.{sumTo}
-use Rattle.expansion.specs.Imbalance.{Frame}
-use Rattle.expansion.specs.Steps.{frame, isWithin, isNoGain, endOf, listOf}
+use Rattle.expansion.specs.Imbalance.{backends, label, weight}
+use Rattle.expansion.specs.Steps.{Frame, firstRule, frame, isWithin, isNoGain, endOf, listOf}
 use Rattle.expansion.specs.Sound.{Sound}
 use Rattle.expansion.specs.declared.rule.Rule.{Rule}
 use Rattle.expansion.specs.declared.rule.Ended.the-variants.{Within, NoGain, Budget}
@@ -16,13 +16,13 @@ use Rattle.numerals.proofs.Sums.{sum-const}
 use Rattle.expansion.proofs.Base.{base-sound}
 use Rattle.expansion.proofs.NoGain.{no-gain-le}
 use Rattle.expansion.proofs.Turns.{good-after}
-use Rattle.packing.specs.Grants.{Grants, rules, total, Allowed, Convex}
-use Rattle.packing.specs.Count.{Services, services, weightsOf, counted, countedLargestExcess, countedLargestShortfall, ownRules}
+use Rattle.packing.specs.Grants.{Grants, rules, total}
+use Rattle.packing.specs.Count.{Services, services, targetsOf, counted, countedLargestExcess, countedLargestShortfall, ownRules}
 use Rattle.packing.specs.Table.{ruleBudget, frameOf, listFor, table, problem, granted, oneEach}
-use Rattle.packing.specs.Demand.{Balanced, Fitting, Demand}
+use Rattle.packing.specs.Demand.{Fitting, Demand}
+use Rattle.packing.specs.Inner.Premises.{Allowed, Convex, Balanced}
 use Rattle.packing.proofs.GrantSteps.{packed-allowed}
 use Rattle.packing.proofs.Best.{best}
-use Rattle.packing.proofs.Lines.{largest-excess-own, largest-shortfall-own}
 use Rattle.packing.proofs.Tables.{own-whole, counted-table}
 use Rattle.packing.proofs.Convexity.{convex}
 
@@ -74,9 +74,10 @@ end-no-gain F rs e = go (isWithin F rs) (isNoGain F rs) e
 
 module _ (S : Services) (tolerance : ℕ) (balanced : Balanced S) where
   pub sound : (s : ℕ) → s < services S → Sound (frameOf S tolerance s)
-  unfolding frameOf
+  unfolding frameOf backends label weight targetsOf
   sound s l =
-      base-sound (S .k) (S .unit) tolerance (weightsOf S s) (balanced .bits) (balanced .positive) (balanced .weigh s l)
+      base-sound (S .k) (S .unit) tolerance (targetsOf S s .labels) (targetsOf S s .weights) (balanced .bits)
+      (balanced .positive) (balanced .weigh s l) (balanced .distinct s l)
 
   -- a service with its whole list in the table, where that ended as no gain, is off by one suffix at most
   pub fine :
@@ -84,10 +85,9 @@ module _ (S : Services) (tolerance : ℕ) (balanced : Balanced S) where
       → length (ownRules (suc s) (table S tolerance g)) ≡ length (listFor S tolerance s)
       → endOf (frameOf S tolerance s) (listFor S tolerance s) ≡ NoGain
       → countedLargestExcess S (table S tolerance g) s + countedLargestShortfall S (table S tolerance g) s ≤ S .unit
-  unfolding listFor listOf frameOf frame
+  unfolding countedLargestExcess countedLargestShortfall listFor listOf frameOf frame firstRule targetsOf
   fine g s l whole ended =
-      rw
-      (largest-excess-own S tolerance (table S tolerance g) s, largest-shortfall-own S tolerance (table S tolerance g) s, own-whole S tolerance g s l whole)
+      rw (own-whole S tolerance g s l whole)
       (no-gain-le (frameOf S tolerance s) (sound s l) (listFor S tolerance s)
       (good-after (frameOf S tolerance s) (sound s l) (ruleBudget - 1) .complete)
       (end-no-gain (frameOf S tolerance s) (listFor S tolerance s) ended))

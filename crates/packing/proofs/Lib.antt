@@ -2,7 +2,6 @@
 pub mod GrantSteps
 pub mod EqualGrants
 pub mod Best
-pub mod Lines
 pub mod Tables
 pub mod Convexity
 pub mod Demand

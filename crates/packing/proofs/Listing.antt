@@ -1,6 +1,6 @@
 -- The lists of all services, each stored in its places, are those of the definitions; a list stored for a later service leaves them.
 use Prim.Native.Nat.{ℕ, zero, suc, _+_, _-_, _*_, _^_, _≤_, _<_, min}
-use mathlib.Core.Bool.{false}
+use mathlib.Core.Bool.{Bool, false}
 use mathlib.Core.List.{List, [], _∷_, _++_, map, reverse}
 use mathlib.Core.Path.{_≡_, refl, sym, ap, ap₂, _∙_}
 use native.Mathlib.Decide.{ℕ-discrete}
@@ -8,11 +8,13 @@ use native.Mathlib.Nat.{zero-mul}
 use native.Mathlib.Omega.{arith}
 use lib.ListN.{length, getD, set, take, drop, length-set, length-append, length-map, length-reverse, List·getD-append, List·getD-map}
 use lib.Seq.{sets, length-sets, getD-set-same, getD-set-other, getD-at, drop-length}
-use borrow.Author.Tests.{le-leb}
-use Rattle.expansion.specs.FirstMatch.{gives, share}
-use Rattle.expansion.specs.Imbalance.{Frame, backends, has, excess, imbalance}
-use Rattle.expansion.specs.Steps.{firstRule, frame, endOf, listOf, oldest, stair, stairsTo}
-use Rattle.expansion.specs.Answer.{checkCall, answer, filled, listMade, lensMade, valuesMade, backendsMade, stairsMade, recordMade}
+use lib.Dec.{eqb}
+use borrow.Author.Tests.{le-leb, ne-eqb}
+use Rattle.numerals.specs.Sums.{countTo}
+use Rattle.expansion.specs.FirstMatch.{nobody, firstMatch, gives, share}
+use Rattle.expansion.specs.Imbalance.{Targets, backends, label, has, excess, imbalance}
+use Rattle.expansion.specs.Steps.{Frame, firstRule, frame, endOf, listOf, oldest, stair, stairsTo}
+use Rattle.expansion.specs.Answer.{checkCall, answer, filled, frameMade, listMade, lensMade, valuesMade, backendsMade, stairsMade, recordMade}
 use Rattle.numerals.specs.Limits.{mostRules, unit}
 use Rattle.expansion.specs.Kept.{noRule}
 use Rattle.expansion.specs.declared.rule.Rule.{Rule}
@@ -20,13 +22,14 @@ use Rattle.expansion.specs.declared.rule.Record.{Record}
 use Rattle.expansion.specs.declared.call.Checked.the-variants.{Sound as Passed}
 use Rattle.expansion.specs.declared.call.Expanded.{Expanded}
 use Rattle.expansion.specs.declared.call.Expanded.the-variants.{Made}
-use Rattle.numerals.proofs.Sums.{sum-zero, count-const}
+use Rattle.numerals.proofs.Sums.{sum-zero, count-const, list-at}
 use Rattle.expansion.proofs.Turns.{length-le}
-use Rattle.packing.specs.Count.{services, weightsOf}
+use Rattle.packing.specs.Count.{services, targetsOf}
 use Rattle.packing.specs.Table.{ruleBudget, frameOf, listFor}
 use Rattle.packing.specs.Answer.{servicesOf, endNumber}
 use Rattle.packing.specs.Inner.Lists.{stride, placeOf, ruleAt, ListedTo, start}
-use Rattle.packing.proofs.Checks.{chunk-at}
+use Rattle.packing.specs.Inner.Premises.{Labelled}
+use Rattle.packing.proofs.Checks.{chunk-at, labels-at}
 
 -- stores from a position on
 
@@ -69,24 +72,31 @@ column-other l vs s t x h few C =
 
 module _ (k tolerance : ℕ) (ws : List ℕ) where
   pub list-few : length (listMade k tolerance mostRules ws) ≤ mostRules
-  unfolding listMade listOf frame firstRule
-  list-few = length-le (frame k unit tolerance ws) 31
+  unfolding listMade listOf frameMade frame firstRule
+  list-few = length-le (frameMade k tolerance ws) (mostRules - 1)
 
--- with no rule nobody has too much
-none-given : (F : Frame) (b : ℕ) → excess F [] b ≡ 0
-unfolding excess has share gives
-none-given F b =
-    let none : share (F .k) [] b ≡ 0 = count-const (2 ^ (F .k)) false in
-    omega (arith, ap (λ (a : ℕ). a * F .unit) none, zero-mul (F .unit))
+-- with no rule no backend that has a label has too much
+none-given : (T : Targets) (b : ℕ) → (label T b ≡ nobody → ⊥) → excess T [] b ≡ 0
+unfolding excess has share gives firstMatch
+none-given T b h =
+    let other : eqb nobody (label T b) ≡ false = ne-eqb nobody (label T b) (λ e. h (sym e)) in
+    let none : share (T .k) [] (label T b) ≡ 0 =
+    ap (λ (t : Bool). countTo (2 ^ (T .k)) (λ s. t)) other ∙ count-const (2 ^ (T .k)) false in
+    omega (arith, ap (λ (a : ℕ). a * T .unit) none, zero-mul (T .unit))
 
 -- the stair before any rule
-pub stair-none : (F : Frame) (rs : List Rule) → stair F 0 rs ≡ 0
+pub stair-none : (F : Frame) (rs : List Rule) → Labelled (F .targets) → stair F 0 rs ≡ 0
 unfolding stair oldest imbalance
-stair-none F rs =
+stair-none F rs labelled =
     let all : length rs - 0 ≡ length rs = omega arith in
-    ap (λ (n : ℕ). imbalance F (drop n rs)) all
-    ∙ ap (imbalance F) (drop-length rs)
-    ∙ sum-zero (backends F) (excess F []) (λ b l. none-given F b)
+    ap (λ (n : ℕ). imbalance (F .targets) (drop n rs)) all
+    ∙ ap (imbalance (F .targets)) (drop-length rs)
+    ∙ sum-zero (backends (F .targets)) (excess (F .targets) []) (λ b l. none-given (F .targets) b (labelled b l))
+
+-- backends that are labelled by their number have a label
+pub numbers-labelled : (k tolerance : ℕ) (ws : List ℕ) → Labelled (frameMade k tolerance ws .targets)
+unfolding frameMade frame backends label
+numbers-labelled k tolerance ws b l e = omega (arith, list-at (length ws) suc b nobody l)
 
 length-stairs : (F : Frame) (rs : List Rule) (c : ℕ) → length (stairsTo F rs c) ≡ c
 unfolding stairsTo
@@ -139,7 +149,7 @@ entry-made k tolerance ws s lens values backends stairs counts ends fits room =
     let rs = listMade k tolerance mostRules ws in
     let few : length rs ≤ mostRules = list-few k tolerance ws in
     let long : length (stairsMade k tolerance mostRules ws) ≡ length rs =
-    length-stairs (frame k unit tolerance ws) rs (length rs) in
+    length-stairs (frameMade k tolerance ws) rs (length rs) in
     record {
       len = column-made lens (lensMade k tolerance mostRules ws) s (omega (arith, length-column (λ (r : Rule). r .len) rs));
       value = column-made values (valuesMade k tolerance mostRules ws) s (omega (arith, length-column (λ (r : Rule). r .value) rs));
@@ -161,7 +171,7 @@ entry-kept k tolerance ws s t lens values backends stairs counts ends a b d e x 
     let rs = listMade k tolerance mostRules ws in
     let few : length rs ≤ mostRules = list-few k tolerance ws in
     let long : length (stairsMade k tolerance mostRules ws) ≡ length rs =
-    length-stairs (frame k unit tolerance ws) rs (length rs) in
+    length-stairs (frameMade k tolerance ws) rs (length rs) in
     record {
       len = column-kept lens (lensMade k tolerance mostRules ws) a s t h (omega (arith, length-column (λ (r : Rule). r .len) rs)) (E .len);
       value = column-kept values (valuesMade k tolerance mostRules ws) b s t h (omega (arith, length-column (λ (r : Rule). r .value) rs)) (E .value);
@@ -243,9 +253,9 @@ module _ (k tolerance : ℕ) (sizes ws : List ℕ) (s : ℕ) (lens values backen
 
 -- so service s has the list of the definitions
 module _ (k tolerance : ℕ) (volumes sizes ws : List ℕ) (s : ℕ) (inside : s < length sizes) where
-  frame-of : frameOf (servicesOf k volumes sizes ws) tolerance s ≡ frame k unit tolerance (part sizes ws s)
-  unfolding frameOf servicesOf weightsOf part
-  frame-of = ap (frame k unit tolerance) (chunk-at sizes ws s inside)
+  frame-of : frameOf (servicesOf k volumes sizes ws) tolerance s ≡ frameMade k tolerance (part sizes ws s)
+  unfolding frameOf servicesOf targetsOf part frameMade
+  frame-of = ap₂ (frame k unit tolerance) (labels-at sizes ws s inside) (chunk-at sizes ws s inside)
 
   list-of : listFor (servicesOf k volumes sizes ws) tolerance s ≡ listMade k tolerance mostRules (part sizes ws s)
   unfolding listFor ruleBudget listMade
@@ -271,7 +281,7 @@ module _ (k tolerance : ℕ) (volumes sizes ws : List ℕ) (s : ℕ) (inside : s
       ≡ stair (frameOf (servicesOf k volumes sizes ws) tolerance s) (suc j) (listFor (servicesOf k volumes sizes ws) tolerance s)
   unfolding stairsMade
   stairs-of l C j h =
-      let F = frame k unit tolerance (part sizes ws s) in
+      let F = frameMade k tolerance (part sizes ws s) in
       let rs = listMade k tolerance mostRules (part sizes ws s) in
       let inside : j < length rs = omega (arith, ap length list-of) in
       C .at j (omega (arith, length-stairs F rs (length rs)))
@@ -288,7 +298,8 @@ module _ (k tolerance : ℕ) (volumes sizes ws : List ℕ) (s : ℕ) (inside : s
       let here : placeOf s 0 ≡ stride * s = omega arith in
       ap (λ (i : ℕ). getD l i 0) here
       ∙ e
-      ∙ sym (stair-none (frameOf (servicesOf k volumes sizes ws) tolerance s) (listFor (servicesOf k volumes sizes ws) tolerance s))
+      ∙ sym (stair-none (frameMade k tolerance (part sizes ws s)) (listMade k tolerance mostRules (part sizes ws s)) (numbers-labelled k tolerance (part sizes ws s)))
+      ∙ ap₂ (λ (F : Frame) (x : List Rule). stair F 0 x) (sym frame-of) (sym list-of)
   stairs-from l e C (suc j) h = stairs-of l C j h
 
 -- and so have all

@@ -7,8 +7,8 @@ use native.Mathlib.Nat.{zero-mul}
 use native.Mathlib.Omega.{arith}
 use lib.ListN.{length, getD, List·getD-eq-default}
 use Rattle.numerals.specs.Limits.{mostBits, mostServices, mostVolume, unit}
-use Rattle.expansion.specs.Imbalance.{Frame, imbalance}
-use Rattle.expansion.specs.Steps.{frame, firstRule, after, stair}
+use Rattle.expansion.specs.Imbalance.{imbalance}
+use Rattle.expansion.specs.Steps.{Frame, frame, firstRule, after, stair}
 use Rattle.expansion.specs.declared.rule.Rule.{Rule}
 use Rattle.numerals.proofs.Sums.{sum-ext}
 use Rattle.expansion.proofs.Bounds.{imbalance-bound}
@@ -17,9 +17,9 @@ use Rattle.expansion.proofs.Stairs.{stair-falls}
 use Rattle.expansion.proofs.Base.{base-stair}
 use Rattle.expansion.proofs.Signed.{wants-few}
 use Rattle.packing.specs.Grants.{Problem, Grants, total, packed}
-use Rattle.packing.specs.Count.{Services, services, volume, weightsOf}
+use Rattle.packing.specs.Count.{Services, services, volume, targetsOf}
 use Rattle.packing.specs.Table.{ruleBudget, frameOf, listFor, problem, granted}
-use Rattle.packing.specs.Demand.{Balanced}
+use Rattle.packing.specs.Inner.Premises.{Balanced}
 use Rattle.packing.specs.Inner.Lists.{places, placeOf, Stepped, Granted}
 use Rattle.packing.specs.Inner.Stored.{storedCost, storedProblem, storedTotal, held, Payable, AllPayable, Started, Allotted}
 use Rattle.packing.proofs.EqualGrants.{packed-agree}
@@ -29,7 +29,7 @@ use Rattle.packing.proofs.Listing.{stair-none}
 -- past the end of a list its last stair stays
 stair-past : (F : Frame) (rs : List Rule) (c d : ℕ) → length rs ≤ c → length rs ≤ d → stair F c rs ≡ stair F d rs
 unfolding stair
-stair-past F rs c d l m = ap (imbalance F) (oldest-all c rs l ∙ sym (oldest-all d rs m))
+stair-past F rs c d l m = ap (imbalance (F .targets)) (oldest-all c rs l ∙ sym (oldest-all d rs m))
 
 -- a list cut at its own length is whole
 stair-cut : (F : Frame) (rs : List Rule) (x : ℕ) → stair F (min x (length rs)) rs ≡ stair F x rs
@@ -105,15 +105,15 @@ module _ (S : Services) (tolerance : ℕ) where
     -- what is paid fits
     module _ (balanced : Balanced S) (its-unit : S .unit ≡ unit) (short : S .k ≤ mostBits) where
       stair-low : (s x : ℕ) → s < services S → stairs-of s x < 2 ^ 40
-      unfolding listFor frameOf frame
-      stair-low s zero l = omega (arith, stair-none (frameOf S tolerance s) (listFor S tolerance s))
+      unfolding listFor frameOf frame firstRule targetsOf
+      stair-low s zero l = omega (arith, stair-none (frameOf S tolerance s) (listFor S tolerance s) (balanced .labelled s l))
       stair-low s (suc x) l =
           let F : Frame = frameOf S tolerance s in
           let c : ℕ = min (suc x - 1) (ruleBudget - 1) in
           omega (
             arith,
-            base-stair (S .k) (S .unit) tolerance (weightsOf S s) (suc x) ruleBudget (omega arith),
-            imbalance-bound F (after F c) (good-after F (sound S tolerance balanced s l) c .complete),
+            base-stair (S .k) (S .unit) tolerance (targetsOf S s .labels) (targetsOf S s .weights) (suc x) ruleBudget (omega arith),
+            imbalance-bound F (sound S tolerance balanced s l) (after F c) (good-after F (sound S tolerance balanced s l) c .complete),
             wants-few (S .unit) (S .k) (omega arith) short,
           )
 

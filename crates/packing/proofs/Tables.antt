@@ -14,12 +14,11 @@ use Rattle.numerals.specs.Sums.{sumTo}
 use Rattle.numerals.proofs.Sums.{sum-ext}
 use Rattle.expansion.proofs.Turns.{oldest-all, length-oldest}
 use Rattle.expansion.specs.Imbalance.{imbalance}
-use Rattle.expansion.specs.Steps.{oldest, stair}
+use Rattle.expansion.specs.Steps.{frame, oldest, stair}
 use Rattle.expansion.specs.declared.rule.Rule.{Rule}
 use Rattle.packing.specs.Grants.{Grants, saving, total}
-use Rattle.packing.specs.Count.{Line, Services, services, volume, countedImbalance, counted, ownRules}
+use Rattle.packing.specs.Count.{Line, Services, services, volume, targetsOf, countedImbalance, counted, ownRules}
 use Rattle.packing.specs.Table.{frameOf, listFor, linesOf, tableOf, table, problem}
-use Rattle.packing.proofs.Lines.{imbalance-own}
 
 pub own-append : (s : ℕ) (a b : List Line) → ownRules s (a ++ b) ≡ ownRules s a ++ ownRules s b
 unfolding ownRules
@@ -114,14 +113,11 @@ module _ (S : Services) (tolerance : ℕ) (g : Grants) (s : ℕ) (l : s < servic
 pub counted-table :
     (S : Services) (tolerance : ℕ) (least : Grants) (capacity : ℕ) (g : Grants)
     → counted S (table S tolerance g) ≡ total (problem S tolerance least capacity) g
-unfolding counted total problem stair
+unfolding counted countedImbalance total problem stair frameOf frame targetsOf
 counted-table S tolerance least capacity g =
-    sum-ext (services S) (λ s. volume S s * countedImbalance S (table S tolerance g) s)
-    (λ s. volume S s * imbalance (frameOf S tolerance s) (oldest (g s) (listFor S tolerance s)))
-    (λ s l.
-    ap (λ (x : ℕ). volume S s * x)
-    (imbalance-own S tolerance (table S tolerance g) s
-    ∙ ap (imbalance (frameOf S tolerance s)) (own-granted S tolerance g s l)))
+    sum-ext (services S) (λ s. volume S s * imbalance (targetsOf S s) (ownRules (suc s) (table S tolerance g)))
+    (λ s. volume S s * imbalance (targetsOf S s) (oldest (g s) (listFor S tolerance s)))
+    (λ s l. ap (λ (rs : List Rule). volume S s * imbalance (targetsOf S s) rs) (own-granted S tolerance g s l))
 
 -- what the next rule saves is the volume × the drop of the next stair
 pub saving-drop :

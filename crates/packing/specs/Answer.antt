@@ -27,17 +27,14 @@ unfoldable pub chunks : List ℕ → List ℕ → List (List ℕ)
 chunks [] ws = []
 chunks (n ∷ ns) ws = take n ws ∷ chunks ns (drop n ws)
 
--- the backends of a service are labelled 1, 2, .. by the places of their weights
-unfoldable pub labelsOf : List ℕ → List ℕ
-labelsOf ws = listTo (length ws) suc
-
+-- backends are labelled by their number from 1
 unfoldable pub servicesOf : ℕ → List ℕ → List ℕ → List ℕ → Services
 servicesOf k volumes sizes ws =
     record {
       k = k;
       unit = unit;
       volumes = volumes;
-      labels = map labelsOf (chunks sizes ws);
+      labels = map (λ (own : List ℕ). listTo (length own) suc) (chunks sizes ws);
       weights = chunks sizes ws;
     }
 

@@ -23,5 +23,5 @@ pub record P7 : Type 0 where
   pub second : granted sample 20000 oneEach 5 1 ≡ 3
   pub lines :
       table sample 20000 (granted sample 20000 oneEach 5)
-      ≡ line 1 1 0 1 ∷ line 1 0 0 2 ∷ line 2 2 0 1 ∷ line 2 1 0 0 ∷ line 2 0 0 2 ∷ []
+      ≡ line 1 1 0 2 ∷ line 1 0 0 3 ∷ line 2 2 0 2 ∷ line 2 1 0 1 ∷ line 2 0 0 3 ∷ []
   pub amount : counted sample (table sample 20000 (granted sample 20000 oneEach 5)) ≡ 293333920

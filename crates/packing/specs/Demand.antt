@@ -2,19 +2,13 @@
 use Prim.Native.Nat.{ℕ, suc, _+_, _≤_, _<_}
 use mathlib.Core.Path.{_≡_}
 use mathlib.Core.List.{List}
-use lib.ListN.{length, getD}
+use lib.ListN.{length}
 use Rattle.numerals.specs.Sums.{sumTo}
 use Rattle.expansion.specs.Steps.{endOf}
 use Rattle.expansion.specs.declared.rule.Ended.the-variants.{NoGain}
 use Rattle.packing.specs.Grants.{Grants}
-use Rattle.packing.specs.Count.{Line, Services, services, weightsOf, counted, countedLargestExcess, countedLargestShortfall, ownRules}
+use Rattle.packing.specs.Count.{Line, Services, services, counted, countedLargestExcess, countedLargestShortfall, ownRules}
 use Rattle.packing.specs.Table.{frameOf, listFor, table}
-
--- services as the percentage sheet has them: the weights of each sum to the unit
-pub record Balanced (S : Services) : Type 0 where
-  pub bits : 0 < S .k
-  pub positive : 0 < S .unit
-  pub weigh : (s : ℕ) → s < services S → sumTo (length (weightsOf S s)) (λ b. getD (weightsOf S s) b 0) ≡ S .unit
 
 -- grants of at least the least grant to each service and at most the capacity in all
 pub record Fitting (S : Services) (least : Grants) (capacity : ℕ) (g : Grants) : Type 0 where

@@ -2,11 +2,10 @@
 use Prim.Native.Nat.{ℕ, zero, suc, _*_}
 use mathlib.Core.List.{List, [], _∷_, _++_}
 use Rattle.numerals.specs.Limits.{mostRules}
-use Rattle.expansion.specs.Imbalance.{Frame}
-use Rattle.expansion.specs.Steps.{frame, listOf, oldest, stair}
+use Rattle.expansion.specs.Steps.{Frame, frame, listOf, oldest, stair}
 use Rattle.expansion.specs.declared.rule.Rule.{Rule}
 use Rattle.packing.specs.Grants.{Problem, Grants, packed}
-use Rattle.packing.specs.Count.{Line, Services, services, volume, weightsOf}
+use Rattle.packing.specs.Count.{Line, Services, services, volume, targetsOf}
 
 -- each list is made with this budget
 unfoldable pub ruleBudget : ℕ
@@ -14,7 +13,7 @@ ruleBudget = mostRules
 
 -- the expansion of service s
 unfoldable pub frameOf : Services → ℕ → ℕ → Frame
-frameOf S tolerance s = frame (S .k) (S .unit) tolerance (weightsOf S s)
+frameOf S tolerance s = frame (S .k) (S .unit) tolerance (targetsOf S s .labels) (targetsOf S s .weights)
 
 -- the list of service s, the newest rule first
 unfoldable pub listFor : Services → ℕ → ℕ → List Rule
