@@ -15,6 +15,8 @@ use Rattle.packing.specs.Count.{services, volume, targetsOf, ownRules, c
 use Rattle.packing.specs.Table.{ruleBudget, frameOf, listFor, linesOf, tableOf, table, problem, granted, oneEach}
 use Rattle.packing.specs.Cases.{sample, P7}
 use Rattle.packing.specs.Demand.{Demand}
+use Rattle.packing.specs.Inner.Premises.{Labelled}
+use Rattle.packing.proofs.Checks.{numbers-labelled}
 use Rattle.packing.proofs.Demand.{demand}
 
 pub p7 : P7
@@ -25,7 +27,7 @@ p7 = record { first = refl; second = refl; lines = refl; amount = refl }
 pub p7-demand :
     Demand sample 20000 oneEach 5 (total (problem sample 20000 oneEach 5) (granted sample 20000 oneEach 5))
     (table sample 20000 (granted sample 20000 oneEach 5))
-unfolding services targetsOf backends label weight sumTo
+unfolding services targetsOf backends label weight sumTo listTo
 p7-demand =
     demand sample 20000 (record { bits = omega arith; positive = omega arith; weigh = weigh; distinct = distinct; labelled = labelled }) oneEach 5
     (λ s l. omega arith) (omega arith)
@@ -43,5 +45,6 @@ p7-demand =
     distinct (suc (suc s)) l = absurd (omega arith)
 
     labelled : (s : ℕ) → s < 2 → Labelled (targetsOf sample s)
-    labelled zero b l e = numbers-labelled 5 20000 (sample-weights zero) b l e
+    labelled zero l = numbers-labelled 3
+    labelled (suc zero) l = numbers-labelled 3
     labelled (suc (suc s)) l = absurd (omega arith)

@@ -55,10 +55,13 @@ pub labels-at :
     (sizes ws : List ℕ) (s : ℕ) → s < length sizes
     → getD (map (λ (own : List ℕ). listTo (length own) suc) (chunks sizes ws)) s []
     ≡ listTo (length (take (getD sizes s 0) (drop (start sizes s) ws))) suc
-unfolding listTo
 labels-at sizes ws s l =
     List·getD-map (λ (own : List ℕ). listTo (length own) suc) (chunks sizes ws) s []
     ∙ ap (λ (own : List ℕ). listTo (length own) suc) (chunk-at sizes ws s l)
+
+-- backends that are labelled by their number have a label
+pub numbers-labelled : (n b : ℕ) → b < n → getD (listTo n suc) b nobody ≡ nobody → ⊥
+numbers-labelled n b l e = omega (arith, list-at n suc b nobody l)
 
 -- the checks from service s on: its line, one too many, one without a volume or without a size, and none
 
@@ -289,7 +292,7 @@ module _ {k tolerance capacity : ℕ} {volumes sizes ws : List ℕ} (A : Accepte
         positive = omega arith;
         weigh = λ s l. let m : s < length sizes = omega (arith, A .same) in rw (chunk-at sizes ws s m) (weights-passed (take (getD sizes s 0) (drop (start sizes s) ws)) (A .each s m .known .weighed) .balanced);
         distinct = λ s l. let m : s < length sizes = omega (arith, A .same) in rw (chunk-at sizes ws s m, labels-at sizes ws s m) (numbers-distinct (length (take (getD sizes s 0) (drop (start sizes s) ws))));
-        labelled = λ s l. let m : s < length sizes = omega (arith, A .same) in rw (chunk-at sizes ws s m, labels-at sizes ws s m) (λ b k e. omega (arith, list-at (length (take (getD sizes s 0) (drop (start sizes s) ws))) suc b nobody k));
+        labelled = λ s l. let m : s < length sizes = omega (arith, A .same) in rw (chunk-at sizes ws s m, labels-at sizes ws s m) (numbers-labelled (length (take (getD sizes s 0) (drop (start sizes s) ws))));
       }
 
   pub volume-le : (s : ℕ) → s < length volumes → getD volumes s 0 ≤ mostVolume

@@ -22,14 +22,14 @@ use Rattle.expansion.specs.declared.rule.Record.{Record}
 use Rattle.expansion.specs.declared.call.Checked.the-variants.{Sound as Passed}
 use Rattle.expansion.specs.declared.call.Expanded.{Expanded}
 use Rattle.expansion.specs.declared.call.Expanded.the-variants.{Made}
-use Rattle.numerals.proofs.Sums.{sum-zero, count-const, list-at}
+use Rattle.numerals.proofs.Sums.{sum-zero, count-const}
 use Rattle.expansion.proofs.Turns.{length-le}
 use Rattle.packing.specs.Count.{services, targetsOf}
 use Rattle.packing.specs.Table.{ruleBudget, frameOf, listFor}
 use Rattle.packing.specs.Answer.{servicesOf, endNumber}
 use Rattle.packing.specs.Inner.Lists.{stride, placeOf, ruleAt, ListedTo, start}
 use Rattle.packing.specs.Inner.Premises.{Labelled}
-use Rattle.packing.proofs.Checks.{chunk-at, labels-at}
+use Rattle.packing.proofs.Checks.{chunk-at, labels-at, numbers-labelled}
 
 -- stores from a position on
 
@@ -93,10 +93,9 @@ stair-none F rs labelled =
     ∙ ap (imbalance (F .targets)) (drop-length rs)
     ∙ sum-zero (backends (F .targets)) (excess (F .targets) []) (λ b l. none-given (F .targets) b (labelled b l))
 
--- backends that are labelled by their number have a label
-pub numbers-labelled : (k tolerance : ℕ) (ws : List ℕ) → Labelled (frameMade k tolerance ws .targets)
+made-labelled : (k tolerance : ℕ) (ws : List ℕ) → Labelled (frameMade k tolerance ws .targets)
 unfolding frameMade frame backends label
-numbers-labelled k tolerance ws b l e = omega (arith, list-at (length ws) suc b nobody l)
+made-labelled k tolerance ws = numbers-labelled (length ws)
 
 length-stairs : (F : Frame) (rs : List Rule) (c : ℕ) → length (stairsTo F rs c) ≡ c
 unfolding stairsTo
@@ -298,7 +297,7 @@ module _ (k tolerance : ℕ) (volumes sizes ws : List ℕ) (s : ℕ) (inside : s
       let here : placeOf s 0 ≡ stride * s = omega arith in
       ap (λ (i : ℕ). getD l i 0) here
       ∙ e
-      ∙ sym (stair-none (frameMade k tolerance (part sizes ws s)) (listMade k tolerance mostRules (part sizes ws s)) (numbers-labelled k tolerance (part sizes ws s)))
+      ∙ sym (stair-none (frameMade k tolerance (part sizes ws s)) (listMade k tolerance mostRules (part sizes ws s)) (made-labelled k tolerance (part sizes ws s)))
       ∙ ap₂ (λ (F : Frame) (x : List Rule). stair F 0 x) (sym frame-of) (sym list-of)
   stairs-from l e C (suc j) h = stairs-of l C j h
 
