@@ -55,6 +55,7 @@ pub labels-at :
     (sizes ws : List ℕ) (s : ℕ) → s < length sizes
     → getD (map (λ (own : List ℕ). listTo (length own) suc) (chunks sizes ws)) s []
     ≡ listTo (length (take (getD sizes s 0) (drop (start sizes s) ws))) suc
+unfolding listTo
 labels-at sizes ws s l =
     List·getD-map (λ (own : List ℕ). listTo (length own) suc) (chunks sizes ws) s []
     ∙ ap (λ (own : List ℕ). listTo (length own) suc) (chunk-at sizes ws s l)
