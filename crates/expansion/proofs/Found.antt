@@ -10,7 +10,7 @@ use Rattle.numerals.specs.Suffix.{place}
 use Rattle.expansion.specs.Imbalance.{giver, receiver}
 use Rattle.expansion.specs.Steps.{isNoGain, isWhole, term, termLength, lowestPlace, newRule, Frame}
 use Rattle.expansion.specs.Sound.{Sound}
-use Rattle.expansion.specs.Kept.{heldBy, lowestHeld, Holds, Given, lowered}
+use Rattle.expansion.specs.Inner.Holders.{heldBy, lowestHeld, Holds, Given, lowered}
 use Rattle.expansion.specs.declared.rule.Rule.{Rule}
 use Rattle.numerals.proofs.Searches.{clash, first-is}
 use Rattle.expansion.proofs.Balance.{giver-lt, receiver-lt}

@@ -15,7 +15,8 @@ use Rattle.expansion.specs.Imbalance.{backends, label, weight, has, want
 use Rattle.expansion.specs.Steps.{isWithin, reduction, reductionAt, term, isNoGain, Frame}
 use Rattle.expansion.specs.Sound.{Sound}
 use Rattle.numerals.specs.Limits.{mostBits, mostSuffixes, unit}
-use Rattle.expansion.specs.Kept.{over, under, Small, noBackend, entryAt, errorAt, entryOf, lessOf, moreOf, largestOf, nextFor, nextOf, Keeps}
+use Rattle.expansion.specs.Inner.Ledger.{over, under, Small, noBackend, entryAt, errorAt, entryOf, lessOf, moreOf, largestOf, Keeps}
+use Rattle.expansion.specs.Inner.Terms.{nextFor, nextOf}
 use Rattle.expansion.specs.declared.rule.Rule.{Rule}
 use Rattle.expansion.specs.declared.rule.Ended.the-variants.{Within, NoGain}
 use Rattle.expansion.specs.declared.ledger.Backend.{Backend}

@@ -23,7 +23,7 @@ pub mod Changes
 pub mod Lending
 pub mod Listing
 pub mod Checks
-pub mod Ready
-pub mod Standing
+pub mod NextMove
+pub mod Turning
 pub mod Answers
 pub mod Cases

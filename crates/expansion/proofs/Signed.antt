@@ -13,7 +13,7 @@ use mir.Facts.{toZ-ofZ, toZ-pos}
 use borrow.Author.Needs.{sfits-of}
 use borrow.Author.Tests.{ltb-true, ltb-false, le-ltb}
 use Rattle.numerals.specs.Limits.{unit}
-use Rattle.expansion.specs.Kept.{over, under, side, Small, entryOf, lessOf, moreOf}
+use Rattle.expansion.specs.Inner.Ledger.{over, under, side, Small, entryOf, lessOf, moreOf}
 use Rattle.numerals.proofs.Powers.{pow-few, shifted}
 
 -- the sides of a number

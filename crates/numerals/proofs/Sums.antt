@@ -9,7 +9,8 @@ use native.Mathlib.Nat.{add-zero, add-suc, zero-mul, mul-one}
 use native.Mathlib.Numerals.{add-one}
 use native.Mathlib.Omega.{arith}
 use lib.Dec.{eqb}
-use lib.ListN.{length, getD, length-append}
+use lib.ListN.{length, getD, take, length-append}
+use lib.Seq.{take-suc}
 use borrow.Author.Tests.{eq-eqb, ne-eqb}
 use Rattle.numerals.specs.Pick.{pick}
 use Rattle.numerals.specs.Sums.{sumTo, listTo, countTo}
@@ -189,3 +190,13 @@ list-at (suc n) f i d l = go (ℕ-discrete i n) (list-at n f i d)
     go (yes e) ih =
         ap (λ (x : ℕ). getD (listTo n f ++ f n ∷ []) x d) (e ∙ sym (length-list n f)) ∙ getD-end (listTo n f) (f n) d ∙ ap f (sym e)
     go (no m) ih = getD-front (listTo n f) (f n ∷ []) i d (omega (arith, length-list n f)) ∙ ih (omega arith)
+
+-- numbers that are f 0, f 1, .. are the listing
+pub list-taken : (f : ℕ → ℕ) (xs : List ℕ) → ((i : ℕ) → i < length xs → getD xs i 0 ≡ f i) → (n : ℕ) → n ≤ length xs → take n xs ≡ listTo n f
+unfolding listTo
+list-taken f xs h zero l = refl
+list-taken f xs h (suc n) l = take-suc xs n 0 l ∙ rw (list-taken f xs h n (omega arith), h n l)
+
+pub list-first : (f : ℕ → ℕ) (n m : ℕ) → n ≤ m → take n (listTo m f) ≡ listTo n f
+list-first f n m l =
+    list-taken f (listTo m f) (λ i k. list-at m f i 0 (omega (arith, length-list m f))) n (omega (arith, length-list m f))

@@ -16,7 +16,7 @@ use Rattle.expansion.specs.Imbalance.{Targets, backends, label, has, excess, im
 use Rattle.expansion.specs.Steps.{Frame, firstRule, frame, endOf, listOf, oldest, stair, stairsTo}
 use Rattle.expansion.specs.Answer.{checkCall, answer, filled, frameMade, listMade, lensMade, valuesMade, backendsMade, stairsMade, recordMade}
 use Rattle.numerals.specs.Limits.{mostRules, unit}
-use Rattle.expansion.specs.Kept.{noRule}
+use Rattle.expansion.specs.Inner.Lists.{noRule}
 use Rattle.expansion.specs.declared.rule.Rule.{Rule}
 use Rattle.expansion.specs.declared.rule.Record.{Record}
 use Rattle.expansion.specs.declared.call.Checked.the-variants.{Sound as Passed}

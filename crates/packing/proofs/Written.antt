@@ -8,7 +8,7 @@ use lib.Seq.{take-all}
 use Rattle.numerals.specs.Limits.{mostServices}
 use Rattle.numerals.specs.Sums.{sumTo}
 use Rattle.expansion.specs.Steps.{oldest}
-use Rattle.expansion.specs.Kept.{noRule, newestFirst}
+use Rattle.expansion.specs.Inner.Lists.{noRule, newestFirst}
 use Rattle.expansion.specs.declared.rule.Rule.{Rule}
 use Rattle.numerals.proofs.Sums.{sum-ext, sum-le}
 use Rattle.expansion.proofs.Listing.{take-newest, oldest-newest}

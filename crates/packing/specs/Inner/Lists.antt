@@ -6,7 +6,7 @@ use lib.ListN.{length, getD, take, drop}
 use Rattle.numerals.specs.Limits.{mostServices, mostRules}
 use Rattle.expansion.specs.Answer.{checkCall}
 use Rattle.expansion.specs.declared.call.Checked.the-variants.{Sound as Passed}
-use Rattle.expansion.specs.Kept.{noRule}
+use Rattle.expansion.specs.Inner.Lists.{noRule}
 use Rattle.expansion.specs.Steps.{endOf, stair}
 use Rattle.packing.specs.Grants.{Grants}
 use Rattle.packing.specs.Count.{Services, services}

@@ -37,7 +37,8 @@ use denote.Triple.Clauses.{ensured, lasts}
 use denote.Triple.Table.{entered, cited}
 use denote.Triple.Walked.{says, Stays, stay-none, walkOf, goes-none, Walks, ends-at, walked, walk-meets}
 use denote.Exit.{yes}
-use Rattle.expansion.specs.Kept.{Small, entryAt, errorAt, Movable, movedOf}
+use Rattle.numerals.specs.Limits.{mostBackends, mostSuffixes}
+use Rattle.expansion.specs.Inner.Ledger.{Small, entryAt, errorAt, Movable, movedOf}
 use Rattle.expansion.specs.declared.ledger.Backend.{Backend}
 use Rattle.expansion.specs.declared.ledger.Ledger.{Ledger}
 use Rattle.expansion.proofs.ledger.Backend as B
@@ -61,8 +62,8 @@ abbrev Shift : {M : Type 1} (𝓤 : URA M) (H : Heap 𝓤) (A : Atoms 𝓤) (mem
 Shift 𝓤 H A mem run = tripleOf 𝓤 H A shift.signature (shift.spec 𝓤 H A mem run)
 
 -- what `moved` requires is what `shift` requires
-movable : (l : Ledger) (g r c : ℕ) → length (l .at) ≡ 32 → (g < 32) × ((r < 32) × (c ≤ 4096))
-    → (c ≤ entryAt l g .share) × (entryAt l r .share ≤ 4096) → Small (errorAt l g) × Small (errorAt l r) → Movable (l .at) g r c
+movable : (l : Ledger) (g r c : ℕ) → length (l .at) ≡ mostBackends → (g < mostBackends) × ((r < mostBackends) × (c ≤ mostSuffixes))
+    → (c ≤ entryAt l g .share) × (entryAt l r .share ≤ mostSuffixes) → Small (errorAt l g) × Small (errorAt l r) → Movable (l .at) g r c
 movable l g r c long within enough small = record {
   giver-in = subst (λ (n : ℕ). g < n) (sym long) (within .0);
   receiver-in = subst (λ (n : ℕ). r < n) (sym long) (within .1 .0);

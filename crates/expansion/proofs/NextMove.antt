@@ -5,16 +5,19 @@ use mathlib.Core.List.{List, _∷_}
 use mathlib.Core.Path.{_≡_, refl, ap, sym, _∙_, subst}
 use native.Mathlib.Omega.{arith}
 use lib.Dec.{leb, eqb}
-use lib.ListN.{length, set}
+use lib.ListN.{length}
 use borrow.Author.Tests.{eqb-true, eq-eqb}
 use Rattle.numerals.specs.Pick.{pick, both}
 use Rattle.numerals.specs.Suffix.{place}
 use Rattle.numerals.specs.Sums.{lastmax}
-use Rattle.expansion.specs.Imbalance.{Frame, backends, excess, shortfall, giver, receiver, largestExcess, largestShortfall}
-use Rattle.expansion.specs.Steps.{frame, reduction, isWithin, isNoGain, term, termLength, lowestPlace, newRule, step, endOf}
+use Rattle.expansion.specs.Imbalance.{backends, label, excess, shortfall, giver, receiver, largestExcess, largestShortfall}
+use Rattle.expansion.specs.Steps.{Frame, reduction, isWithin, isNoGain, term, termLength, lowestPlace, newRule, step, endOf}
 use Rattle.expansion.specs.Sound.{Sound}
-use Rattle.numerals.specs.Limits.{unit}
-use Rattle.expansion.specs.Kept.{over, entryAt, lessOf, moreOf, nextFor, Keeps, Holds, Given, lowered, nodeOf, Valid}
+use Rattle.numerals.specs.Limits.{mostBackends, mostSuffixes, unit}
+use Rattle.expansion.specs.Inner.Ledger.{over, entryAt, movedOf, Keeps}
+use Rattle.expansion.specs.Inner.Terms.{nextFor}
+use Rattle.expansion.specs.Inner.Holders.{Holds, Given, lowered, nodeOf}
+use Rattle.expansion.specs.Inner.Run.{Fits}
 use Rattle.expansion.specs.declared.rule.Rule.{Rule}
 use Rattle.expansion.specs.declared.rule.Ended.{Ended}
 use Rattle.expansion.specs.declared.rule.Ended.the-variants.{Within, NoGain}
@@ -31,7 +34,6 @@ use Rattle.expansion.proofs.Moves.{Good, some-excess, some-shortfall, a
 use Rattle.expansion.proofs.Turns.{Going, step-within, step-none, ended-within, ended-none}
 use Rattle.expansion.proofs.Kept.{moveOf, nextBy, kept-share, kept-few, kept-inside, kept-moved}
 use Rattle.expansion.proofs.Found.{found-lowest, found-holds}
-use Rattle.expansion.proofs.Checks.{sound}
 
 -- what it means that the program stops, or goes on
 pub next-stop : (F : Frame) (rs : List Rule) (e : Ended) → nextBy F rs ≡ Stop e → (step F rs ≡ rs) × (endOf F rs ≡ e)
@@ -82,71 +84,66 @@ module _ (give take : Extreme) (k tolerance cap c : ℕ) (less : c ≤ cap)
           let l : lastmax gain cap ≤ c = falls (record { giver = give .backend; receiver = take .backend; index = lastmax gain cap }) (rw (p, q)) in
           rw (p, lastmax-fewer gain cap c less l)
 
--- a ledger after suffixes went from one backend to another
+-- the entries after a move
 abbrev pub movedBy : Ledger → Move → List Backend
-movedBy L m =
-    set (set (L .at) (m .giver) (lessOf (entryAt L (m .giver)) (2 ^ m .index))) (m .receiver)
-    (moreOf (entryAt L (m .receiver)) (2 ^ m .index))
+movedBy L m = movedOf (L .at) (m .giver) (m .receiver) (2 ^ m .index)
 
 -- a move that the program is about to make, after the rules rs
-pub record Ready (k tolerance : ℕ) (ws holder low : List ℕ) (rs : List Rule) (L : Ledger) (m : Move) : Type 0 where
-  pub index : m .index ≤ k - 1
-  pub giver : m .giver < length ws
-  pub receiver : m .receiver < length ws
-  pub found : nodeOf k m holder low < 2 ^ (k - m .index)
+pub record Ready (F : Frame) (holder low : List ℕ) (rs : List Rule) (L : Ledger) (m : Move) : Type 0 where
+  pub index : m .index ≤ F .cap
+  pub giver : m .giver < backends (F .targets)
+  pub receiver : m .receiver < backends (F .targets)
+  pub found : nodeOf (F .targets .k) m holder low < 2 ^ (F .targets .k - m .index)
   pub held : 2 ^ m .index ≤ entryAt L (m .giver) .share
-  pub taken : entryAt L (m .receiver) .share ≤ 4096
+  pub taken : entryAt L (m .receiver) .share ≤ mostSuffixes
   pub rule :
-      record { len = k - m .index; value = place (k - m .index) (nodeOf k m holder low); backend = m .receiver }
-      ≡ newRule (frame k unit tolerance ws) rs
+      record { len = F .targets .k - m .index; value = place (F .targets .k - m .index) (nodeOf (F .targets .k) m holder low); backend = label (F .targets) (m .receiver) }
+      ≡ newRule F rs
   pub holds :
       (holder′ low′ : List ℕ)
-      → Given (nodeOf k m holder low * 2 ^ m .index) (2 ^ m .index) (m .receiver) holder holder′
+      → Given (nodeOf (F .targets .k) m holder low * 2 ^ m .index) (2 ^ m .index) (m .receiver) holder holder′
       → low′
-      ≡ lowered low (m .giver) (m .receiver) (nodeOf k m holder low * 2 ^ m .index)
-      (nodeOf k m holder low * 2 ^ m .index + 2 ^ m .index)
-      → Holds k (newRule (frame k unit tolerance ws) rs ∷ rs) holder′ low′
-  pub moved : (M : Ledger) → M .at ≡ movedBy L m → Keeps (frame k unit tolerance ws) (newRule (frame k unit tolerance ws) rs ∷ rs) M
+      ≡ lowered low (m .giver) (m .receiver) (nodeOf (F .targets .k) m holder low * 2 ^ m .index)
+      (nodeOf (F .targets .k) m holder low * 2 ^ m .index + 2 ^ m .index)
+      → Holds (F .targets) (newRule F rs ∷ rs) holder′ low′
+  pub moved : (M : Ledger) → M .at ≡ movedBy L m → Keeps (F .targets) (newRule F rs ∷ rs) M
 
 -- a move with a gain
-module _ (k tolerance : ℕ) (ws : List ℕ) (valid : Valid k tolerance ws) (holder low : List ℕ) (rs : List Rule) (L : Ledger)
-    (H : Holds k rs holder low) (long : length low ≡ 32) (K : Keeps (frame k unit tolerance ws) rs L)
-    (G : Good (frame k unit tolerance ws) rs) (gain : isNoGain (frame k unit tolerance ws) rs ≡ false) where
-  pub ready : Ready k tolerance ws holder low rs L (moveOf (frame k unit tolerance ws) rs)
-  unfolding frame backends moveOf nodeOf termLength newRule largestExcess largestShortfall
+module _ (F : Frame) (fits : Fits F) (holder low : List ℕ) (rs : List Rule) (L : Ledger)
+    (H : Holds (F .targets) rs holder low) (long : length low ≡ mostBackends) (K : Keeps (F .targets) rs L)
+    (G : Good F rs) (gain : isNoGain F rs ≡ false) where
+  pub ready : Ready F holder low rs L (moveOf F rs)
+  unfolding moveOf nodeOf termLength newRule largestExcess largestShortfall
   ready =
       record {
-        index = omega (arith, term-le F rs);
+        index = term-le F rs;
         giver = giver-lt F S rs;
         receiver = receiver-lt F S rs;
         found = subst (λ (p : ℕ). p < 2 ^ termLength F rs) lowest (place-found F S rs G gain);
-        held = omega (arith, new-giver F S rs G gain, kept-share F rs L K (giver F rs) (giver-lt F S rs));
-        taken = kept-few F rs L K (valid .few-bits) (receiver F rs) (receiver-lt F S rs);
-        rule = ap (λ (p : ℕ). record { len = termLength F rs; value = place (termLength F rs) p; backend = receiver F rs }) (sym lowest);
+        held = omega (arith, new-giver F S rs G gain, kept-share F rs L K (giver (F .targets) rs) (giver-lt F S rs));
+        taken = kept-few F rs L K (fits .few-bits) (receiver (F .targets) rs) (receiver-lt F S rs);
+        rule = ap (λ (p : ℕ). record { len = termLength F rs; value = place (termLength F rs) p; backend = label (F .targets) (receiver (F .targets) rs) }) (sym lowest);
         holds = λ holder′ low′.
-            subst (λ (p : ℕ). Given (p * 2 ^ term F rs) (2 ^ term F rs) (receiver F rs) holder holder′
-            → low′ ≡ lowered low (giver F rs) (receiver F rs) (p * 2 ^ term F rs) (p * 2 ^ term F rs + 2 ^ term F rs)
-            → Holds k (newRule F rs ∷ rs) holder′ low′) lowest
-            (found-holds F S rs G gain holder low H (omega (arith, giver-lt F S rs, valid .few)) (omega (arith, receiver-lt F S rs, valid .few)) holder′ low′);
+            subst (λ (p : ℕ). Given (p * 2 ^ term F rs) (2 ^ term F rs) (receiver (F .targets) rs) holder holder′
+            → low′ ≡ lowered low (giver (F .targets) rs) (receiver (F .targets) rs) (p * 2 ^ term F rs) (p * 2 ^ term F rs + 2 ^ term F rs)
+            → Holds (F .targets) (newRule F rs ∷ rs) holder′ low′) lowest
+            (found-holds F S rs G gain holder low H (omega (arith, giver-lt F S rs, fits .few)) (omega (arith, receiver-lt F S rs, fits .few)) holder′ low′);
         moved = λ M e.
-            kept-moved F rs (newRule F rs ∷ rs) L M K refl (giver F rs) (receiver F rs) (2 ^ term F rs) (apart F S rs gain)
+            kept-moved F rs (newRule F rs ∷ rs) L M K (fits .millionths) (giver (F .targets) rs) (receiver (F .targets) rs) (2 ^ term F rs) (apart F S rs gain)
             (new-giver F S rs G gain) (new-receiver F S rs G gain) (new-other F S rs G gain)
-            (kept-inside F rs L K (giver F rs) (giver-lt F S rs) (omega (arith, over-some)))
-            (kept-inside F rs L K (receiver F rs) (receiver-lt F S rs) (omega (arith, under-some)))
+            (kept-inside F rs L K (giver (F .targets) rs) (giver-lt F S rs) (omega (arith, over-some)))
+            (kept-inside F rs L K (receiver (F .targets) rs) (receiver-lt F S rs) (omega (arith, under-some)))
             e;
       }
     where
-      F : Frame
-      F = frame k unit tolerance ws
-
       S : Sound F
-      S = sound k tolerance ws valid
+      S = fits .sound
 
-      lowest : lowestPlace F rs ≡ nodeOf k (moveOf F rs) holder low
+      lowest : lowestPlace F rs ≡ nodeOf (F .targets .k) (moveOf F rs) holder low
       lowest = found-lowest F S rs G gain holder low H
 
-      over-some : 0 < excess F rs (giver F rs)
+      over-some : 0 < excess (F .targets) rs (giver (F .targets) rs)
       over-some = some-excess F S rs gain
 
-      under-some : 0 < shortfall F rs (receiver F rs)
+      under-some : 0 < shortfall (F .targets) rs (receiver (F .targets) rs)
       under-some = some-shortfall F S rs gain
