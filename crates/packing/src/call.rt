@@ -21,7 +21,7 @@ pub enum Packing {
 
 // The services' grants and table. `figures` takes three numbers for each service: its grant, the length of its list
 // and how the list ended (within 0, no gain 1, budget 2). `table` takes four for each line: the number of its service,
-// from 1, the length and the value of its suffix, and its backend as the expansion writes it.
+// from 1, the length and the value of its suffix, and the label of its backend, which is its number from 1.
 pub fn pack(
     k: usize,
     tolerance: u64,
