@@ -12,7 +12,7 @@ pub mod Stairs
 pub mod Shape
 pub mod Base
 pub mod Signed
-pub mod Kept
+pub mod KeptShares
 pub mod Surveys
 pub mod Nodes
 pub mod Holdings

@@ -32,7 +32,7 @@ use Rattle.expansion.proofs.Balance.{giver-lt, receiver-lt}
 use Rattle.expansion.proofs.NoGain.{term-le}
 use Rattle.expansion.proofs.Moves.{Good, some-excess, some-shortfall, apart, place-found, new-giver, new-receiver, new-other}
 use Rattle.expansion.proofs.Turns.{Going, step-within, step-none, ended-within, ended-none}
-use Rattle.expansion.proofs.Kept.{moveOf, nextBy, kept-share, kept-few, kept-inside, kept-moved}
+use Rattle.expansion.proofs.KeptShares.{moveOf, nextBy, kept-share, kept-few, kept-inside, kept-moved}
 use Rattle.expansion.proofs.Found.{found-lowest, found-holds}
 
 -- what it means that the program stops, or goes on

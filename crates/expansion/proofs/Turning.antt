@@ -36,7 +36,7 @@ use Rattle.expansion.proofs.Moves.{term-falls}
 use Rattle.expansion.proofs.Turns.{Going, after-suc, step-moves, listed, ended-budget, good-after, oldest-after}
 use Rattle.expansion.proofs.Base.{star-share}
 use Rattle.expansion.proofs.Checks.{first-lt}
-use Rattle.expansion.proofs.Kept.{moveOf, nextBy, kept-small, kept-imbalance, kept-next}
+use Rattle.expansion.proofs.KeptShares.{moveOf, nextBy, kept-small, kept-imbalance, kept-next}
 use Rattle.expansion.proofs.Listing.{newest-more}
 use Rattle.expansion.proofs.NextMove.{next-stop, next-go, movedBy, Ready, ready}
 

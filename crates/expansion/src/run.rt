@@ -229,40 +229,7 @@ fn make_list(k: usize, tolerance: u64, budget: usize, labels: &[usize], weights:
 fn numbers() -> [usize; MOST_BACKENDS]
     ensures { λ r. ⌜ r ≡ listTo mostBackends suc ⌝ }
 {
-    [
-        1,
-        2,
-        3,
-        4,
-        5,
-        6,
-        7,
-        8,
-        9,
-        10,
-        11,
-        12,
-        13,
-        14,
-        15,
-        16,
-        17,
-        18,
-        19,
-        20,
-        21,
-        22,
-        23,
-        24,
-        25,
-        26,
-        27,
-        28,
-        29,
-        30,
-        31,
-        32,
-    ]
+    NUMBERS
 }
 
 // The list of backends that are labelled by their number.
@@ -274,3 +241,38 @@ pub fn make_numbered(k: usize, tolerance: u64, budget: usize, weights: &[u64]) -
     let n = weights.len();
     make_list(k, tolerance, budget, &labels[..n], weights)
 }
+
+const NUMBERS: [usize; MOST_BACKENDS] = [
+    1,
+    2,
+    3,
+    4,
+    5,
+    6,
+    7,
+    8,
+    9,
+    10,
+    11,
+    12,
+    13,
+    14,
+    15,
+    16,
+    17,
+    18,
+    19,
+    20,
+    21,
+    22,
+    23,
+    24,
+    25,
+    26,
+    27,
+    28,
+    29,
+    30,
+    31,
+    32,
+];

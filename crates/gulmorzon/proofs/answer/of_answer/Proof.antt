@@ -1,9 +1,9 @@
--- `answer::of_churned` meets its contract, case by case.
+-- `answer::of_answer` meets its contract, case by case.
 use mathlib.Core.Path.{sym, ap, _∙_}
 use borrow.Author.Needs.{needs}
-use Rattle.gulmorzon.specs.Answers.{ofChurned}
-use Rattle.gulmorzon.proofs.answer.of_churned.Statement.{statement}
-use Rattle.gulmorzon.proofs.answer.of_churned.Tie as tie
+use Rattle.gulmorzon.specs.Answers.{ofAnswer}
+use Rattle.gulmorzon.proofs.answer.of_answer.Statement.{statement}
+use Rattle.gulmorzon.proofs.answer.of_answer.Tie as tie
 
 enum-known-x : tie.Need-enum-known-x
 enum-known-x c = search needs
@@ -18,12 +18,12 @@ refused-requires : tie.Need-refused-requires
 refused-requires c κs = search needs
 
 returns : tie.Need-returns
-returns c = c .answered .ensures ∙ ap ofChurned (sym (c .before .before .x .given .1))
+returns c = c .answered .ensures ∙ ap ofAnswer (sym (c .before .before .x .given .1))
 
 returns-2 : tie.Need-returns-2
-returns-2 c = c .refused .ensures ∙ ap ofChurned (sym (c .before .before .x2 .given .1))
+returns-2 c = c .refused .ensures ∙ ap ofAnswer (sym (c .before .before .x2 .given .1))
 
-pub of-churned-spec : {M : Type 1} → statement M
-of-churned-spec =
+pub of-answer-spec : {M : Type 1} → statement M
+of-answer-spec =
     tie.close
     (tie.spec enum-known-x answered-requires enum-known-x-2 refused-requires returns returns-2)
