@@ -1,5 +1,5 @@
 -- The packing looks at the grants of its services only: grants that agree there have the same rules, savings, total and turns. So a program may keep them in a list.
-use Prim.Native.Nat.{ℕ, suc, _<_}
+use Prim.Native.Nat.{ℕ, zero, suc, _<_}
 use mathlib.Core.Path.{_≡_, sym, ap, _∙_}
 use mathlib.Core.List.{List}
 use mathlib.Core.Logic.{_⊎_, inl, inr}
@@ -9,8 +9,8 @@ use lib.ListN.{length, getD, set}
 use lib.Seq.{getD-set-same, getD-set-other}
 use Rattle.numerals.proofs.Sums.{sum-ext}
 use Rattle.numerals.proofs.Searches.{argmax-ext}
-use Rattle.packing.specs.Grants.{Problem, Grants, saving, next, rules, total, more, grantStep}
-use Rattle.packing.proofs.Runs.{more-same, more-other, Goes, Stops, goes-or-stops, step-goes, step-stops, next-lt}
+use Rattle.packing.specs.Grants.{Problem, Grants, saving, next, rules, total, more, grantStep, grantsAfter, packed}
+use Rattle.packing.proofs.GrantSteps.{more-same, more-other, Goes, Stops, goes-or-stops, step-goes, step-stops, next-lt}
 
 abbrev pub Agree : Problem → Grants → Grants → Type 0
 Agree P g h = (s : ℕ) → s < P .services → g s ≡ h s
@@ -66,3 +66,19 @@ module _ (P : Problem) (g h : Grants) (agree : Agree P g h) where
         go (inl k) s l =
             rw (step-goes P g k, step-goes P h (goes-agree k), ← next-agree) (more-agree (next P g) s l)
         go (inr k) s l = rw (step-stops P g k, step-stops P h (stops-agree k)) (agree s l)
+
+-- the same problem from other least grants
+abbrev pub withLeast : Problem → Grants → Problem
+withLeast P h = record { services = P .services; cost = P .cost; least = h; capacity = P .capacity }
+
+-- least grants that agree lead to grants that agree
+module _ (P : Problem) (h : Grants) (agree : Agree P (P .least) h) (some : 0 < P .services) where
+  after-agree : (x : ℕ) → Agree P (grantsAfter P x) (grantsAfter (withLeast P h) x)
+  unfolding grantsAfter grantStep saving next rules more
+  after-agree zero = agree
+  after-agree (suc x) =
+      step-agree P (grantsAfter P x) (grantsAfter (withLeast P h) x) (after-agree x) some
+
+  pub packed-agree : Agree P (packed P) (packed (withLeast P h))
+  unfolding packed
+  packed-agree = after-agree (P .capacity)

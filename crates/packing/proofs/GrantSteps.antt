@@ -11,7 +11,8 @@ use Rattle.numerals.specs.Pick.{pick}
 use Rattle.numerals.specs.Sums.{sumTo}
 use Rattle.numerals.proofs.Sums.{sum-one}
 use Rattle.numerals.proofs.Searches.{argmax-is}
-use Rattle.packing.specs.Grants.{Problem, Grants, saving, next, rules, more, grantStep, grantsAfter, packed, Allowed}
+use Rattle.packing.specs.Grants.{Problem, Grants, saving, next, rules, more, grantStep, grantsAfter, packed}
+use Rattle.packing.specs.Inner.Premises.{Allowed}
 
 pub more-same : (g : Grants) (s : ℕ) → more g s s ≡ suc (g s)
 unfolding more
