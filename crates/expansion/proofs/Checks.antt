@@ -10,7 +10,7 @@ use borrow.Author.Tests.{leb-true, ltb-true, eqb-true, lt-ltb, le-ltb, lt-leb, l
 use Rattle.numerals.specs.Sums.{sumTo, listTo, allTo, argmax}
 use Rattle.expansion.specs.Imbalance.{backends}
 use Rattle.expansion.specs.Steps.{frame, firstRule}
-use Rattle.expansion.specs.Sound.{Sound}
+use Rattle.expansion.specs.Inner.Sound.{Sound}
 use Rattle.expansion.specs.Answer.{andThen, orElse, inLimits, checkWeights, checkCall}
 use Rattle.numerals.specs.Limits.{mostBits, mostBackends, mostRules, unit}
 use Rattle.expansion.specs.Inner.Run.{Valid, Fits}
@@ -18,7 +18,7 @@ use Rattle.numerals.specs.declared.refusal.Refusal.{Refusal}
 use Rattle.numerals.specs.declared.refusal.Refusal.the-variants.{BadField, Unbalanced, TooMany}
 use Rattle.expansion.specs.declared.call.Checked.{Checked}
 use Rattle.expansion.specs.declared.call.Checked.the-variants.{Sound as Passed, Refused as Turned}
-use Rattle.expansion.proofs.Base.{numbers-distinct, first-known, base-sound}
+use Rattle.expansion.proofs.Base.{numbers-distinct, numbers-named, first-known, base-sound}
 use Rattle.numerals.proofs.Sums.{length-list}
 use Rattle.numerals.proofs.Searches.{both-true, all-true, all-false}
 
@@ -126,6 +126,7 @@ call-passed k tolerance budget ws e =
         balanced = w .balanced;
         labelled = length-list (length ws) suc;
         distinct = numbers-distinct (length ws);
+        named = numbers-named (length ws);
       },
       rules .0,
       rules .1,
@@ -139,12 +140,12 @@ some-unit = lit< tt
 -- the frame of a call that passed
 module _ (k tolerance : ℕ) (labels ws : List ℕ) (valid : Valid k tolerance labels ws) where
   pub sound : Sound (frame k unit tolerance labels ws)
-  sound = base-sound k unit tolerance labels ws (valid .some-bits) some-unit (valid .balanced) (valid .distinct)
+  sound = base-sound k unit tolerance labels ws (valid .some-bits) some-unit (valid .balanced) (valid .distinct) (valid .named)
 
   pub fits : Fits (frame k unit tolerance labels ws)
   unfolding frame backends firstRule
   fits =
-      record { millionths = refl; few-bits = valid .few-bits; tolerable = valid .tolerable; few = valid .few; labelled = valid .labelled; started = omega arith; sound = sound }
+      record { millionths = refl; few-bits = valid .few-bits; tolerable = valid .tolerable; few = valid .few; labelled = valid .labelled; sound = sound }
 
   pub first-lt : argmax (λ b. getD ws b 0) (length ws) < length ws
   first-lt = first-known k unit tolerance labels ws (valid .some-bits) some-unit (valid .balanced) (valid .distinct)

@@ -121,8 +121,8 @@ fn has_room(len: usize, at: usize, n: usize) -> bool
     if len < at { false } else { n <= len - at }
 }
 
-// The list of one service: its rules, the oldest first, by length, value and backend, and the imbalance after each,
-// into lent buffers from a position on.
+// The list of one service: its rules, the oldest first, by length, value and backend, which has its printed number, and the
+// imbalance after each, into lent buffers from a position on.
 pub fn expand(
     k: usize,
     tolerance: u64,

@@ -18,25 +18,28 @@ use Rattle.packing.specs.Grants.{total}
 use Rattle.packing.specs.Count.{Line, Services, services}
 use Rattle.packing.specs.Table.{frameOf, listFor, table, problem, granted, oneEach}
 use Rattle.packing.specs.Demand.{Demand}
-use Rattle.packing.specs.declared.call.Packed.{Packed}
-use Rattle.packing.specs.declared.call.Packing.{Packing}
-use Rattle.packing.specs.declared.call.Packing.the-variants.{Made, Refused}
+use Rattle.packing.specs.declared.answer.Packed.{Packed}
+use Rattle.packing.specs.declared.answer.Packing.{Packing}
+use Rattle.packing.specs.declared.answer.Packing.the-variants.{Made, Refused}
 
 -- the weights of each service: they stand in one row, as many of each as its size says
 unfoldable pub chunks : List ℕ → List ℕ → List (List ℕ)
 chunks [] ws = []
 chunks (n ∷ ns) ws = take n ws ∷ chunks ns (drop n ws)
 
--- backends are labelled by their number from 1
-unfoldable pub servicesOf : ℕ → List ℕ → List ℕ → List ℕ → Services
-servicesOf k volumes sizes ws =
+-- services whose backends are labelled by their number from 1
+unfoldable pub numbered : ℕ → List ℕ → List (List ℕ) → Services
+numbered k volumes weights =
     record {
       k = k;
       unit = unit;
       volumes = volumes;
-      labels = map (λ (own : List ℕ). listTo (length own) suc) (chunks sizes ws);
-      weights = chunks sizes ws;
+      labels = map (λ (own : List ℕ). listTo (length own) suc) weights;
+      weights = weights;
     }
+
+abbrev pub servicesOf : ℕ → List ℕ → List ℕ → List ℕ → Services
+servicesOf k volumes sizes ws = numbered k volumes (chunks sizes ws)
 
 -- the line of one service, whose weights are the first `size` of the row: the field count (no weight is 1, a 33rd is 4, and a row that has not so many is 1), then the volume, the weights and their sum
 unfoldable pub checkService : ℕ → ℕ → List ℕ → Checked

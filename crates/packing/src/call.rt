@@ -1,23 +1,11 @@
 // The packing of services into one table, into lent buffers.
+use crate::answer::Packed;
+use crate::answer::Packing;
 use crate::lists::PLACES;
 use expansion::Checked;
-use numerals::Refusal;
 ghost use mathlib.Core.Path.{_≡_};
 ghost use lib.ListN.{length};
 ghost use Rattle.packing.specs.Answer as specified;
-
-// The number of rules in a table, and its total.
-pub struct Packed {
-    pub rules: usize,
-    pub total: u64,
-}
-
-// What the packing answers: the table's measures, or why it is refused and the lent buffer that this is about:
-// figures 1, table 2, or 0 for none.
-pub enum Packing {
-    Made(Packed),
-    Refused(Refusal, usize),
-}
 
 // The services' grants and table. `figures` takes three numbers for each service: its grant, the length of its list
 // and how the list ended (within 0, no gain 1, budget 2). `table` takes four for each line: the number of its service,

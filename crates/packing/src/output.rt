@@ -1,6 +1,6 @@
 // What is written into the lent buffers: three figures for each service, four numbers for each line of the table.
-use crate::call::Packed;
-use crate::call::Packing;
+use crate::answer::Packed;
+use crate::answer::Packing;
 use crate::grants::lines_of;
 use crate::lists::STRIDE;
 use numerals::Refusal;

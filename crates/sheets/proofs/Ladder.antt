@@ -7,7 +7,7 @@ use native.Mathlib.Nat.{le-refl}
 use native.Mathlib.Omega.{arith}
 use lib.ListN.{length}
 use borrow.Author.Tests.{eq-eqb, ne-eqb, lt-ltb, le-leb}
-use Rattle.expansion.specs.Sound.{Formed, AllFormed, Lengths, Falling, NoStar}
+use Rattle.expansion.specs.Inner.Sound.{Formed, AllFormed, Lengths, Falling, NoStar}
 use Rattle.expansion.specs.Steps.{oldest}
 use Rattle.expansion.specs.declared.rule.Rule.{Rule}
 use Rattle.packing.specs.Count.{Line}

@@ -17,9 +17,9 @@ use Rattle.expansion.proofs.Checks.{weights-sum}
 use Rattle.numerals.proofs.Searches.{true-all}
 use Rattle.packing.specs.Count.{services}
 use Rattle.packing.specs.Answer.{chunks, servicesOf, checkService, checkFrom, checkServices, checkHead, checkAll, linesMade, packedOf, figuresMade, cells, figuresBuffer, tableBuffer, written, answer, filled}
-use Rattle.packing.specs.declared.call.Packed.{Packed}
-use Rattle.packing.specs.declared.call.Packing.{Packing}
-use Rattle.packing.specs.declared.call.Packing.the-variants.{Made, Refused}
+use Rattle.packing.specs.declared.answer.Packed.{Packed}
+use Rattle.packing.specs.declared.answer.Packing.{Packing}
+use Rattle.packing.specs.declared.answer.Packing.the-variants.{Made, Refused}
 use Rattle.sheets.specs.PercentageSheet.{Sheet, readSheet}
 use Rattle.sheets.specs.Calls.{refusedAt, servicesIn, tableFor, planOf, planAnswer, fromSheet, planFilled, figuresFor, cellsFor}
 use Rattle.sheets.specs.FromPacking.{planFrom}

@@ -14,7 +14,7 @@ use Rattle.numerals.specs.Pick.{pick}
 use Rattle.numerals.proofs.Choice.{both-left, by-less}
 use Rattle.numerals.specs.Sums.{sumTo, countTo, listTo}
 use Rattle.expansion.specs.FirstMatch.{share}
-use Rattle.expansion.specs.Sound.{Complete}
+use Rattle.expansion.specs.Inner.Sound.{Complete}
 use Rattle.numerals.specs.declared.refusal.Refusal.the-variants.{ShortLoan, UnknownService}
 use Rattle.numerals.proofs.Sums.{sum-ext, count-suc}
 use Rattle.expansion.proofs.Count.{share-sum}
