@@ -17,7 +17,7 @@ use Rattle.expansion.specs.Inner.Run.{Valid, Fits}
 use Rattle.numerals.specs.declared.refusal.Refusal.{Refusal}
 use Rattle.numerals.specs.declared.refusal.Refusal.the-variants.{BadField, Unbalanced, TooMany}
 use Rattle.expansion.specs.declared.call.Checked.{Checked}
-use Rattle.expansion.specs.declared.call.Checked.the-variants.{Sound as Passed, Refused as Turned}
+use Rattle.expansion.specs.declared.call.Checked.the-variants.{Sound as Passed, Refused as Failed}
 use Rattle.expansion.proofs.Base.{numbers-distinct, numbers-named, first-known, base-sound}
 use Rattle.numerals.proofs.Sums.{length-list}
 use Rattle.numerals.proofs.Searches.{both-true, all-true, all-false}
@@ -25,7 +25,7 @@ use Rattle.numerals.proofs.Searches.{both-true, all-true, all-false}
 -- both checks passed
 pub both-passed : (a b : Checked) → andThen a b ≡ Passed → (a ≡ Passed) × (b ≡ Passed)
 both-passed Passed b e = (refl, e)
-both-passed (Turned why) b e = (cc, cc)
+both-passed (Failed why) b e = (cc, cc)
 
 -- the test of a check that passed
 pub test-passed : (t : Bool) (why : Refusal) → orElse t why ≡ Passed → t ≡ true
@@ -45,16 +45,16 @@ pub record Weighed (ws : List ℕ) : Type 0 where
   pub each : (b : ℕ) → b < length ws → getD ws b 0 ≤ unit
   pub balanced : sumTo (length ws) (λ b. getD ws b 0) ≡ unit
 
-pub weights-none : (ws : List ℕ) → length ws ≡ 0 → checkWeights ws ≡ Turned BadField
+pub weights-none : (ws : List ℕ) → length ws ≡ 0 → checkWeights ws ≡ Failed BadField
 unfolding checkWeights
 weights-none ws e = simp (le-ltb 0 (length ws) (omega arith))
 
 module _ (ws : List ℕ) (some : 0 < length ws) where
-  pub weights-many : mostBackends < length ws → checkWeights ws ≡ Turned TooMany
+  pub weights-many : mostBackends < length ws → checkWeights ws ≡ Failed TooMany
   unfolding checkWeights
   weights-many h = simp (lt-ltb 0 (length ws) some, lt-leb (length ws) mostBackends h)
 
-  pub weights-over : length ws ≤ mostBackends → (b : ℕ) → b < length ws → unit < getD ws b 0 → checkWeights ws ≡ Turned BadField
+  pub weights-over : length ws ≤ mostBackends → (b : ℕ) → b < length ws → unit < getD ws b 0 → checkWeights ws ≡ Failed BadField
   unfolding checkWeights
   weights-over few b l h =
       simp (
@@ -88,16 +88,16 @@ weights-passed ws e =
 
 -- the checks of a call, one after the other
 module _ (k tolerance budget : ℕ) (ws : List ℕ) where
-  pub call-bits : inLimits 1 mostBits k ≡ false → checkCall k tolerance budget ws ≡ Turned BadField
+  pub call-bits : inLimits 1 mostBits k ≡ false → checkCall k tolerance budget ws ≡ Failed BadField
   unfolding checkCall
   call-bits e = simp e
 
-  pub call-tolerance : inLimits 1 mostBits k ≡ true → unit < tolerance → checkCall k tolerance budget ws ≡ Turned BadField
+  pub call-tolerance : inLimits 1 mostBits k ≡ true → unit < tolerance → checkCall k tolerance budget ws ≡ Failed BadField
   unfolding checkCall
   call-tolerance e l = simp (e, lt-leb tolerance unit l)
 
   pub call-budget : inLimits 1 mostBits k ≡ true → tolerance ≤ unit → inLimits 1 mostRules budget ≡ false
-      → checkCall k tolerance budget ws ≡ Turned BadField
+      → checkCall k tolerance budget ws ≡ Failed BadField
   unfolding checkCall
   call-budget e l f = simp (e, le-leb tolerance unit l, f)
 

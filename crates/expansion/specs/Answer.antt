@@ -14,24 +14,24 @@ use Rattle.expansion.specs.declared.rule.Record.{Record}
 use Rattle.numerals.specs.declared.refusal.Refusal.{Refusal}
 use Rattle.numerals.specs.Refusals.{no2, no3, no4, no7}
 use Rattle.expansion.specs.declared.call.Checked.{Checked}
-use Rattle.expansion.specs.declared.call.Checked.the-variants.{Sound as Passed, Refused as Turned}
+use Rattle.expansion.specs.declared.call.Checked.the-variants.{Sound as Passed, Refused as Failed}
 use Rattle.expansion.specs.declared.call.Expanded.{Expanded}
 use Rattle.expansion.specs.declared.call.Expanded.the-variants.{Made, Refused}
 
 -- the next check, where the ones before passed
 abbrev pub andThen : Checked → Checked → Checked
 andThen Passed next = next
-andThen (Turned why) next = Turned why
+andThen (Failed why) next = Failed why
 
 -- what is answered where all checks passed
 abbrev pub onChecked : Checked → Expanded → Expanded
 onChecked Passed made = made
-onChecked (Turned why) made = Refused why
+onChecked (Failed why) made = Refused why
 
--- turned back, unless the test passes
+-- refused, unless the test passes
 abbrev pub orElse : Bool → Refusal → Checked
 orElse true why = Passed
-orElse false why = Turned why
+orElse false why = Failed why
 
 -- least ≤ x ≤ most
 unfoldable pub inLimits : ℕ → ℕ → ℕ → Bool

@@ -15,7 +15,7 @@ ghost use lib.Seq.{sets};
 ghost use Rattle.numerals.specs.Limits.{mostRules};
 ghost use Rattle.expansion.specs.Answer.{inLimits, checkWeights, checkCall, answer, filled, lensMade, valuesMade, backendsMade, stairsMade};
 
-// What the expansion answers: the record of the list, or why it is turned back.
+// What the expansion answers: the record of the list, or why it is refused.
 pub enum Expanded {
     Made(Record),
     Refused(Refusal),

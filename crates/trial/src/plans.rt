@@ -15,7 +15,7 @@ fn made(p: Plan) {
     print::field(p.total);
 }
 
-fn turned_back(r: Refused, buffer: usize) {
+fn show_refusal(r: Refused, buffer: usize) {
     let why = r.why;
     match buffer {
         0 => shown::refused(r),
@@ -28,7 +28,7 @@ fn turned_back(r: Refused, buffer: usize) {
 fn plan_into(text: &[u8], figures: &mut [usize], table: &mut [usize]) {
     match sheets::plan(text, figures, table) {
         Planned::Made(p) => made(p),
-        Planned::Refused(r, buffer) => turned_back(r, buffer),
+        Planned::Refused(r, buffer) => show_refusal(r, buffer),
     }
 }
 
