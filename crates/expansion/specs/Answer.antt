@@ -4,7 +4,6 @@ use mathlib.Core.Bool.{Bool, true, false}
 use mathlib.Core.List.{List, reverse, map}
 use lib.Dec.{leb, ltb, eqb}
 use lib.ListN.{length, getD}
-use lib.Seq.{sets}
 use Rattle.numerals.specs.Pick.{pick, both}
 use Rattle.numerals.specs.Limits.{mostBits, mostBackends, mostRules, unit}
 use Rattle.numerals.specs.Sums.{sumTo, listTo, allTo}
@@ -79,10 +78,10 @@ answer k tolerance budget ws at room =
     onChecked (checkCall k tolerance budget ws)
     (pick (leb (at + length (listMade k tolerance budget ws)) room) (Made (recordMade k tolerance budget ws)) (Refused no7))
 
--- a lent buffer afterwards: the values from that position on, where the list was made; else as it was
-abbrev pub filled : Expanded → List ℕ → ℕ → List ℕ → List ℕ
-filled (Made r) out at vs = sets out at vs
-filled (Refused why) out at vs = out
+-- a list was made; only then are the lent buffers filled
+abbrev pub isMade : Expanded → Bool
+isMade (Made r) = true
+isMade (Refused why) = false
 
 -- the rules, the oldest first, as the three buffers have them
 unfoldable pub lensMade : ℕ → ℕ → ℕ → List ℕ → List ℕ

@@ -13,7 +13,8 @@ ghost use lib.Dec.{leb};
 ghost use lib.ListN.{length, take};
 ghost use lib.Seq.{sets};
 ghost use Rattle.numerals.specs.Limits.{mostRules};
-ghost use Rattle.expansion.specs.Answer.{inLimits, checkWeights, checkCall, answer, filled, lensMade, valuesMade, backendsMade, stairsMade};
+ghost use Rattle.numerals.specs.Buffer.{filled};
+ghost use Rattle.expansion.specs.Answer.{inLimits, checkWeights, checkCall, answer, isMade, lensMade, valuesMade, backendsMade, stairsMade};
 
 // What the expansion answers: the record of the list, or why it is refused.
 pub enum Expanded {
@@ -136,10 +137,10 @@ pub fn expand(
 ) -> Expanded
     ensures answer { λ r. ⌜ r ≡ answer k tolerance budget (now (weights .entry)) at
         (min (min (length (now (lens .entry))) (length (now (values .entry)))) (min (length (now (backends .entry))) (length (now (stairs .entry))))) ⌝ }
-    ensures lens { λ r. ⌜ now (lens .exit) ≡ filled r (now (lens .entry)) at (lensMade k tolerance budget (now (weights .entry))) ⌝ }
-    ensures values { λ r. ⌜ now (values .exit) ≡ filled r (now (values .entry)) at (valuesMade k tolerance budget (now (weights .entry))) ⌝ }
-    ensures backends { λ r. ⌜ now (backends .exit) ≡ filled r (now (backends .entry)) at (backendsMade k tolerance budget (now (weights .entry))) ⌝ }
-    ensures stairs { λ r. ⌜ now (stairs .exit) ≡ filled r (now (stairs .entry)) at (stairsMade k tolerance budget (now (weights .entry))) ⌝ }
+    ensures lens { λ r. ⌜ now (lens .exit) ≡ filled (isMade r) (now (lens .entry)) at (lensMade k tolerance budget (now (weights .entry))) ⌝ }
+    ensures values { λ r. ⌜ now (values .exit) ≡ filled (isMade r) (now (values .entry)) at (valuesMade k tolerance budget (now (weights .entry))) ⌝ }
+    ensures backends { λ r. ⌜ now (backends .exit) ≡ filled (isMade r) (now (backends .entry)) at (backendsMade k tolerance budget (now (weights .entry))) ⌝ }
+    ensures stairs { λ r. ⌜ now (stairs .exit) ≡ filled (isMade r) (now (stairs .entry)) at (stairsMade k tolerance budget (now (weights .entry))) ⌝ }
 {
     let checked = check_call(k, tolerance, budget, weights);
     if let Checked::Refused(why) = checked {

@@ -14,7 +14,8 @@ use Rattle.numerals.specs.Sums.{countTo}
 use Rattle.expansion.specs.FirstMatch.{nobody, firstMatch, gives, share}
 use Rattle.expansion.specs.Imbalance.{Targets, backends, label, has, excess, imbalance}
 use Rattle.expansion.specs.Steps.{Frame, firstRule, frame, endOf, listOf, oldest, stair, stairsTo}
-use Rattle.expansion.specs.Answer.{checkCall, answer, filled, frameMade, listMade, lensMade, valuesMade, backendsMade, stairsMade, recordMade}
+use Rattle.numerals.specs.Buffer.{filled}
+use Rattle.expansion.specs.Answer.{checkCall, answer, isMade, frameMade, listMade, lensMade, valuesMade, backendsMade, stairsMade, recordMade}
 use Rattle.numerals.specs.Limits.{mostRules, unit}
 use Rattle.expansion.specs.Inner.Lists.{noRule}
 use Rattle.expansion.specs.declared.rule.Rule.{Rule}
@@ -222,10 +223,10 @@ module _ (k tolerance : ℕ) (sizes ws : List ℕ) (s : ℕ) (lens values backen
       (m : Record) → r ≡ Made m → (counts ends : List ℕ) → s < min (length counts) (length ends)
       → Entries k tolerance sizes ws s lens values backends stairs counts ends
       → (lens′ values′ backends′ stairs′ : List ℕ)
-      → lens′ ≡ filled r lens (placeOf s 1) (lensMade k tolerance mostRules own)
-      → values′ ≡ filled r values (placeOf s 1) (valuesMade k tolerance mostRules own)
-      → backends′ ≡ filled r backends (placeOf s 1) (backendsMade k tolerance mostRules own)
-      → stairs′ ≡ filled r stairs (placeOf s 1) (stairsMade k tolerance mostRules own)
+      → lens′ ≡ filled (isMade r) lens (placeOf s 1) (lensMade k tolerance mostRules own)
+      → values′ ≡ filled (isMade r) values (placeOf s 1) (valuesMade k tolerance mostRules own)
+      → backends′ ≡ filled (isMade r) backends (placeOf s 1) (backendsMade k tolerance mostRules own)
+      → stairs′ ≡ filled (isMade r) stairs (placeOf s 1) (stairsMade k tolerance mostRules own)
       → Entries k tolerance sizes ws (s + 1) lens′ values′ backends′ (set stairs′ (stride * s) 0) (set counts s (m .rules)) (set ends s (endNumber (m .ended)))
   entries-more m e counts ends room E lens′ values′ backends′ stairs′ p q u v =
       let ws′ = part sizes ws s in

@@ -1,9 +1,9 @@
 -- The packing as a call (document 01, "Packing" and "Turned-back work"): what it checks, in the order of the sheet that would hold its numbers, what it answers, and what it writes.
 use Prim.Native.Nat.{ℕ, zero, suc, _*_}
+use mathlib.Core.Bool.{Bool, true, false}
 use mathlib.Core.List.{List, [], _∷_, _++_, map}
 use lib.Dec.{leb, ltb, eqb}
 use lib.ListN.{length, take, drop}
-use lib.Seq.{sets}
 use Rattle.numerals.specs.Pick.{pick}
 use Rattle.numerals.specs.Sums.{listTo}
 use Rattle.expansion.specs.Answer.{andThen, orElse, inLimits, checkWeights}
@@ -156,10 +156,10 @@ answer k tolerance capacity volumes sizes ws figuresRoom tableRoom =
     onPassed (checkAll k tolerance capacity volumes sizes ws)
     (written (packedOf S tolerance capacity) (services S) figuresRoom tableRoom)
 
--- a lent buffer afterwards: the values from its start on, where the table was made; else as it was
-abbrev pub filled : Packing → List ℕ → List ℕ → List ℕ
-filled (Made p) out vs = sets out 0 vs
-filled (Refused why buffer) out vs = out
+-- a table was made; only then are the lent buffers filled, from their start on
+abbrev pub isMade : Packing → Bool
+isMade (Made p) = true
+isMade (Refused why buffer) = false
 
 -- a claim about a table that was made; of any other answer nothing is claimed
 abbrev pub onMade : Packing → (Packed → Type 0) → Type 0

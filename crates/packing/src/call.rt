@@ -5,6 +5,7 @@ use crate::lists::PLACES;
 use expansion::Checked;
 ghost use mathlib.Core.Path.{_≡_};
 ghost use lib.ListN.{length};
+ghost use Rattle.numerals.specs.Buffer.{filled};
 ghost use Rattle.packing.specs.Answer as specified;
 
 // The services' grants and table. `figures` takes three numbers for each service: its grant, the length of its list
@@ -23,9 +24,9 @@ pub fn pack(
     ensures answer { λ r. ⌜ r ≡ specified.answer k tolerance capacity
         (now (volumes .entry)) (now (sizes .entry)) (now (weights .entry))
         (length (now (figures .entry))) (length (now (table .entry))) ⌝ }
-    ensures figures { λ r. ⌜ now (figures .exit) ≡ specified.filled r (now (figures .entry))
+    ensures figures { λ r. ⌜ now (figures .exit) ≡ filled (specified.isMade r) (now (figures .entry)) 0
         (specified.figuresOf k tolerance capacity (now (volumes .entry)) (now (sizes .entry)) (now (weights .entry))) ⌝ }
-    ensures table { λ r. ⌜ now (table .exit) ≡ specified.filled r (now (table .entry))
+    ensures table { λ r. ⌜ now (table .exit) ≡ filled (specified.isMade r) (now (table .entry)) 0
         (specified.cellsOf k tolerance capacity (now (volumes .entry)) (now (sizes .entry)) (now (weights .entry))) ⌝ }
     ensures demand { λ r. ⌜ specified.onMade r (λ p.
         specified.Demanded k tolerance capacity (now (volumes .entry)) (now (sizes .entry)) (now (weights .entry)) (p .total)) ⌝ }
