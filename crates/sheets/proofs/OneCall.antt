@@ -12,13 +12,13 @@ use Rattle.numerals.specs.Pick.{pick}
 use Rattle.numerals.specs.declared.refusal.Refusal.{Refusal}
 use Rattle.numerals.specs.declared.refusal.Refusal.the-variants.{ShortLoan}
 use Rattle.packing.specs.Answer.{noBuffer}
-use Rattle.sheets.specs.Reading.{Reading, got, turned}
+use Rattle.sheets.specs.Reading.{Reading, got, refused}
 use Rattle.sheets.specs.PercentageSheet.{Sheet, readSheet}
 use Rattle.sheets.specs.RuleSheet.{Table, tableText}
-use Rattle.sheets.specs.Rows.{Limited}
+use Rattle.sheets.specs.Inner.TableNumbers.{Limited}
 use Rattle.sheets.specs.Calls.{refusedAt, tableFor, planOf, planAnswer, planFilled, fromSheet, cellsFor, linesFrom, printText, printRead, textOf, printFilled, sheetText}
 use Rattle.sheets.specs.Demand.{owed}
-use Rattle.sheets.specs.Writing.{linesIn, tableIn}
+use Rattle.sheets.specs.Inner.TableNumbers.{linesIn, tableIn}
 use Rattle.sheets.specs.declared.answer.Plan.{Plan}
 use Rattle.sheets.specs.declared.answer.Refused as refused
 use Rattle.sheets.specs.declared.answer.Planned.{Planned}
@@ -28,9 +28,9 @@ use Rattle.sheets.specs.declared.answer.Printed.the-variants as printed
 use Rattle.sheets.proofs.SheetLimits.{Limits, limits}
 use Rattle.sheets.proofs.TableChecks.{InOrder}
 use Rattle.sheets.proofs.ProperTable.{table-proper}
-use Rattle.sheets.proofs.Rows.{lines-cells, length-cells}
-use Rattle.sheets.proofs.Handed.{limited}
-use Rattle.sheets.proofs.Owed.{demand-three}
+use Rattle.sheets.proofs.TableNumbers.{lines-cells, length-cells}
+use Rattle.sheets.proofs.NumbersText.{limited}
+use Rattle.sheets.proofs.DemandThree.{demand-three}
 
 -- what stands at the start of a buffer after it was written
 pub take-sets : (out bytes : List ℕ) → length bytes ≤ length out → take (length bytes) (sets out 0 bytes) ≡ bytes
@@ -55,25 +55,25 @@ module _ (text : List ℕ) where
       let P = table-proper S L in
       rw (e, le-leb (3 * length (S .volumes)) 192 (omega (arith, L .few)), le-leb (4 * length (tableFor S .lines)) 8192 (omega (arith, P .few)))
 
-  turned-back : (why : Refusal) (line : ℕ) → readSheet text ≡ turned why line → planAnswer text 192 8192 ≡ Refused (refusedAt why line) noBuffer
+  refused-back : (why : Refusal) (line : ℕ) → readSheet text ≡ refused why line → planAnswer text 192 8192 ≡ Refused (refusedAt why line) noBuffer
   unfolding planAnswer
-  turned-back why line e = rw e
+  refused-back why line e = rw e
 
   pub plan-made : (p : Plan) → planAnswer text 192 8192 ≡ Made p → Plans text p
   plan-made p h = go (readSheet text) refl
     where
       go : (r : Reading Sheet) → readSheet text ≡ r → Plans text p
       go (got S) e = record { sheet = S; read = e; is = cc (made S e) }
-      go (turned why line) e = absurd (let z : _≡_ {A = ℕ} 0 1 = cc (turned-back why line e) in omega arith)
+      go (refused why line) e = absurd (let z : _≡_ {A = ℕ} 0 1 = cc (refused-back why line e) in omega arith)
 
   pub plan-refused :
-      (r : refused.Refused) (buffer : ℕ) → planAnswer text 192 8192 ≡ Refused r buffer → readSheet text ≡ turned (r .why) (r .line)
+      (r : refused.Refused) (buffer : ℕ) → planAnswer text 192 8192 ≡ Refused r buffer → readSheet text ≡ refused (r .why) (r .line)
   plan-refused r buffer h = go (readSheet text) refl
     where
-      go : (s : Reading Sheet) → readSheet text ≡ s → readSheet text ≡ turned (r .why) (r .line)
+      go : (s : Reading Sheet) → readSheet text ≡ s → readSheet text ≡ refused (r .why) (r .line)
       go (got S) e = absurd (let z : _≡_ {A = ℕ} 0 1 = cc (made S e) in omega arith)
-      go (turned why line) e =
-          let is : refusedAt why line ≡ r = cc (turned-back why line e) in
+      go (refused why line) e =
+          let is : refusedAt why line ≡ r = cc (refused-back why line e) in
           e ∙ rw (← is)
 
 -- the numbers that the one call leaves are the sheet's table

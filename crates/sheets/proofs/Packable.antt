@@ -22,8 +22,8 @@ use Rattle.packing.specs.declared.call.Packing.{Packing}
 use Rattle.packing.specs.declared.call.Packing.the-variants.{Made, Refused}
 use Rattle.sheets.specs.PercentageSheet.{Sheet, readSheet}
 use Rattle.sheets.specs.Calls.{refusedAt, servicesIn, tableFor, planOf, planAnswer, fromSheet, planFilled, figuresFor, cellsFor}
-use Rattle.sheets.specs.FromPacking.{planFrom}
-use Rattle.sheets.specs.Kept.{sizesOf, rowOf, SheetKept}
+use Rattle.sheets.specs.Inner.Planning.{planFrom}
+use Rattle.sheets.specs.Inner.SheetReader.{sizesOf, rowOf, SheetKept}
 use Rattle.sheets.specs.declared.percentage_sheet.Head.{Head}
 use Rattle.sheets.specs.declared.answer.Planned.{Planned}
 use Rattle.sheets.specs.declared.answer.Planned.the-variants as planned-variants

@@ -24,7 +24,7 @@ use Rattle.packing.specs.Table.{ruleBudget, frameOf, listFor, linesOf, tableOf,
 use Rattle.packing.specs.Answer.{linesMade, figuresTo, figuresMade, figuresBuffer, tableBuffer}
 use Rattle.packing.specs.Demand.{Fitting}
 use Rattle.packing.specs.Cases.{line}
-use Rattle.sheets.specs.Reading.{Reading, got, turned, then, unless, onField, same}
+use Rattle.sheets.specs.Reading.{Reading, got, refused, then, unless, onField, same}
 use Rattle.sheets.specs.PercentageSheet.{Sheet, headFields, weightFields, sum, serviceFields, serviceLines, volumesOf, weightsOf as rowsOf, whole, sheetLines, readSheet}
 use Rattle.sheets.specs.RuleSheet.{Table, lineText, linesText, tableText, tableFields, onSuffix, countOf, inOrder, placed, ruleFields, ruleLines, closed, wholeTable, tableLines, readTable, isLine, checkLines, checkEnd, checkSheet, checkTable}
 use Rattle.sheets.specs.Calls.{refusedAt, servicesIn, tableFor, planOf, planAnswer, figuresFor, sheetText, printText, printRead}
@@ -33,7 +33,7 @@ use Rattle.sheets.specs.Cases.{bytes, cases}
 use Rattle.sheets.specs.declared.answer.Planned.the-variants as planned
 use Rattle.sheets.specs.declared.answer.Printed.the-variants as printed
 use Rattle.sheets.proofs.Cases.{right}
-use Rattle.sheets.proofs.Owed.{demand-three}
+use Rattle.sheets.proofs.DemandThree.{demand-three}
 
 -- The sample sheet and its rule sheet.
 

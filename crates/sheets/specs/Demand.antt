@@ -15,8 +15,8 @@ use Rattle.sheets.specs.Reading.{got}
 use Rattle.sheets.specs.PercentageSheet.{Sheet, readSheet}
 use Rattle.sheets.specs.RuleSheet.{Table, readTable}
 use Rattle.sheets.specs.Calls.{servicesIn}
-use Rattle.sheets.specs.declared.answer.Printed.{Printed}
-use Rattle.sheets.specs.declared.answer.Printed.the-variants.{End, Refused}
+use Rattle.sheets.specs.declared.answer.Answer.{Answer}
+use Rattle.sheets.specs.declared.answer.Answer.the-variants.{Value, Refused}
 
 -- the lines are the table of some grants, at least one rule to each service and at most the capacity in all, and any other such grants have by the same count at least as large a total
 pub record Best (S : Sheet) (t : Table) : Type 0 where
@@ -45,6 +45,6 @@ pub record Demand3 (text bytes : List ℕ) : Type 0 where
       → countedLargestExcess (servicesIn sheet) (table .lines) s + countedLargestShortfall (servicesIn sheet) (table .lines) s ≤ unit
 
 -- demand 3 of what a call printed from the start of a buffer
-abbrev pub owed : Printed → List ℕ → List ℕ → Type 0
-owed (End n) text out = Demand3 text (take n out)
-owed (Refused r) text out = Unit {0}
+abbrev pub Demand3Of : Answer → List ℕ → List ℕ → Type 0
+Demand3Of (Value n) text out = Demand3 text (take n out)
+Demand3Of (Refused r) text out = Unit {0}

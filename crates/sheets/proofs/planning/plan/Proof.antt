@@ -7,8 +7,8 @@ use lib.Seq.{length-take-le}
 use borrow.Author.Needs.{needs}
 use Rattle.sheets.specs.PercentageSheet.{readSheet}
 use Rattle.sheets.specs.Calls.{planAnswer, fromSheet, planFilled, figuresFor, cellsFor}
-use Rattle.sheets.specs.Kept.{SheetKept}
-use Rattle.sheets.specs.FromPacking.{planFrom}
+use Rattle.sheets.specs.Inner.SheetReader.{SheetKept}
+use Rattle.sheets.specs.Inner.Planning.{planFrom}
 use Rattle.sheets.proofs.Packable.{held-figures, held-cells, plan-made, plan-buffer}
 use Rattle.sheets.proofs.planning.plan.Statement.{statement}
 use Rattle.sheets.proofs.planning.plan.Tie as tie
@@ -75,8 +75,8 @@ plan-from-requires c κs = search needs
 returns : tie.Need-returns
 unfolding planAnswer
 returns c =
-    let turned = rw (c .before .read .given .1) at (c .before .before .before .before .before .before .read-sheet .ensures) in
-    (rw turned refl, (refl, refl))
+    let refused = rw (c .before .read .given .1) at (c .before .before .before .before .before .before .read-sheet .ensures) in
+    (rw refused refl, (refl, refl))
 
 same-length : tie.Need-same-length
 same-length c = search needs

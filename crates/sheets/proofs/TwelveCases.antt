@@ -18,7 +18,7 @@ use Rattle.sheets.specs.Reading.{onField}
 use Rattle.sheets.specs.RuleSheet.{onSuffix}
 use Rattle.sheets.specs.Calls.{servicesIn}
 use Rattle.sheets.specs.Cases.{bytes, cases}
-use Rattle.sheets.specs.Twelve.{Packs, AllOf, twelve}
+use Rattle.sheets.specs.TwelveCases.{Packs, AllOf, twelve}
 use Rattle.sheets.proofs.Cases.{right}
 use Rattle.sheets.proofs.Witnesses.{sample, sample-printed}
 

@@ -10,7 +10,7 @@ use Rattle.expansion.specs.Cases.{Worked, Shows, p1, p2, p3, p4, p5, p6}
 use Rattle.expansion.specs.Imbalance.{largestExcess, largestShortfall}
 use Rattle.numerals.specs.Refusals.{no2}
 use Rattle.packing.specs.Table.{granted}
-use Rattle.sheets.specs.Reading.{Reading, got, turned, onField}
+use Rattle.sheets.specs.Reading.{Reading, got, refused, onField}
 use Rattle.sheets.specs.RuleSheet.{onSuffix}
 use Rattle.sheets.specs.PercentageSheet.{Sheet, readSheet}
 use Rattle.sheets.specs.Calls.{servicesIn, sheetText}
@@ -54,8 +54,8 @@ twelve =
     ∷ packs "SHEET 5 2 5\nSERVICE 55 16.6667 33.3333 50\nSERVICE 45 25 25 50\n" (2 ∷ 3 ∷ [])
     "TABLE 5 5 293333920\n1 *0 2\n1 * 3\n2 *00 2\n2 *0 1\n2 * 3\n"
     ∷ stands "*00100" 4
-    ∷ reads "18.4.2" (turned no2 1)
+    ∷ reads "18.4.2" (refused no2 1)
     ∷ reads "100.0000" (got 1000000)
-    ∷ reads "100.0001" (turned no2 1)
-    ∷ reads "018.4" (turned no2 1)
+    ∷ reads "100.0001" (refused no2 1)
+    ∷ reads "018.4" (refused no2 1)
     ∷ []
