@@ -1,6 +1,6 @@
 //! A table handed over in numbers and without a text: four for each line, its
-//! service, the length and the value of its suffix, and its backend, where
-//! services and backends count from 0.
+//! service, the length and the value of its suffix, and its backend. Services
+//! and backends have the numbers that their sheet would show.
 
 use crate::expansion::Rule;
 use crate::limits::{
@@ -17,10 +17,10 @@ pub fn numbers_of(lines: &[RuleLine]) -> Vec<u64> {
     let mut numbers = Vec::with_capacity(4 * lines.len());
     for line in lines {
         let suffix = line.rule.suffix;
-        numbers.push(u64::from(line.service) - 1);
+        numbers.push(u64::from(line.service));
         numbers.push(u64::from(suffix.length()));
         numbers.push(u64::from(suffix.value()));
-        numbers.push(u64::from(line.rule.backend) - 1);
+        numbers.push(u64::from(line.rule.backend));
     }
     numbers
 }
@@ -68,29 +68,26 @@ pub fn table_of(k: u64, total: u64, numbers: &[u64]) -> Result<Table, Reason> {
 /// the whole lines, and a last line of the first number left over.
 fn text_length(head: [u64; 3], lines: &[[u64; 4]], rest: &[u64]) -> u128 {
     let numeral = |number: u64| number_width(number) as u128;
-    // 2^64 has as many digits as the number before it.
-    let from_one = |number: u64| numeral(number.saturating_add(1));
     let head = head.iter().map(|&number| 1 + numeral(number));
     let line = |&[service, length, _, backend]: &[u64; 4]| {
-        from_one(service) + 2 + u128::from(length) + 1 + from_one(backend) + 1
+        numeral(service) + 2 + u128::from(length) + 1 + numeral(backend) + 1
     };
-    let last = rest.first().map(|&number| from_one(number) + 1);
+    let last = rest.first().map(|&number| numeral(number) + 1);
     "TABLE\n".len() as u128 + head.chain(lines.iter().map(line)).chain(last).sum::<u128>()
 }
 
 /// One line, if each of its numbers is within its limits.
 fn line_of(k: u64, &[service, length, value, backend]: &[u64; 4]) -> Option<RuleLine> {
-    if service >= MOST_SERVICES || length > k || backend >= MOST_BACKENDS {
+    let within = (1..=MOST_SERVICES).contains(&service)
+        && length <= k
+        && (1..=MOST_BACKENDS).contains(&backend);
+    if !within {
         return None;
     }
-    let rule = Rule {
-        suffix: Suffix::new(length, value)?,
-        backend: backend as u8 + 1,
-    };
-    Some(RuleLine {
-        service: service as u8 + 1,
-        rule,
-    })
+    let suffix = Suffix::new(length, value)?;
+    let (service, backend) = (service as u8, backend as u8);
+    let rule = Rule { suffix, backend };
+    Some(RuleLine { service, rule })
 }
 
 /// Writes the rule sheet of a table that is handed over into a lent buffer, and
@@ -111,7 +108,7 @@ mod tests {
 
     const SAMPLE: &str = "TABLE 5 5 293333920\n1 *0 2\n1 * 3\n2 *00 2\n2 *0 1\n2 * 3\n";
     const TOTAL: u64 = 293_333_920;
-    const NUMBERS: [u64; 20] = [0, 1, 0, 1, 0, 0, 0, 2, 1, 2, 0, 1, 1, 1, 0, 0, 1, 0, 0, 2];
+    const NUMBERS: [u64; 20] = [1, 1, 0, 2, 1, 0, 0, 3, 2, 2, 0, 2, 2, 1, 0, 1, 2, 0, 0, 3];
 
     fn refused(k: u64, total: u64, numbers: &[u64]) -> Refusal {
         write(k, total, numbers, &mut []).unwrap_err()
@@ -139,10 +136,10 @@ mod tests {
             assert_eq!(refused(13, TOTAL, numbers), Reason::BadField.at(0));
             assert_eq!(refused(5, u64::MAX, numbers), Reason::BadField.at(0));
         }
-        let behind = |line: [u64; 4]| refused(5, 0, &[&line[..], &[0, 0, 0]].concat());
-        assert_eq!(behind([0, 5, 0, 0]), Reason::Malformed.at(0));
-        assert_eq!(behind([0, 6, 0, 0]), Reason::BadField.at(0));
-        let stars = [0, 0, 0, 0, 0, 0, 0, 0, 0];
+        let behind = |line: [u64; 4]| refused(5, 0, &[&line[..], &[1, 0, 0]].concat());
+        assert_eq!(behind([1, 5, 0, 1]), Reason::Malformed.at(0));
+        assert_eq!(behind([1, 6, 0, 1]), Reason::BadField.at(0));
+        let stars = [1, 0, 0, 1, 1, 0, 0, 1, 1];
         assert_eq!(refused(5, 0, &stars), Reason::Order.at(0));
     }
 
@@ -155,24 +152,37 @@ mod tests {
             (u64::MAX - 20, Reason::TooLong),
             (u64::MAX, Reason::TooLong),
         ] {
-            let numbers = [0, length, 0, 0, 0, 0, 0, 0, 0, 0];
+            let numbers = [1, length, 0, 1, 1, 0, 0, 1, 1, 0];
             assert_eq!(refused(13, 1, &numbers[..8]), reason.at(0));
             assert_eq!(refused(13, 1_234_567, &numbers), Reason::TooLong.at(0));
         }
-        let halves = [0, 1 << 63, 0, 0].repeat(2);
+        let halves = [1, 1 << 63, 0, 1].repeat(2);
         assert_eq!(refused(5, 0, &halves), Reason::TooLong.at(0));
         for (lines, reason) in [(10_920, Reason::BadField), (10_921, Reason::TooLong)] {
-            assert_eq!(refused(5, 0, &[0, 0, 0, 0].repeat(lines)), reason.at(0));
+            assert_eq!(refused(5, 0, &[1, 0, 0, 1].repeat(lines)), reason.at(0));
         }
     }
 
     #[test]
     fn the_number_of_lines_comes_before_them() {
         for lines in [0, 2_049, 10_000] {
-            let refusal = refused(5, 0, &[0, 0, 0, 0].repeat(lines));
+            let refusal = refused(5, 0, &[1, 0, 0, 1].repeat(lines));
             assert_eq!(refusal, Reason::BadField.at(0));
         }
-        assert_eq!(refused(5, 0, &[0; 4 * 2_048]), Reason::Order.at(0));
+        let stars = [1, 0, 0, 1].repeat(2_048);
+        assert_eq!(refused(5, 0, &stars), Reason::Order.at(0));
+    }
+
+    #[test]
+    fn services_and_backends_count_from_1() {
+        for (service, backend) in [(1, 1), (64, 32)] {
+            let table = table_of(5, 0, &[service, 0, 0, backend]).unwrap();
+            assert_eq!(numbers_of(&table.lines), [service, 0, 0, backend]);
+        }
+        for (service, backend) in [(0, 1), (65, 1), (1, 0), (1, 33)] {
+            let refusal = refused(5, 0, &[service, 0, 0, backend]);
+            assert_eq!(refusal, Reason::BadField.at(0));
+        }
     }
 
     /// The sheet that numbers would have, where a value that its length can't
@@ -180,9 +190,8 @@ mod tests {
     fn sheet(k: u64, total: u64, numbers: &[u64]) -> String {
         let mut text = format!("TABLE {k} {} {total}\n", numbers.len().div_ceil(4));
         for line in numbers.chunks(4) {
-            let from_one = |number: u64| (u128::from(number) + 1).to_string();
             let &[service, length, value, backend] = line else {
-                text += &(from_one(line[0]) + "\n");
+                text += &format!("{}\n", line[0]);
                 continue;
             };
             let bit = |i: u64| {
@@ -197,7 +206,6 @@ mod tests {
             if length < 64 && value >> length != 0 {
                 suffix = "-".repeat(suffix.len());
             }
-            let (service, backend) = (from_one(service), from_one(backend));
             text += &format!("{service} {suffix} {backend}\n");
         }
         text

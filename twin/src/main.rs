@@ -7,7 +7,7 @@ use std::path::Path;
 use std::process::ExitCode;
 use twin::commands::{read_file, Command, USAGE};
 
-const TOOLS: &str = "tools: twin vectors KIND OUTDIR | twin answer KIND
+const TOOLS: &str = "tools: twin vectors OUTDIR | twin answer
        twin hostile SEED COUNT | twin cases SEED COUNT OUTDIR";
 
 fn main() -> ExitCode {
@@ -42,12 +42,12 @@ fn run(words: &[&[u8]]) -> Result<Vec<u8>, String> {
 fn tool(words: &[&str]) -> Result<Vec<u8>, String> {
     let usage = || format!("{USAGE}\n{TOOLS}");
     match words {
-        ["vectors", kind, folder] => {
-            let count = twin::vectors::write(kind, Path::new(folder))?;
-            Ok(format!("{count} {kind} vectors\n").into_bytes())
+        ["vectors", folder] => {
+            let count = twin::vectors::write(Path::new(folder))?;
+            Ok(format!("{count} vectors\n").into_bytes())
         }
-        ["answer", kind] => {
-            let answers = twin::vectors::answer(kind, &standard_input()?)?;
+        ["answer"] => {
+            let answers = twin::vectors::answer(&standard_input()?)?;
             Ok(answers.into_bytes())
         }
         ["hostile", seed, count] => {

@@ -75,11 +75,11 @@ mod tests {
         assert_eq!(refusal, None);
         assert_eq!(figures, [2, 4, 0, 3, 3, 0, 99]);
         let lines = [
-            [0, 1, 0, 1],
-            [0, 0, 0, 2],
-            [1, 2, 0, 1],
-            [1, 1, 0, 0],
-            [1, 0, 0, 2],
+            [1, 1, 0, 2],
+            [1, 0, 0, 3],
+            [2, 2, 0, 2],
+            [2, 1, 0, 1],
+            [2, 0, 0, 3],
         ];
         assert_eq!(table, lines.concat());
     }

@@ -1,5 +1,5 @@
 -- What a call answers, by its cases: turned back by a check, too little room, or the list that the program made.
-use Prim.Native.Nat.{ℕ, zero, suc, _+_, _≤_, _<_}
+use Prim.Native.Nat.{ℕ, zero, suc, _+_, _-_, _≤_, _<_}
 use mathlib.Core.Bool.{true, false}
 use mathlib.Core.List.{List, [], _∷_, _++_, reverse, map}
 use mathlib.Core.Path.{_≡_, refl, ap, ap₂, sym, _∙_}
@@ -8,11 +8,11 @@ use lib.Dec.{leb}
 use lib.ListN.{length, getD, take}
 use lib.Seq.{take-suc}
 use borrow.Author.Tests.{leb-false, le-leb, lt-leb}
-use Rattle.expansion.specs.Imbalance.{Frame}
-use Rattle.expansion.specs.Steps.{frame, stair, stairsTo}
-use Rattle.expansion.specs.Answer.{checkCall, listMade, stairsMade, recordMade, answer}
+use Rattle.expansion.specs.Steps.{Frame, firstRule, frame, after, listOf, stair, stairsTo}
+use Rattle.expansion.specs.Answer.{checkCall, frameMade, listMade, stairsMade, recordMade, answer}
 use Rattle.numerals.specs.Limits.{unit}
-use Rattle.expansion.specs.Kept.{Made}
+use Rattle.expansion.specs.Inner.Lists.{newestFirst}
+use Rattle.expansion.specs.Inner.Run.{Made}
 use Rattle.expansion.specs.declared.rule.Rule.{Rule}
 use Rattle.numerals.specs.declared.refusal.Refusal.{Refusal}
 use Rattle.numerals.specs.declared.refusal.Refusal.the-variants.{ShortLoan}
@@ -36,25 +36,35 @@ stairs-taken F rs xs (suc c) l h =
     ∙ ap₂ (λ (ys : List ℕ) (y : ℕ). ys ++ y ∷ []) (stairs-taken F rs xs c (omega arith) (λ i m. h i (omega arith))) (h c (omega arith))
 
 -- the list that was made, as the answer has it
-module _ (k tolerance budget : ℕ) (ws : List ℕ) (r : Run) (M : Made k tolerance budget ws r) where
+module _ (k tolerance budget : ℕ) (ws : List ℕ) (r : Run) (M : Made (frameMade k tolerance ws) budget r) where
+  made-rules : newestFirst (r .list .rules) (r .list .count) ≡ listMade k tolerance budget ws
+  unfolding listMade
+  made-rules = M .rules
+
+  made-stair : (c : ℕ) → c < r .list .count → getD (r .list .stairs) c 0 ≡ stair (frameMade k tolerance ws) (suc c) (listMade k tolerance budget ws)
+  unfolding listMade frameMade frame firstRule
+  made-stair c l =
+      let same : c ≡ suc c - 1 = omega arith in
+      ap (λ (i : ℕ). getD (r .list .stairs) i 0) same ∙ M .stairs (suc c) (omega arith) (omega arith)
+
   pub made-count : r .list .count ≡ length (listMade k tolerance budget ws)
-  made-count = sym (length-newest (r .list .rules) (r .list .count)) ∙ ap length (M .rules)
+  made-count = sym (length-newest (r .list .rules) (r .list .count)) ∙ ap length made-rules
 
   pub made-record : recordMade k tolerance budget ws ≡ record { ended = r .ended; rules = r .list .count }
-  unfolding recordMade
+  unfolding recordMade listMade
   made-record = rw (made-count, M .ended)
 
   pub made-column : (f : Rule → ℕ) → r .list .count ≤ length (r .list .rules)
       → map f (take (r .list .count) (r .list .rules)) ≡ map f (reverse (listMade k tolerance budget ws))
   made-column f l =
-      column-newest f (r .list .rules) (r .list .count) l ∙ ap (λ (rs : List Rule). map f (reverse rs)) (M .rules)
+      column-newest f (r .list .rules) (r .list .count) l ∙ ap (λ (rs : List Rule). map f (reverse rs)) made-rules
 
   pub made-stairs : r .list .count ≤ length (r .list .stairs)
       → take (r .list .count) (r .list .stairs) ≡ stairsMade k tolerance budget ws
   unfolding stairsMade
   made-stairs l =
-      stairs-taken (frame k unit tolerance ws) (listMade k tolerance budget ws) (r .list .stairs) (r .list .count) l (M .stairs)
-      ∙ ap (stairsTo (frame k unit tolerance ws) (listMade k tolerance budget ws)) made-count
+      stairs-taken (frameMade k tolerance ws) (listMade k tolerance budget ws) (r .list .stairs) (r .list .count) l made-stair
+      ∙ ap (stairsTo (frameMade k tolerance ws) (listMade k tolerance budget ws)) made-count
 
   -- too little room, or enough
   pub answer-short : (at room : ℕ) → checkCall k tolerance budget ws ≡ Passed → leb (at + r .list .count) room ≡ false

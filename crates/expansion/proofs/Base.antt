@@ -8,14 +8,14 @@ use lib.ListN.{length, getD}
 use lib.Dec.{eqb}
 use borrow.Author.Tests.{eq-eqb}
 use Rattle.numerals.specs.Pick.{pick}
-use Rattle.numerals.specs.Sums.{sumTo, argmax}
-use Rattle.expansion.specs.FirstMatch.{matches, gives, share}
-use Rattle.expansion.specs.Imbalance.{backends, weight, imbalance}
+use Rattle.numerals.specs.Sums.{sumTo, listTo, argmax}
+use Rattle.expansion.specs.FirstMatch.{nobody, matches, gives, share}
+use Rattle.expansion.specs.Imbalance.{backends, label, weight, imbalance}
 use Rattle.expansion.specs.Steps.{firstRule, frame, after, listOf, stair}
-use Rattle.expansion.specs.Sound.{Lengths, Complete, AllFormed, Falling, Sound}
-use Rattle.numerals.proofs.Sums.{count-ext, count-const}
+use Rattle.expansion.specs.Sound.{Lengths, Distinct, Complete, AllFormed, Falling, Sound}
+use Rattle.numerals.proofs.Sums.{count-ext, count-const, list-at}
 use Rattle.numerals.proofs.Searches.{argmax-is}
-use Rattle.expansion.proofs.FirstMatch.{gives-matched}
+use Rattle.expansion.proofs.FirstMatch.{is-rule, gives-matched}
 use Rattle.expansion.proofs.Stairs.{stair-is}
 
 -- a sum that isn't zero has parts
@@ -23,6 +23,10 @@ parts-there : (n : ℕ) (f : ℕ → ℕ) → 0 < sumTo n f → 0 < n
 unfolding sumTo
 parts-there zero f h = h
 parts-there (suc n) f h = omega arith
+
+-- backends that are labelled by their number from 1
+pub numbers-distinct : (n : ℕ) → Distinct (λ b. getD (listTo n suc) b nobody) n
+numbers-distinct n a b l m e = omega (arith, list-at n suc a nobody l, list-at n suc b nobody m)
 
 -- a list of the one rule `*` gives its backend everything
 pub star-share : (k b c : ℕ) → share k (record { len = 0; value = 0; backend = b } ∷ []) c ≡ pick (eqb b c) (2 ^ k) 0
@@ -32,42 +36,48 @@ star-share k b c =
     (λ s l. gives-matched (record { len = 0; value = 0; backend = b }) [] s c (eq-eqb (s % 1) 0 (mod-one s)))
     ∙ count-const (2 ^ k) (eqb b c)
 
-module _ (k unit tolerance : ℕ) (ws : List ℕ) (one : 1 ≤ k) (positive : 0 < unit)
-    (balanced : sumTo (length ws) (λ b. getD ws b 0) ≡ unit) where
+module _ (k unit tolerance : ℕ) (labels ws : List ℕ) (one : 1 ≤ k) (positive : 0 < unit)
+    (balanced : sumTo (length ws) (λ b. getD ws b 0) ≡ unit) (distinct : Distinct (λ b. getD labels b nobody) (length ws)) where
   pub first-known : argmax (λ b. getD ws b 0) (length ws) < length ws
   first-known =
       argmax-is (λ b. getD ws b 0) (length ws) (parts-there (length ws) (λ b. getD ws b 0) (omega arith)) .inside
 
-  pub base-complete : Complete (length ws) (firstRule ws)
+  pub base-complete : Complete (λ b. getD labels b nobody) (length ws) (firstRule labels ws)
   unfolding firstRule matches
   base-complete s =
-      let b : ℕ = argmax (λ b. getD ws b 0) (length ws) in (
-        b,
-        first-known,
-        gives-matched (record { len = 0; value = 0; backend = b }) [] s b (eq-eqb (s % 1) 0 (mod-one s)) ∙ eq-eqb b b refl,
-      )
+      let b : ℕ = argmax (λ b. getD ws b 0) (length ws) in
+      let l : ℕ = getD labels b nobody in
+      (b, first-known, gives-matched (record { len = 0; value = 0; backend = l }) [] s l (eq-eqb (s % 1) 0 (mod-one s)) ∙ eq-eqb l l refl)
 
-  pub base-sound : Sound (frame k unit tolerance ws)
-  unfolding frame backends weight firstRule Lengths
+  pub base-sound : Sound (frame k unit tolerance labels ws)
+  unfolding frame backends label weight firstRule Lengths
   base-sound =
       record {
         positive = positive;
         balanced = balanced;
+        distinct = distinct;
         below = omega arith;
         short = (omega arith, tt);
         complete = base-complete;
       }
 
-  pub base-formed : AllFormed k (length ws) (firstRule ws)
+  pub base-formed : AllFormed k (λ b. getD labels b nobody) (length ws) (firstRule labels ws)
   unfolding AllFormed firstRule
-  base-formed = (record { short = omega arith; bits = omega arith; known = first-known }, tt)
+  base-formed =
+      let b : ℕ = argmax (λ b. getD ws b 0) (length ws) in (
+        record {
+          rule = is-rule k (record { len = 0; value = 0; backend = getD labels b nobody }) (omega arith) (omega arith);
+          known = (b, first-known, refl);
+        },
+        tt,
+      )
 
-pub base-falling : (ws : List ℕ) → Falling (firstRule ws)
+pub base-falling : (labels ws : List ℕ) → Falling (firstRule labels ws)
 unfolding Falling Lengths firstRule
-base-falling ws = (tt, tt)
+base-falling labels ws = (tt, tt)
 
-pub base-stair : (k unit tolerance : ℕ) (ws : List ℕ) (c budget : ℕ) → 1 ≤ c
-    → stair (frame k unit tolerance ws) c (listOf (frame k unit tolerance ws) budget)
-    ≡ imbalance (frame k unit tolerance ws) (after (frame k unit tolerance ws) (min (c - 1) (budget - 1)))
+pub base-stair : (k unit tolerance : ℕ) (labels ws : List ℕ) (c budget : ℕ) → 1 ≤ c
+    → stair (frame k unit tolerance labels ws) c (listOf (frame k unit tolerance labels ws) budget)
+    ≡ imbalance (frame k unit tolerance labels ws .targets) (after (frame k unit tolerance labels ws) (min (c - 1) (budget - 1)))
 unfolding frame firstRule
-base-stair k unit tolerance ws c budget l = stair-is (frame k unit tolerance ws) c budget l
+base-stair k unit tolerance labels ws c budget l = stair-is (frame k unit tolerance labels ws) c budget l

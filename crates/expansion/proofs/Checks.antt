@@ -1,5 +1,5 @@
 -- What the checks of a call leave.
-use Prim.Native.Nat.{ℕ, _≤_, _<_}
+use Prim.Native.Nat.{ℕ, suc, _≤_, _<_}
 use mathlib.Core.Bool.{Bool, true, false}
 use mathlib.Core.List.{List}
 use mathlib.Core.Path.{_≡_, refl}
@@ -7,19 +7,19 @@ use native.Mathlib.Omega.{arith}
 use lib.Dec.{leb, ltb, eqb, lit<}
 use lib.ListN.{length, getD}
 use borrow.Author.Tests.{leb-true, ltb-true, eqb-true, lt-ltb, le-ltb, lt-leb, le-leb}
-use Rattle.numerals.specs.Sums.{sumTo, allTo, argmax}
-use Rattle.expansion.specs.Imbalance.{weight}
-use Rattle.expansion.specs.Steps.{frame}
+use Rattle.numerals.specs.Sums.{sumTo, listTo, allTo, argmax}
+use Rattle.expansion.specs.Imbalance.{backends}
+use Rattle.expansion.specs.Steps.{frame, firstRule}
 use Rattle.expansion.specs.Sound.{Sound}
 use Rattle.expansion.specs.Answer.{andThen, orElse, inLimits, checkWeights, checkCall}
-use Rattle.numerals.specs.Limits.{unit}
-use Rattle.expansion.specs.Kept.{Valid}
+use Rattle.numerals.specs.Limits.{mostBits, mostBackends, mostRules, unit}
+use Rattle.expansion.specs.Inner.Run.{Valid, Fits}
 use Rattle.numerals.specs.declared.refusal.Refusal.{Refusal}
 use Rattle.numerals.specs.declared.refusal.Refusal.the-variants.{BadField, Unbalanced, TooMany}
 use Rattle.expansion.specs.declared.call.Checked.{Checked}
 use Rattle.expansion.specs.declared.call.Checked.the-variants.{Sound as Passed, Refused as Turned}
-use Rattle.expansion.proofs.Bounds.{weight-le}
-use Rattle.expansion.proofs.Base.{first-known, base-sound}
+use Rattle.expansion.proofs.Base.{numbers-distinct, first-known, base-sound}
+use Rattle.numerals.proofs.Sums.{length-list}
 use Rattle.numerals.proofs.Searches.{both-true, all-true, all-false}
 
 -- both checks passed
@@ -38,10 +38,10 @@ limits least most x e =
     let p = both-true (leb least x) (leb x most) e in
     (leb-true least x (p .0), leb-true x most (p .1))
 
--- the weights of a service: 1 to 32 of them, each at most the unit, which they sum to
+-- the weights of a service: 1 to mostBackends of them, each at most the unit, which they sum to
 pub record Weighed (ws : List ℕ) : Type 0 where
   pub someone : 0 < length ws
-  pub few : length ws ≤ 32
+  pub few : length ws ≤ mostBackends
   pub each : (b : ℕ) → b < length ws → getD ws b 0 ≤ unit
   pub balanced : sumTo (length ws) (λ b. getD ws b 0) ≡ unit
 
@@ -50,23 +50,23 @@ unfolding checkWeights
 weights-none ws e = simp (le-ltb 0 (length ws) (omega arith))
 
 module _ (ws : List ℕ) (some : 0 < length ws) where
-  pub weights-many : 32 < length ws → checkWeights ws ≡ Turned TooMany
+  pub weights-many : mostBackends < length ws → checkWeights ws ≡ Turned TooMany
   unfolding checkWeights
-  weights-many h = simp (lt-ltb 0 (length ws) some, lt-leb (length ws) 32 h)
+  weights-many h = simp (lt-ltb 0 (length ws) some, lt-leb (length ws) mostBackends h)
 
-  pub weights-over : length ws ≤ 32 → (b : ℕ) → b < length ws → unit < getD ws b 0 → checkWeights ws ≡ Turned BadField
+  pub weights-over : length ws ≤ mostBackends → (b : ℕ) → b < length ws → unit < getD ws b 0 → checkWeights ws ≡ Turned BadField
   unfolding checkWeights
   weights-over few b l h =
       simp (
         lt-ltb 0 (length ws) some,
-        le-leb (length ws) 32 few,
+        le-leb (length ws) mostBackends few,
         all-false (length ws) (λ j. leb (getD ws j 0) unit) b l (lt-leb (getD ws b 0) unit h),
       )
 
-  pub weights-sum : length ws ≤ 32 → allTo (length ws) (λ j. leb (getD ws j 0) unit) ≡ true
+  pub weights-sum : length ws ≤ mostBackends → allTo (length ws) (λ j. leb (getD ws j 0) unit) ≡ true
       → checkWeights ws ≡ orElse (eqb (sumTo (length ws) (λ j. getD ws j 0)) unit) Unbalanced
   unfolding checkWeights
-  weights-sum few small = simp (lt-ltb 0 (length ws) some, le-leb (length ws) 32 few, small)
+  weights-sum few small = simp (lt-ltb 0 (length ws) some, le-leb (length ws) mostBackends few, small)
 
 pub weights-passed : (ws : List ℕ) → checkWeights ws ≡ Passed → Weighed ws
 unfolding checkWeights
@@ -76,46 +76,46 @@ weights-passed ws e =
     let sum = sumTo n (λ b. getD ws b 0) in
     let sums = orElse (eqb sum unit) Unbalanced in
     let smalls = andThen (orElse (allTo n small) BadField) sums in
-    let p = both-passed (orElse (ltb 0 n) BadField) (andThen (orElse (leb n 32) TooMany) smalls) e in
-    let q = both-passed (orElse (leb n 32) TooMany) smalls (p .1) in
+    let p = both-passed (orElse (ltb 0 n) BadField) (andThen (orElse (leb n mostBackends) TooMany) smalls) e in
+    let q = both-passed (orElse (leb n mostBackends) TooMany) smalls (p .1) in
     let r = both-passed (orElse (allTo n small) BadField) sums (q .1) in
     record {
       someone = ltb-true 0 n (test-passed (ltb 0 n) BadField (p .0));
-      few = leb-true n 32 (test-passed (leb n 32) TooMany (q .0));
+      few = leb-true n mostBackends (test-passed (leb n mostBackends) TooMany (q .0));
       each = λ b l. leb-true (getD ws b 0) unit (all-true n small (test-passed (allTo n small) BadField (r .0)) b l);
       balanced = eqb-true sum unit (test-passed (eqb sum unit) Unbalanced (r .1));
     }
 
 -- the checks of a call, one after the other
 module _ (k tolerance budget : ℕ) (ws : List ℕ) where
-  pub call-bits : inLimits 1 12 k ≡ false → checkCall k tolerance budget ws ≡ Turned BadField
+  pub call-bits : inLimits 1 mostBits k ≡ false → checkCall k tolerance budget ws ≡ Turned BadField
   unfolding checkCall
   call-bits e = simp e
 
-  pub call-tolerance : inLimits 1 12 k ≡ true → unit < tolerance → checkCall k tolerance budget ws ≡ Turned BadField
+  pub call-tolerance : inLimits 1 mostBits k ≡ true → unit < tolerance → checkCall k tolerance budget ws ≡ Turned BadField
   unfolding checkCall
   call-tolerance e l = simp (e, lt-leb tolerance unit l)
 
-  pub call-budget : inLimits 1 12 k ≡ true → tolerance ≤ unit → inLimits 1 32 budget ≡ false
+  pub call-budget : inLimits 1 mostBits k ≡ true → tolerance ≤ unit → inLimits 1 mostRules budget ≡ false
       → checkCall k tolerance budget ws ≡ Turned BadField
   unfolding checkCall
   call-budget e l f = simp (e, le-leb tolerance unit l, f)
 
-  pub call-weights : inLimits 1 12 k ≡ true → tolerance ≤ unit → inLimits 1 32 budget ≡ true
+  pub call-weights : inLimits 1 mostBits k ≡ true → tolerance ≤ unit → inLimits 1 mostRules budget ≡ true
       → checkCall k tolerance budget ws ≡ checkWeights ws
   unfolding checkCall
   call-weights e l f = simp (e, le-leb tolerance unit l, f)
 
 pub call-passed : (k tolerance budget : ℕ) (ws : List ℕ) → checkCall k tolerance budget ws ≡ Passed
-    → Valid k tolerance ws × (1 ≤ budget) × (budget ≤ 32) × ((b : ℕ) → b < length ws → getD ws b 0 ≤ unit)
+    → Valid k tolerance (listTo (length ws) suc) ws × (1 ≤ budget) × (budget ≤ mostRules) × ((b : ℕ) → b < length ws → getD ws b 0 ≤ unit)
 unfolding checkCall
 call-passed k tolerance budget ws e =
-    let rest = andThen (orElse (inLimits 1 32 budget) BadField) (checkWeights ws) in
-    let p = both-passed (orElse (inLimits 1 12 k) BadField) (andThen (orElse (leb tolerance unit) BadField) rest) e in
+    let rest = andThen (orElse (inLimits 1 mostRules budget) BadField) (checkWeights ws) in
+    let p = both-passed (orElse (inLimits 1 mostBits k) BadField) (andThen (orElse (leb tolerance unit) BadField) rest) e in
     let q = both-passed (orElse (leb tolerance unit) BadField) rest (p .1) in
-    let r = both-passed (orElse (inLimits 1 32 budget) BadField) (checkWeights ws) (q .1) in
-    let bits = limits 1 12 k (test-passed (inLimits 1 12 k) BadField (p .0)) in
-    let rules = limits 1 32 budget (test-passed (inLimits 1 32 budget) BadField (r .0)) in
+    let r = both-passed (orElse (inLimits 1 mostRules budget) BadField) (checkWeights ws) (q .1) in
+    let bits = limits 1 mostBits k (test-passed (inLimits 1 mostBits k) BadField (p .0)) in
+    let rules = limits 1 mostRules budget (test-passed (inLimits 1 mostRules budget) BadField (r .0)) in
     let w = weights-passed ws (r .1) in (
       record {
         some-bits = bits .0;
@@ -124,6 +124,8 @@ call-passed k tolerance budget ws e =
         someone = w .someone;
         few = w .few;
         balanced = w .balanced;
+        labelled = length-list (length ws) suc;
+        distinct = numbers-distinct (length ws);
       },
       rules .0,
       rules .1,
@@ -135,13 +137,14 @@ unfolding unit
 some-unit = lit< tt
 
 -- the frame of a call that passed
-module _ (k tolerance : ℕ) (ws : List ℕ) (valid : Valid k tolerance ws) where
-  pub sound : Sound (frame k unit tolerance ws)
-  sound = base-sound k unit tolerance ws (valid .some-bits) some-unit (valid .balanced)
+module _ (k tolerance : ℕ) (labels ws : List ℕ) (valid : Valid k tolerance labels ws) where
+  pub sound : Sound (frame k unit tolerance labels ws)
+  sound = base-sound k unit tolerance labels ws (valid .some-bits) some-unit (valid .balanced) (valid .distinct)
+
+  pub fits : Fits (frame k unit tolerance labels ws)
+  unfolding frame backends firstRule
+  fits =
+      record { millionths = refl; few-bits = valid .few-bits; tolerable = valid .tolerable; few = valid .few; labelled = valid .labelled; started = omega arith; sound = sound }
 
   pub first-lt : argmax (λ b. getD ws b 0) (length ws) < length ws
-  first-lt = first-known k unit tolerance ws (valid .some-bits) some-unit (valid .balanced)
-
-  pub each-weight : (b : ℕ) → getD ws b 0 ≤ unit
-  unfolding frame weight
-  each-weight = weight-le (frame k unit tolerance ws) sound
+  first-lt = first-known k unit tolerance labels ws (valid .some-bits) some-unit (valid .balanced) (valid .distinct)

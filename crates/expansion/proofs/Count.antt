@@ -13,25 +13,28 @@ use borrow.Author.Tests.{eqb-true, eq-eqb, ne-eqb}
 use Rattle.numerals.specs.Sums.{sumTo, countTo}
 use Rattle.expansion.specs.FirstMatch.{matches, gives, share}
 use Rattle.expansion.specs.Steps.{isWhole}
-use Rattle.expansion.specs.Sound.{Complete, Lengths}
+use Rattle.expansion.specs.Sound.{Distinct, Complete, Lengths}
 use Rattle.expansion.specs.declared.rule.Rule.{Rule}
 use Rattle.numerals.proofs.Sums.{sum-ext, sum-add, sum-const, sum-swap, sum-split, count-ext, count-single, bit}
 use Rattle.numerals.proofs.Searches.{all-true, true-all}
 use Rattle.expansion.proofs.FirstMatch.{gives-matched, gives-passed, gives-one, gives-low}
 
 -- each s counts for one backend
-gives-sum : (n : ℕ) (rs : List Rule) (s : ℕ) → (b : ℕ) × (b < n) × (gives rs s b ≡ true) → countTo n (gives rs s) ≡ 1
-gives-sum n rs s h = count-single n (gives rs s) (h .0) (h .1) (h .2) (λ i l d. fails i d (gives rs s i) refl)
+gives-sum : (labelled : ℕ → ℕ) (n : ℕ) → Distinct labelled n → (rs : List Rule) (s : ℕ) → (b : ℕ) × (b < n) × (gives rs s (labelled b) ≡ true)
+    → countTo n (λ b. gives rs s (labelled b)) ≡ 1
+gives-sum labelled n distinct rs s h =
+    count-single n (λ b. gives rs s (labelled b)) (h .0) (h .1) (h .2) (λ i l d. fails i l d (gives rs s (labelled i)) refl)
   where
-    fails : (i : ℕ) → i ≢ h .0 → (t : Bool) → gives rs s i ≡ t → gives rs s i ≡ false
-    fails i d true e = absurd (d (gives-one rs s i (h .0) e (h .2)))
-    fails i d false e = e
+    fails : (i : ℕ) → i < n → i ≢ h .0 → (t : Bool) → gives rs s (labelled i) ≡ t → gives rs s (labelled i) ≡ false
+    fails i l d true e = absurd (d (distinct i (h .0) l (h .1) (gives-one rs s (labelled i) (labelled (h .0)) e (h .2))))
+    fails i l d false e = e
 
-pub share-sum : (k n : ℕ) (rs : List Rule) → Complete n rs → sumTo n (share k rs) ≡ 2 ^ k
+pub share-sum : (k : ℕ) (labelled : ℕ → ℕ) (n : ℕ) → Distinct labelled n → (rs : List Rule) → Complete labelled n rs
+    → sumTo n (λ b. share k rs (labelled b)) ≡ 2 ^ k
 unfolding share countTo
-share-sum k n rs h =
-    sum-swap n (2 ^ k) (λ b s. bit (gives rs s b))
-    ∙ sum-ext (2 ^ k) (λ s. countTo n (gives rs s)) (λ s. 1) (λ s l. gives-sum n rs s (h s))
+share-sum k labelled n distinct rs h =
+    sum-swap n (2 ^ k) (λ b s. bit (gives rs s (labelled b)))
+    ∙ sum-ext (2 ^ k) (λ s. countTo n (λ b. gives rs s (labelled b))) (λ s. 1) (λ s l. gives-sum labelled n distinct rs s (h s))
     ∙ sum-const (2 ^ k) 1
     ∙ mul-one (2 ^ k)
 
@@ -143,9 +146,10 @@ module _ (k : ℕ) (rs : List Rule) (r : Rule) (g : ℕ) (short : r .len ≤ k) 
       count-ext (2 ^ k) (λ s. gives (r ∷ rs) s b) (λ s. gives rs s b) (λ s l. keeps b d c s l (matches r s) refl)
 
 -- a new rule leaves nothing without a backend
-pub complete-cons : (n : ℕ) (r : Rule) (rs : List Rule) → r .backend < n → Complete n rs → Complete n (r ∷ rs)
-complete-cons n r rs l h s = go (matches r s) refl
+pub complete-cons : (labelled : ℕ → ℕ) (n : ℕ) (r : Rule) (rs : List Rule) → (b : ℕ) × (b < n) × (r .backend ≡ labelled b)
+    → Complete labelled n rs → Complete labelled n (r ∷ rs)
+complete-cons labelled n r rs l h s = go (matches r s) refl
   where
-    go : (m : Bool) → matches r s ≡ m → (b : ℕ) × (b < n) × (gives (r ∷ rs) s b ≡ true)
-    go true e = (r .backend, l, gives-matched r rs s (r .backend) e ∙ eq-eqb (r .backend) (r .backend) refl)
-    go false e = (h s .0, h s .1, gives-passed r rs s (h s .0) e ∙ h s .2)
+    go : (m : Bool) → matches r s ≡ m → (b : ℕ) × (b < n) × (gives (r ∷ rs) s (labelled b) ≡ true)
+    go true e = (l .0, l .1, gives-matched r rs s (labelled (l .0)) e ∙ eq-eqb (r .backend) (labelled (l .0)) (l .2))
+    go false e = (h s .0, h s .1, gives-passed r rs s (labelled (h s .0)) e ∙ h s .2)

@@ -12,12 +12,14 @@ use lib.ListN.{length, getD, set, replicate, getD-replicate, length-replicate, l
 use lib.Seq.{getD-set-same, getD-set-other}
 use lib.Pow.{pow-pos}
 use borrow.Author.Tests.{eqb-true, eq-eqb, ne-eqb}
+use Rattle.numerals.specs.Limits.{mostBits, mostSuffixes, mostBackends}
 use Rattle.numerals.specs.Suffix.{place}
 use Rattle.numerals.specs.Sums.{firstTo, argmax}
-use Rattle.expansion.specs.FirstMatch.{matches, gives}
+use Rattle.expansion.specs.FirstMatch.{nobody, matches, gives}
+use Rattle.expansion.specs.Imbalance.{Targets, backends, label}
 use Rattle.expansion.specs.Steps.{firstRule, isWhole}
-use Rattle.expansion.specs.Sound.{Lengths}
-use Rattle.expansion.specs.Kept.{heldBy, lowestHeld, Holds, Given, lowered}
+use Rattle.expansion.specs.Sound.{Lengths, Distinct}
+use Rattle.expansion.specs.Inner.Holders.{heldBy, lowestHeld, Holds, Given, lowered}
 use Rattle.expansion.specs.declared.rule.Rule.{Rule}
 use Rattle.numerals.proofs.Searches.{clash, same-test, all-true, true-all, all-false, IsFirst, first-unique, first-is}
 use Rattle.expansion.proofs.FirstMatch.{gives-matched, gives-passed, gives-one}
@@ -80,7 +82,11 @@ lowest-is holder size b from n node start most none whole =
     } in
     sym back ∙ ap (λ (x : ℕ). from + x) (first-unique (n - from) test (node - from) (firstTo (n - from) test) here (first-is (n - from) test))
 
-module _ (k l : ℕ) (h : l ≤ k) (rs : List Rule) (holder low : List ℕ) (H : Holds k rs holder low) where
+module _ (T : Targets) (distinct : Distinct (label T) (backends T)) (l : ℕ) (h : l ≤ T .k) (rs : List Rule) (holder low : List ℕ)
+    (H : Holds T rs holder low) where
+  abbrev k : ℕ
+  k = T .k
+
   abbrev size : ℕ
   size = 2 ^ (k - l)
 
@@ -88,18 +94,19 @@ module _ (k l : ℕ) (h : l ≤ k) (rs : List Rule) (holder low : List ℕ) (H :
   inside j i m o = omega (arith, mul-le-mul-right size m, suc-mul j size, all-nodes k l h)
 
   -- a node is held wholly just where its suffix is
-  pub held-whole : (b j : ℕ) → j < 2 ^ l → heldBy holder size b j ≡ isWhole k rs l (place l j) b
-  held-whole b j m =
-      same-test (heldBy holder size b j) (isWhole k rs l (place l j) b)
-      (λ e. whole-node k l h rs b j m (λ q from to.
+  pub held-whole : (b j : ℕ) → b < backends T → j < 2 ^ l → heldBy holder size b j ≡ isWhole k rs l (place l j) (label T b)
+  held-whole b j known m =
+      same-test (heldBy holder size b j) (isWhole k rs l (place l j) (label T b))
+      (λ e. whole-node k l h rs (label T b) j m (λ q from to.
       let i : ℕ = q - j * size in
       let is : j * size + i ≡ q = omega arith in
       let mine : getD holder q 0 ≡ b = ap (λ (x : ℕ). getD holder x 0) (sym is) ∙ held-at holder size b j e i (omega arith) in
-      ap (gives rs (place k q)) (sym mine) ∙ H .holders q (omega (arith, inside j i m (omega arith)))))
+      ap (λ (x : ℕ). gives rs (place k q) (label T x)) (sym mine) ∙ H .holders q (omega (arith, inside j i m (omega arith)))))
       (λ w. held-all holder size b j (λ i o.
       let q : ℕ = j * size + i in
-      gives-one rs (place k q) (getD holder q 0) b (H .holders q (inside j i m o))
-      (node-held k l h rs b j w q (inside j i m o) (omega arith) (omega arith))))
+      distinct (getD holder q 0) b (H .known q (inside j i m o)) known
+      (gives-one rs (place k q) (label T (getD holder q 0)) (label T b) (H .holders q (inside j i m o))
+      (node-held k l h rs (label T b) j w q (inside j i m o) (omega arith) (omega arith)))))
 
   -- no node before the one of a backend's low is its own
   pub low-not : (b j : ℕ) → j < 2 ^ l → j < getD low b 0 / size → heldBy holder size b j ≡ false
@@ -109,37 +116,45 @@ module _ (k l : ℕ) (h : l ≤ k) (rs : List Rule) (holder low : List ℕ) (H :
       (omega (arith, mul-le-mul-right size n, suc-mul j size, div-add-mod' (getD low b 0) size, pow-pos (k - l))))
 
   -- a node goes from the giver to another, the lowest that the giver holds
-  module _ (short : Lengths l rs) (p : ℕ) (small : p < 2 ^ l) (giver b : ℕ) (apart : giver ≢ b)
-      (first : (j : ℕ) → j < p → isWhole k rs l (place l j) giver ≡ false) (giver-in : giver < length low) (b-in : b < length low)
+  module _ (short : Lengths l rs) (p : ℕ) (small : p < 2 ^ l) (giver b : ℕ) (apart : giver ≢ b) (b-known : b < backends T)
+      (first : (j : ℕ) → j < p → isWhole k rs l (place l j) (label T giver) ≡ false) (giver-in : giver < length low) (b-in : b < length low)
       (holder′ low′ : List ℕ) (G : Given (p * size) size b holder holder′) (L : low′ ≡ lowered low giver b (p * size) (p * size + size)) where
     -- no rule is longer, so before that node the giver holds nothing at all
     none-before : (q : ℕ) → q < 2 ^ k → q < p * size → getD holder q 0 ≢ giver
     none-before q m n e =
-        let whole : isWhole k rs l (place k q % 2 ^ l) giver ≡ true =
-        whole-of-one k l rs giver (place k q) short (ap (gives rs (place k q)) (sym e) ∙ H .holders q m) in
-        clash (isWhole k rs l (place l (q / size)) giver)
-        (ap (λ (v : ℕ). isWhole k rs l v giver) (sym (bits-at k l h q m)) ∙ whole)
+        let whole : isWhole k rs l (place k q % 2 ^ l) (label T giver) ≡ true =
+        whole-of-one k l rs (label T giver) (place k q) short (ap (λ (x : ℕ). gives rs (place k q) (label T x)) (sym e) ∙ H .holders q m) in
+        clash (isWhole k rs l (place l (q / size)) (label T giver))
+        (ap (λ (v : ℕ). isWhole k rs l v (label T giver)) (sym (bits-at k l h q m)) ∙ whole)
         (first (q / size) (div-lt-iff-lt-mul (pow-pos (k - l)) .1 n))
 
     new : Rule
-    new = record { len = l; value = place l p; backend = b }
+    new = record { len = l; value = place l p; backend = label T b }
 
-    holders-given : (q : ℕ) → q < 2 ^ k → gives (new ∷ rs) (place k q) (getD holder′ q 0) ≡ true
+    holders-given : (q : ℕ) → q < 2 ^ k → gives (new ∷ rs) (place k q) (label T (getD holder′ q 0)) ≡ true
     unfolding new
     holders-given q m = go (decLt q (p * size)) (decLt q (p * size + size))
       where
-        out : (p * size ≤ q → p * size + size ≤ q) → gives (new ∷ rs) (place k q) (getD holder′ q 0) ≡ true
+        out : (p * size ≤ q → p * size + size ≤ q) → gives (new ∷ rs) (place k q) (label T (getD holder′ q 0)) ≡ true
         out o =
-            gives-passed new rs (place k q) (getD holder′ q 0) (match-outside k l h p small b q m o)
-            ∙ ap (gives rs (place k q)) (G .other q o)
+            gives-passed new rs (place k q) (label T (getD holder′ q 0)) (match-outside k l h p small (label T b) q m o)
+            ∙ ap (λ (x : ℕ). gives rs (place k q) (label T x)) (G .other q o)
             ∙ H .holders q m
 
-        go : Dec (q < p * size) → Dec (q < p * size + size) → gives (new ∷ rs) (place k q) (getD holder′ q 0) ≡ true
+        go : Dec (q < p * size) → Dec (q < p * size + size) → gives (new ∷ rs) (place k q) (label T (getD holder′ q 0)) ≡ true
         go (yes n) d = out (λ o. absurd (omega arith))
         go (no n) (yes o) =
-            gives-matched new rs (place k q) (getD holder′ q 0) (match-inside k l h p small b q m (omega arith) o)
-            ∙ eq-eqb b (getD holder′ q 0) (sym (G .taken q (omega arith) o))
+            gives-matched new rs (place k q) (label T (getD holder′ q 0)) (match-inside k l h p small (label T b) q m (omega arith) o)
+            ∙ eq-eqb (label T b) (label T (getD holder′ q 0)) (ap (label T) (sym (G .taken q (omega arith) o)))
         go (no n) (no o) = out (λ x. omega arith)
+
+    known-given : (q : ℕ) → q < 2 ^ k → getD holder′ q 0 < backends T
+    known-given q m = go (decLt q (p * size)) (decLt q (p * size + size))
+      where
+        go : Dec (q < p * size) → Dec (q < p * size + size) → getD holder′ q 0 < backends T
+        go (yes n) d = omega (arith, G .other q (λ o. absurd (omega arith)), H .known q m)
+        go (no n) (yes o) = omega (arith, G .taken q (omega arith) o)
+        go (no n) (no o) = omega (arith, G .other q (λ x. omega arith), H .known q m)
 
     -- the lows of receiver, giver and the others
     low-receiver : getD low′ b 0 ≡ min (getD low b 0) (p * size)
@@ -179,9 +194,9 @@ module _ (k l : ℕ) (h : l ≤ k) (rs : List Rule) (holder low : List ℕ) (H :
         go (no d) (no f) (no y) (yes z) = d (sym e ∙ G .taken q (omega arith) z)
         go (no d) (no f) (no y) (no z) = H .lows c q m (omega (arith, low-other c f d)) (still (λ o. omega arith))
 
-    pub holds-given : Holds k (record { len = l; value = place l p; backend = b } ∷ rs) holder′ low′
+    pub holds-given : Holds T (record { len = l; value = place l p; backend = label T b } ∷ rs) holder′ low′
     unfolding new
-    holds-given = record { holders = holders-given; lows = lows-given }
+    holds-given = record { known = known-given; holders = holders-given; lows = lows-given }
 
 -- the rule `*` gives everything to one backend, and the others hold nothing
 -- a listing of one value, also past its end
@@ -190,19 +205,22 @@ alike zero b a = refl
 alike (suc n) zero a = refl
 alike (suc n) (suc b) a = alike n b a
 
-pub holds-first : (k : ℕ) → k ≤ 12 → (ws : List ℕ) (first : ℕ) → first ≡ argmax (λ b. getD ws b 0) (length ws)
-    → Holds k (firstRule ws) (replicate 4096 first) (replicate 32 0)
-unfolding firstRule matches
-holds-first k few ws first e =
+pub holds-first : (T : Targets) → T .k ≤ mostBits → (first : ℕ) → first < backends T
+    → first ≡ argmax (λ b. getD (T .weights) b 0) (length (T .weights))
+    → Holds T (firstRule (T .labels) (T .weights)) (replicate mostSuffixes first) (replicate mostBackends 0)
+unfolding firstRule matches label
+holds-first T few first known e =
     record {
+      known = λ p m. omega (arith, all p m);
       holders = λ p m.
-          gives-matched star [] (place k p) (getD (replicate 4096 first) p 0) (eq-eqb (place k p % 2 ^ 0) 0 (mod-one (place k p)))
-          ∙ eq-eqb (star .backend) (getD (replicate 4096 first) p 0) (sym (all p m ∙ e));
-      lows = λ b p m n d. omega (arith, alike 32 b 0);
+          gives-matched star [] (place (T .k) p) (label T (getD (replicate mostSuffixes first) p 0))
+          (eq-eqb (place (T .k) p % 2 ^ 0) 0 (mod-one (place (T .k) p)))
+          ∙ eq-eqb (star .backend) (label T (getD (replicate mostSuffixes first) p 0)) (ap (label T) (sym (all p m ∙ e)));
+      lows = λ b p m n d. omega (arith, alike mostBackends b 0);
     }
   where
     star : Rule
-    star = record { len = 0; value = 0; backend = argmax (λ b. getD ws b 0) (length ws) }
+    star = record { len = 0; value = 0; backend = getD (T .labels) (argmax (λ b. getD (T .weights) b 0) (length (T .weights))) nobody }
 
-    all : (p : ℕ) → p < 2 ^ k → getD (replicate 4096 first) p 0 ≡ first
-    all p m = getD-replicate 4096 p first 0 (omega (arith, pow-few k few))
+    all : (p : ℕ) → p < 2 ^ (T .k) → getD (replicate mostSuffixes first) p 0 ≡ first
+    all p m = getD-replicate mostSuffixes p first 0 (omega (arith, pow-few (T .k) few))

@@ -33,6 +33,7 @@ use denote.Lend.{Held, lends-slice, slice-back}
 use denote.Index.{whole-in, whole-out}
 use denote.Steps.{only, owned, facts}
 use denote.Struct.Laws as LL
+use Rattle.numerals.specs.Limits.{mostBackends}
 use Rattle.expansion.specs.declared.ledger.Backend.{Backend}
 use Rattle.expansion.specs.declared.ledger.Ledger.{Ledger}
 use Rattle.expansion.proofs.ledger.Backend as B
@@ -41,7 +42,7 @@ use Rattle.expansion.proofs.ledger.Ledger as L
 use Rattle.expansion.proofs.Entries.{Entry, val, entries, lent}
 
 abbrev All : RattleType
-All = Array Entry 32
+All = Array Entry mostBackends
 
 abbrev pub arr : List Backend → Val
 arr es = arrayVal (map val es)
@@ -50,7 +51,7 @@ abbrev pub Fits : List Backend → Type 0
 Fits es = Is All es (arr es ∷ [])
 
 told : (es : List Backend) (vs : List Val) → Is All es vs → vs ≡ arr es ∷ []
-told = array-tells Entry (λ e. val e ∷ []) (LL.tells B.the-type B′.the-laws) 32
+told = array-tells Entry (λ e. val e ∷ []) (LL.tells B.the-type B′.the-laws) mostBackends
 
 -- as a field, an entry is the tuple of its numbers
 each-same : (es : List Backend) (us : List Val)
@@ -63,32 +64,32 @@ each-same (e ∷ es) (u ∷ us) = ap (fsep (Entry .own e (u ∷ []))) (each-same
 pub of-ledger : (l : Ledger) (vs : List Val) → Is L.the-row l vs → Fits (l .at)
 of-ledger l vs p =
     let q = p .1 .1 .0 in
-    let long : length (l .at) ≡ 32 = sym (length-map (l .at) (B.the-type .to)) ∙ q .1 .0 .1 in
+    let long : length (l .at) ≡ mostBackends = sym (length-map (l .at) (B.the-type .to)) ∙ q .1 .0 .1 in
     let is : Is All (l .at) (p .0 .0) = (q .0, ((q .1 .0 .0, long), subst shadow (sym (each-same (l .at) (q .0))) (q .1 .1))) in
     subst (Is All (l .at)) (told (l .at) (p .0 .0) is) is
 
 pub to-ledger : (es : List Backend) → Fits es → Is L.the-row (record { at = es }) (vstruct (vcons (arr es) vnil) ∷ [])
 to-ledger es q =
-    let long : length (map (B.the-type .to) es) ≡ 32 = length-map es (B.the-type .to) ∙ q .1 .0 .1 in
+    let long : length (map (B.the-type .to) es) ≡ mostBackends = length-map es (B.the-type .to) ∙ q .1 .0 .1 in
     ((arr es ∷ [], tt), (refl, ((q .0, ((q .1 .0 .0, long), subst shadow (each-same es (q .0)) (q .1 .1))), tt)))
 
 abbrev pub slot : ℕ → List Backend → Fml
-slot b es = fat fullShare (tyArray B′.mir 32) b 0 (arr es)
+slot b es = fat fullShare (tyArray B′.mir mostBackends) b 0 (arr es)
 
 abbrev pub loan : ℕ → ℕ → GName → Fml
-loan α b γ = flent (α ∷ []) (Held Entry 32 b 0 γ)
+loan α b γ = flent (α ∷ []) (Held Entry mostBackends b 0 γ)
 
 module _ {M : Type 1} {𝓤 : URA M} {H : Heap 𝓤} {A : Atoms 𝓤} {K : Type 0} {W : Given 𝓤 H A} {Γ : List (Item 𝓤)} {G : Goal 𝓤 H} where
   pub lends-all : K → Soaks G → (es : List Backend) (b : ℕ) → Fits es
       → ((α : ℕ) (γ : GName)
-      → Seq K W (‵ (flft (α ∷ []) fullShare) ∷ ‵ (MutSlice (named 0) (α ∷ []) Entry .own (lent b 0 γ es) (sliceVal (b, 0) 32 ∷ [])) ∷ ‵ (loan α b γ) ∷ Γ) G)
+      → Seq K W (‵ (flft (α ∷ []) fullShare) ∷ ‵ (MutSlice (named 0) (α ∷ []) Entry .own (lent b 0 γ es) (sliceVal (b, 0) mostBackends ∷ [])) ∷ ‵ (loan α b γ) ∷ Γ) G)
       → Seq K W (‵ (slot b es) ∷ Γ) G
   lends-all t z es b fits k =
-      let long : length es ≡ 32 = fits .1 .0 .1 in
+      let long : length es ≡ mostBackends = fits .1 .0 .1 in
       -- the array in memory is its entries, side by side
-      owned t All (Is All) (array-makes 𝓤 H A W Entry (LL.makes B.the-type B′.the-plain 𝓤 H A) 32) es _ fits $ move t (1 ∷ 0 ∷ []) $
+      owned t All (Is All) (array-makes 𝓤 H A W Entry (LL.makes B.the-type B′.the-plain 𝓤 H A) mostBackends) es _ fits $ move t (1 ∷ 0 ∷ []) $
       use2 W (‵ (partAt All fullShare es b 0)) (part-in 𝓤 H A W All refl fullShare es b 0 (arr es)) $
-      use1 W (‵ (arr-parts (shares Entry) 32 .part fullShare es b 0)) (array-apart 𝓤 H A W Entry fullShare tt 32 es b 0) $ fsplit t $ drop t $
+      use1 W (‵ (arr-parts (shares Entry) mostBackends .part fullShare es b 0)) (array-apart 𝓤 H A W Entry fullShare tt mostBackends es b 0) $ fsplit t $ drop t $
       use1 W (‵ (cells (mem Entry) es b 0)) (whole-in 𝓤 H A W Entry es b 0) $
       -- which are lent
       lft-new t z (λ α. move t (1 ∷ []) $
@@ -101,10 +102,10 @@ module _ {M : Type 1} {𝓤 : URA M} {H : Heap 𝓤} {A : Atoms 𝓤} {K : Type 
       → Seq K W (‵ (flft (α ∷ []) fullShare) ∷ ‵ (loan α b γ) ∷ ‵ (finally Entry γ es) ∷ Γ) G
   takes-all t z es b α γ k =
       -- the entries are back
-      lft-end t z $ use3 W (later (‵ (Arr (mem Entry) 32 .lies es b 0))) (slice-back 𝓤 H A W Entry (α ∷ []) γ es 32 b 0) $ await t z $
+      lft-end t z $ use3 W (later (‵ (Arr (mem Entry) mostBackends .lies es b 0))) (slice-back 𝓤 H A W Entry (α ∷ []) γ es mostBackends b 0) $ await t z $
       -- and are the array in memory, whose machine value they tell
       fsplit t $ move t (1 ∷ []) $ use1 W (‵ (entries es b 0)) (whole-out 𝓤 H A W Entry es b 0) $ move t (1 ∷ 0 ∷ []) $ fjoin t $
-      use1 W (‵ (partAt All fullShare es b 0)) (array-whole 𝓤 H A W Entry fullShare 32 es b 0) $
-      use1 W (some (λ (v : Val). ‵ (fat fullShare (tyArray B′.mir 32) b 0 v) ⊛ ‵ (All .own es (v ∷ [])))) (part-out 𝓤 H A W All refl fullShare es b 0) $
+      use1 W (‵ (partAt All fullShare es b 0)) (array-whole 𝓤 H A W Entry fullShare mostBackends es b 0) $
+      use1 W (some (λ (v : Val). ‵ (fat fullShare (tyArray B′.mir mostBackends) b 0 v) ⊛ ‵ (All .own es (v ∷ [])))) (part-out 𝓤 H A W All refl fullShare es b 0) $
       pick t (λ v. split t $ move t (1 ∷ []) $ facts t All (Is All) (shows 𝓤 H A All) es (v ∷ []) (λ is.
-      rewrite t 0 (λ (u : Val). ‵ (fat fullShare (tyArray B′.mir 32) b 0 u)) (ap only (told es (v ∷ []) is)) refl $ k (subst (Is All es) (told es (v ∷ []) is) is)))
+      rewrite t 0 (λ (u : Val). ‵ (fat fullShare (tyArray B′.mir mostBackends) b 0 u)) (ap only (told es (v ∷ []) is)) refl $ k (subst (Is All es) (told es (v ∷ []) is) is)))

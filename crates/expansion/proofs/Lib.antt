@@ -12,7 +12,7 @@ pub mod Stairs
 pub mod Shape
 pub mod Base
 pub mod Signed
-pub mod Kept
+pub mod KeptShares
 pub mod Surveys
 pub mod Nodes
 pub mod Holdings
@@ -23,7 +23,7 @@ pub mod Changes
 pub mod Lending
 pub mod Listing
 pub mod Checks
-pub mod Ready
-pub mod Standing
+pub mod NextMove
+pub mod Turning
 pub mod Answers
 pub mod Cases

@@ -8,7 +8,7 @@ use native.Mathlib.Omega.{arith}
 use lib.ListN.{length, getD, set, take, drop, length-map}
 use lib.Seq.{sets, length-sets, take-suc, length-take-le, getD-set-same, getD-set-other}
 use Rattle.expansion.specs.Steps.{oldest}
-use Rattle.expansion.specs.Kept.{noRule, newestFirst}
+use Rattle.expansion.specs.Inner.Lists.{noRule, newestFirst}
 use Rattle.expansion.specs.declared.rule.Rule.{Rule}
 
 -- the newest first

@@ -7,8 +7,8 @@ use native.Mathlib.Decide.{ℕ-discrete}
 use native.Mathlib.Nat.{one-mul}
 use native.Mathlib.Omega.{arith}
 use borrow.Author.Tests.{eqb-true, eqb-false}
-use Rattle.expansion.specs.Imbalance.{Frame, backends, largestExcess, largestShortfall}
-use Rattle.expansion.specs.Steps.{reduction, reductionAt, term, isNoGain}
+use Rattle.expansion.specs.Imbalance.{backends, label, largestExcess, largestShortfall}
+use Rattle.expansion.specs.Steps.{reduction, reductionAt, term, isNoGain, Frame}
 use Rattle.expansion.specs.Sound.{Complete, Sound}
 use Rattle.expansion.specs.declared.rule.Rule.{Rule}
 use Rattle.numerals.proofs.Searches.{lastmax-is}
@@ -47,17 +47,17 @@ one-suffix u o t z h p q = go (ℕ-discrete u 0) (ℕ-discrete o 0)
     go (no l) (no m) = omega arith
 
 pub no-gain-le :
-    (F : Frame) → Sound F → (rs : List Rule) → Complete (backends F) rs → isNoGain F rs ≡ true
-    → largestExcess F rs + largestShortfall F rs ≤ F .unit
+    (F : Frame) → Sound F → (rs : List Rule) → Complete (label (F .targets)) (backends (F .targets)) rs → isNoGain F rs ≡ true
+    → largestExcess (F .targets) rs + largestShortfall (F .targets) rs ≤ F .targets .unit
 unfolding reductionAt
 no-gain-le F S rs c e =
-    one-suffix (largestShortfall F rs) (largestExcess F rs) (F .unit) (S .positive)
-    (reduction-none (largestShortfall F rs) (largestExcess F rs) (F .unit) (smallest ∙ none))
+    one-suffix (largestShortfall (F .targets) rs) (largestExcess (F .targets) rs) (F .targets .unit) (S .positive)
+    (reduction-none (largestShortfall (F .targets) rs) (largestExcess (F .targets) rs) (F .targets .unit) (smallest ∙ none))
     (λ z. omega (arith, shortfall-none F S rs c z, excess-most F S rs))
     (λ z. omega (arith, excess-none F S rs z, shortfall-most F S rs c))
   where
-    smallest : reduction (largestShortfall F rs) (largestExcess F rs) (F .unit) ≡ reductionAt F rs 0
-    smallest = ap (reduction (largestShortfall F rs) (largestExcess F rs)) (sym (one-mul (F .unit)))
+    smallest : reduction (largestShortfall (F .targets) rs) (largestExcess (F .targets) rs) (F .targets .unit) ≡ reductionAt F rs 0
+    smallest = ap (reduction (largestShortfall (F .targets) rs) (largestExcess (F .targets) rs)) (sym (one-mul (F .targets .unit)))
 
     none : reductionAt F rs 0 ≡ 0
     none = omega (arith, term-best F rs 0 (omega arith), no-gain-zero F rs e)

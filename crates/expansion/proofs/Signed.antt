@@ -12,8 +12,8 @@ use mir.Val.{toZ, ofZ}
 use mir.Facts.{toZ-ofZ, toZ-pos}
 use borrow.Author.Needs.{sfits-of}
 use borrow.Author.Tests.{ltb-true, ltb-false, le-ltb}
-use Rattle.numerals.specs.Limits.{unit}
-use Rattle.expansion.specs.Kept.{over, under, side, Small, entryOf, lessOf, moreOf}
+use Rattle.numerals.specs.Limits.{mostSuffixes, mostBits, unit}
+use Rattle.expansion.specs.Inner.Ledger.{over, under, side, Small, entryOf, lessOf, moreOf}
 use Rattle.numerals.proofs.Powers.{pow-few, shifted}
 
 -- the sides of a number
@@ -175,13 +175,13 @@ pub unit-few : unit < 2 ^ 27
 unfolding unit
 unit-few = lit< tt
 
-pub parts-few : (a u : ℕ) → a ≤ 4096 → u ≤ unit → a * u < 2 ^ 40
+pub parts-few : (a u : ℕ) → a ≤ mostSuffixes → u ≤ unit → a * u < 2 ^ 40
 parts-few a u h l = omega (arith, mul-le-mul h l, unit-few)
 
-pub wants-few : (w k : ℕ) → w ≤ unit → k ≤ 12 → w * 2 ^ k < 2 ^ 40
+pub wants-few : (w k : ℕ) → w ≤ unit → k ≤ mostBits → w * 2 ^ k < 2 ^ 40
 wants-few w k h l = omega (arith, parts-few (2 ^ k) w (pow-few k l) h)
 
-pub parts-read : (a : ℕ) → a ≤ 4096 → toZ w64 (a * unit) ≡ pos (a * unit)
+pub parts-read : (a : ℕ) → a ≤ mostSuffixes → toZ w64 (a * unit) ≡ pos (a * unit)
 parts-read a h = plain (a * unit) (omega (arith, parts-few a unit h (omega arith)))
 
 pub few-more : (z : ℤ) (n : ℕ) → Small z → n ≤ 4096 → mag (z +ℤ pos (n * unit)) < 2 ^ 63

@@ -7,7 +7,8 @@ use native.Mathlib.Numerals.{add-one}
 use native.Mathlib.Omega.{arith}
 use lib.IntN.{ℤ, pos}
 use Rattle.numerals.specs.Sums.{argmax}
-use Rattle.expansion.specs.Kept.{over, side, Small, errorAt, largestOf, Raised, Surveyed, Sized, nextFor, nextOf}
+use Rattle.expansion.specs.Inner.Ledger.{over, side, Small, errorAt, largestOf, Raised, Surveyed, Sized}
+use Rattle.expansion.specs.Inner.Terms.{nextFor, nextOf}
 use Rattle.expansion.specs.declared.ledger.Ledger.{Ledger}
 use Rattle.expansion.specs.declared.ledger.Extreme.{Extreme}
 use Rattle.expansion.specs.declared.ledger.Survey.{Survey}

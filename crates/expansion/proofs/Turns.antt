@@ -8,8 +8,8 @@ use native.Mathlib.Nat.{add-zero, add-suc, sub-eq-zero-of-le}
 use native.Mathlib.Omega.{arith}
 use lib.ListN.{length, drop, length-drop}
 use Rattle.numerals.specs.Pick.{pick}
-use Rattle.expansion.specs.Imbalance.{Frame, backends}
-use Rattle.expansion.specs.Steps.{isWithin, isNoGain, termLength, newRule, step, after, endOf, listOf, oldest}
+use Rattle.expansion.specs.Imbalance.{label, backends}
+use Rattle.expansion.specs.Steps.{isWithin, isNoGain, termLength, newRule, step, after, endOf, listOf, oldest, Frame}
 use Rattle.expansion.specs.Sound.{Lengths, Formed, AllFormed, Sound}
 use Rattle.expansion.specs.declared.rule.Rule.{Rule}
 use Rattle.expansion.specs.declared.rule.Ended.the-variants.{Within, NoGain, Budget}
@@ -71,11 +71,11 @@ pub none-after : (F : Frame) (x : ℕ) → isNoGain F (after F x) ≡ true → (
 none-after F x g = stopped-after F x (step-none F (after F x) g)
 
 -- the list of a budget that isn't used up
-pub listed : (F : Frame) (x budget : ℕ) → x ≤ budget - 1 → step F (after F x) ≡ after F x → listOf F budget ≡ after F x
+pub listed : (F : Frame) (x budget : ℕ) → x ≤ budget - length (F .start) → step F (after F x) ≡ after F x → listOf F budget ≡ after F x
 unfolding listOf
 listed F x budget l e =
-    let p : budget - 1 ≡ x + (budget - 1 - x) = omega arith in
-    ap (after F) p ∙ stopped-after F x e (budget - 1 - x)
+    let p : budget - length (F .start) ≡ x + (budget - length (F .start) - x) = omega arith in
+    ap (after F) p ∙ stopped-after F x e (budget - length (F .start) - x)
 
 pub ended-within : (F : Frame) (rs : List Rule) → isWithin F rs ≡ true → endOf F rs ≡ Within
 unfolding endOf
@@ -103,28 +103,28 @@ good-after F S zero = record { complete = S .complete; short = λ g. first }
   where
     first : Lengths (termLength F (F .start)) (F .start)
     first =
-        lengths-mono (F .k - F .cap) (termLength F (F .start)) (F .start) (omega (arith, term-le F (F .start))) (S .short)
+        lengths-mono (F .targets .k - F .cap) (termLength F (F .start)) (F .start) (omega (arith, term-le F (F .start))) (S .short)
 good-after F S (suc x) = subst (Good F) (sym (after-suc F x)) (go (good-after F S x) (turn F (after F x)))
   where
     go : Good F (after F x) → Turn F (after F x) → Good F (step F (after F x))
     go G (stays e) = subst (Good F) (sym e) G
     go G (moves g e) = subst (Good F) (sym e) (good-new F S (after F x) G (g .gain))
 
-formed-cons : (k n : ℕ) (r : Rule) (rs : List Rule) → Formed k n r → AllFormed k n rs → AllFormed k n (r ∷ rs)
+formed-cons : (k : ℕ) (labelled : ℕ → ℕ) (n : ℕ) (r : Rule) (rs : List Rule) → Formed k labelled n r → AllFormed k labelled n rs → AllFormed k labelled n (r ∷ rs)
 unfolding AllFormed
-formed-cons k n r rs h H = (h, H)
+formed-cons k labelled n r rs h H = (h, H)
 
 pub formed-after :
-    (F : Frame) → Sound F → AllFormed (F .k) (backends F) (F .start) → (x : ℕ) → AllFormed (F .k) (backends F) (after F x)
+    (F : Frame) → Sound F → AllFormed (F .targets .k) (label (F .targets)) (backends (F .targets)) (F .start) → (x : ℕ) → AllFormed (F .targets .k) (label (F .targets)) (backends (F .targets)) (after F x)
 unfolding after
 formed-after F S h zero = h
 formed-after F S h (suc x) = go (formed-after F S h x) (turn F (after F x))
   where
-    go : AllFormed (F .k) (backends F) (after F x) → Turn F (after F x) → AllFormed (F .k) (backends F) (step F (after F x))
-    go H (stays e) = subst (AllFormed (F .k) (backends F)) (sym e) H
+    go : AllFormed (F .targets .k) (label (F .targets)) (backends (F .targets)) (after F x) → Turn F (after F x) → AllFormed (F .targets .k) (label (F .targets)) (backends (F .targets)) (step F (after F x))
+    go H (stays e) = subst (AllFormed (F .targets .k) (label (F .targets)) (backends (F .targets))) (sym e) H
     go H (moves g e) =
-        subst (AllFormed (F .k) (backends F)) (sym e)
-        (formed-cons (F .k) (backends F) (newRule F (after F x)) (after F x) (new-formed F S (after F x) (good-after F S x) (g .gain)) H)
+        subst (AllFormed (F .targets .k) (label (F .targets)) (backends (F .targets))) (sym e)
+        (formed-cons (F .targets .k) (label (F .targets)) (backends (F .targets)) (newRule F (after F x)) (after F x) (new-formed F S (after F x) (good-after F S x) (g .gain)) H)
 
 -- lengths
 

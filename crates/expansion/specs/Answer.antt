@@ -1,14 +1,14 @@
 -- The expansion without a text (document 01, "Turned-back work"): what it checks, in this order, and what it answers and writes.
-use Prim.Native.Nat.{ℕ, _+_}
+use Prim.Native.Nat.{ℕ, suc, _+_}
 use mathlib.Core.Bool.{Bool, true, false}
 use mathlib.Core.List.{List, reverse, map}
 use lib.Dec.{leb, ltb, eqb}
 use lib.ListN.{length, getD}
 use lib.Seq.{sets}
 use Rattle.numerals.specs.Pick.{pick, both}
-use Rattle.numerals.specs.Limits.{unit}
-use Rattle.numerals.specs.Sums.{sumTo, allTo}
-use Rattle.expansion.specs.Steps.{frame, listOf, endOf, stairsTo}
+use Rattle.numerals.specs.Limits.{mostBits, mostBackends, mostRules, unit}
+use Rattle.numerals.specs.Sums.{sumTo, listTo, allTo}
+use Rattle.expansion.specs.Steps.{Frame, frame, listOf, endOf, stairsTo}
 use Rattle.expansion.specs.declared.rule.Rule.{Rule}
 use Rattle.expansion.specs.declared.rule.Record.{Record}
 use Rattle.numerals.specs.declared.refusal.Refusal.{Refusal}
@@ -41,31 +41,35 @@ inLimits least most x = both (leb least x) (leb x most)
 unfoldable pub checkWeights : List ℕ → Checked
 checkWeights ws =
     andThen (orElse (ltb 0 (length ws)) no2)
-    (andThen (orElse (leb (length ws) 32) no4)
+    (andThen (orElse (leb (length ws) mostBackends) no4)
     (andThen (orElse (allTo (length ws) (λ b. leb (getD ws b 0) unit)) no2)
     (orElse (eqb (sumTo (length ws) (λ b. getD ws b 0)) unit) no3)))
 
 -- k, tolerance, budget, then the weights
 unfoldable pub checkCall : ℕ → ℕ → ℕ → List ℕ → Checked
 checkCall k tolerance budget ws =
-    andThen (orElse (inLimits 1 12 k) no2)
+    andThen (orElse (inLimits 1 mostBits k) no2)
     (andThen (orElse (leb tolerance unit) no2)
-    (andThen (orElse (inLimits 1 32 budget) no2)
+    (andThen (orElse (inLimits 1 mostRules budget) no2)
     (checkWeights ws)))
+
+-- the expansion of a call: backends are labelled by their number from 1
+unfoldable pub frameMade : ℕ → ℕ → List ℕ → Frame
+frameMade k tolerance ws = frame k unit tolerance (listTo (length ws) suc) ws
 
 -- the list of a call
 unfoldable pub listMade : ℕ → ℕ → ℕ → List ℕ → List Rule
-listMade k tolerance budget ws = listOf (frame k unit tolerance ws) budget
+listMade k tolerance budget ws = listOf (frameMade k tolerance ws) budget
 
 unfoldable pub stairsMade : ℕ → ℕ → ℕ → List ℕ → List ℕ
 stairsMade k tolerance budget ws =
-    stairsTo (frame k unit tolerance ws) (listMade k tolerance budget ws) (length (listMade k tolerance budget ws))
+    stairsTo (frameMade k tolerance ws) (listMade k tolerance budget ws) (length (listMade k tolerance budget ws))
 
 -- how the list ended, with its number of rules
 unfoldable pub recordMade : ℕ → ℕ → ℕ → List ℕ → Record
 recordMade k tolerance budget ws =
     record {
-      ended = endOf (frame k unit tolerance ws) (listMade k tolerance budget ws);
+      ended = endOf (frameMade k tolerance ws) (listMade k tolerance budget ws);
       rules = length (listMade k tolerance budget ws);
     }
 

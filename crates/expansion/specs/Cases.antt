@@ -1,10 +1,10 @@
 -- Worked cases of the expansion: P1 to P6 of document 01 ("Figures to try"), and figure 3(b) of the paper.
-use Prim.Native.Nat.{ℕ}
+use Prim.Native.Nat.{ℕ, suc}
 use mathlib.Core.List.{List, [], _∷_}
 use mathlib.Core.Path.{_≡_}
 use lib.ListN.{length}
-use Rattle.expansion.specs.Imbalance.{Frame}
-use Rattle.expansion.specs.Steps.{frame, endOf, listOf, stairsTo}
+use Rattle.numerals.specs.Sums.{listTo}
+use Rattle.expansion.specs.Steps.{frame, endOf, listOf, stairsTo, Frame}
 use Rattle.expansion.specs.declared.rule.Rule.{Rule}
 use Rattle.expansion.specs.declared.rule.Ended.{Ended}
 use Rattle.expansion.specs.declared.rule.Ended.the-variants.{Within, NoGain}
@@ -25,20 +25,24 @@ abbrev pub AllShow : List Worked → Type 0
 AllShow [] = Unit {0}
 AllShow (w ∷ ws) = Shows w × AllShow ws
 
+-- backends labelled 1, 2, ..
+abbrev numbered : ℕ → ℕ → ℕ → List ℕ → Frame
+numbered k unit tolerance ws = frame k unit tolerance (listTo (length ws) suc) ws
+
 abbrev rule : ℕ → ℕ → ℕ → Rule
 rule l v b = record { len = l; value = v; backend = b }
 
 -- `*` to 3, `*0` to 2, `*000` and `*00100` to 1
 abbrev thirds : List Rule
-thirds = rule 5 4 0 ∷ rule 3 0 0 ∷ rule 1 0 1 ∷ rule 0 0 2 ∷ []
+thirds = rule 5 4 1 ∷ rule 3 0 1 ∷ rule 1 0 2 ∷ rule 0 0 3 ∷ []
 
 abbrev halves : List Rule
-halves = rule 1 0 1 ∷ rule 0 0 0 ∷ []
+halves = rule 1 0 2 ∷ rule 0 0 1 ∷ []
 
 abbrev pub p1 : Worked
 p1 =
     record {
-      given = frame 5 1000000 20000 (166667 ∷ 333333 ∷ 500000 ∷ []);
+      given = numbered 5 1000000 20000 (166667 ∷ 333333 ∷ 500000 ∷ []);
       rules = thirds;
       ended = Within;
       stairs = 16000000 ∷ 5333344 ∷ 1333344 ∷ 333344 ∷ [];
@@ -47,7 +51,7 @@ p1 =
 abbrev pub p2 : Worked
 p2 =
     record {
-      given = frame 5 1000000 0 (166667 ∷ 333333 ∷ 500000 ∷ []);
+      given = numbered 5 1000000 0 (166667 ∷ 333333 ∷ 500000 ∷ []);
       rules = thirds;
       ended = NoGain;
       stairs = 16000000 ∷ 5333344 ∷ 1333344 ∷ 333344 ∷ [];
@@ -56,19 +60,19 @@ p2 =
 abbrev pub p3 : Worked
 p3 =
     record {
-      given = frame 5 1000000 0 (250000 ∷ 250000 ∷ 500000 ∷ []);
-      rules = rule 2 0 1 ∷ rule 1 0 0 ∷ rule 0 0 2 ∷ [];
+      given = numbered 5 1000000 0 (250000 ∷ 250000 ∷ 500000 ∷ []);
+      rules = rule 2 0 2 ∷ rule 1 0 1 ∷ rule 0 0 3 ∷ [];
       ended = Within;
       stairs = 16000000 ∷ 8000000 ∷ 0 ∷ [];
     }
 
 abbrev pub p4 : Worked
-p4 = record { given = frame 1 1000000 0 (1000000 ∷ []); rules = rule 0 0 0 ∷ []; ended = Within; stairs = 0 ∷ [] }
+p4 = record { given = numbered 1 1000000 0 (1000000 ∷ []); rules = rule 0 0 1 ∷ []; ended = Within; stairs = 0 ∷ [] }
 
 abbrev pub p5 : Worked
 p5 =
     record {
-      given = frame 1 1000000 0 (500000 ∷ 500000 ∷ []);
+      given = numbered 1 1000000 0 (500000 ∷ 500000 ∷ []);
       rules = halves;
       ended = Within;
       stairs = 1000000 ∷ 0 ∷ [];
@@ -77,7 +81,7 @@ p5 =
 abbrev pub p6 : Worked
 p6 =
     record {
-      given = frame 1 1000000 0 (333334 ∷ 333333 ∷ 333333 ∷ []);
+      given = numbered 1 1000000 0 (333334 ∷ 333333 ∷ 333333 ∷ []);
       rules = halves;
       ended = NoGain;
       stairs = 1333332 ∷ 666666 ∷ [];
@@ -87,7 +91,7 @@ p6 =
 abbrev pub figure3b : Worked
 figure3b =
     record {
-      given = frame 5 300 6 (50 ∷ 100 ∷ 150 ∷ []);
+      given = numbered 5 300 6 (50 ∷ 100 ∷ 150 ∷ []);
       rules = thirds;
       ended = Within;
       stairs = 4800 ∷ 1600 ∷ 400 ∷ 100 ∷ [];

@@ -1,21 +1,33 @@
--- The count by first match (document 01, under that heading), over rules in their order, the first match first.
+-- The count by first match (document 01, under that heading), over rules in their order, the first match first. It serves the expansion, the count of a table, lookup and churn.
 use Prim.Native.Nat.{ℕ, _%_, _^_}
-use mathlib.Core.Bool.{Bool, false}
+use mathlib.Core.Bool.{Bool}
 use mathlib.Core.List.{List, [], _∷_}
-use lib.Dec.{eqb}
-use Rattle.numerals.specs.Pick.{pick}
+use lib.Dec.{leb, ltb, eqb}
+use Rattle.numerals.specs.Pick.{pick, both}
 use Rattle.numerals.specs.Sums.{countTo}
 use Rattle.expansion.specs.declared.rule.Rule.{Rule}
+
+-- the label that no backend has: labels count from 1
+abbrev pub nobody : ℕ
+nobody = 0
+
+-- a well-formed rule of k bits: its suffix has at most k, and its value is one of so many bits
+unfoldable pub isRule : ℕ → Rule → Bool
+isRule k r = both (leb (r .len) k) (ltb (r .value) (2 ^ (r .len)))
 
 -- a rule matches s if its bits are the lowest bits of s
 unfoldable pub matches : Rule → ℕ → Bool
 matches r s = eqb (s % 2 ^ (r .len)) (r .value)
 
--- the first rule that matches s gives it to backend b
-unfoldable pub gives : List Rule → ℕ → ℕ → Bool
-gives [] s b = false
-gives (r ∷ rs) s b = pick (matches r s) (eqb (r .backend) b) (gives rs s b)
+-- the label of the backend that the first rule that matches s sends it to; nobody's where none matches
+unfoldable pub firstMatch : List Rule → ℕ → ℕ
+firstMatch [] s = nobody
+firstMatch (r ∷ rs) s = pick (matches r s) (r .backend) (firstMatch rs s)
 
--- the share of a backend: the number of k-bit suffixes that it is given
+-- s goes to the backend with label b
+unfoldable pub gives : List Rule → ℕ → ℕ → Bool
+gives rs s b = eqb (firstMatch rs s) b
+
+-- the share of the backend with label b: the number of k-bit suffixes that it is given
 unfoldable pub share : ℕ → List Rule → ℕ → ℕ
 share k rs b = countTo (2 ^ k) (λ s. gives rs s b)

@@ -1,52 +1,53 @@
--- Error and imbalance (document 01, "Expansion"). The unit is one part in unit × 2^k. The error of a backend is share × unit - weight × 2^k; it is kept as its two sides, of which one is 0: the excess above zero and the shortfall below.
+-- Error and imbalance (document 01, "Expansion"), of a list of rules against the targets of a service. The unit is one part in unit × 2^k. The error of a backend is share × unit - weight × 2^k; it is kept as its two sides, of which one is 0: the excess above zero and the shortfall below.
 use Prim.Native.Nat.{ℕ, _-_, _*_, _^_}
 use mathlib.Core.List.{List}
 use lib.ListN.{length, getD}
 use Rattle.numerals.specs.Sums.{sumTo, argmax}
-use Rattle.expansion.specs.FirstMatch.{share}
+use Rattle.expansion.specs.FirstMatch.{share, nobody}
 use Rattle.expansion.specs.declared.rule.Rule.{Rule}
 
--- One expansion: k suffix bits, terms of at most 2^cap suffixes, weights that sum to the unit, the tolerance in its parts, and the rules that it starts from. Document 01 has the unit 1,000,000, the cap k - 1 and the one rule `*`.
-pub record Frame : Type 0 where
+-- What the shares of a service are measured against: k suffix bits, and for each backend, by its place from 0, the label that its rules carry and its weight. The weights sum to the unit, which is 1,000,000 in document 01.
+pub record Targets : Type 0 where
   pub k : ℕ
-  pub cap : ℕ
   pub unit : ℕ
-  pub tolerance : ℕ
+  pub labels : List ℕ
   pub weights : List ℕ
-  pub start : List Rule
 
-unfoldable pub backends : Frame → ℕ
-backends F = length (F .weights)
+unfoldable pub backends : Targets → ℕ
+backends T = length (T .weights)
 
-unfoldable pub weight : Frame → ℕ → ℕ
-weight F b = getD (F .weights) b 0
+unfoldable pub label : Targets → ℕ → ℕ
+label T b = getD (T .labels) b nobody
 
--- what a backend has and what it wants, in parts
-unfoldable pub has : Frame → List Rule → ℕ → ℕ
-has F rs b = share (F .k) rs b * F .unit
+unfoldable pub weight : Targets → ℕ → ℕ
+weight T b = getD (T .weights) b 0
 
-unfoldable pub wants : Frame → ℕ → ℕ
-wants F b = weight F b * 2 ^ (F .k)
+-- what the backend at place b has and what it wants, in parts
+unfoldable pub has : Targets → List Rule → ℕ → ℕ
+has T rs b = share (T .k) rs (label T b) * T .unit
 
-unfoldable pub excess : Frame → List Rule → ℕ → ℕ
-excess F rs b = has F rs b - wants F b
+unfoldable pub wants : Targets → ℕ → ℕ
+wants T b = weight T b * 2 ^ (T .k)
 
-unfoldable pub shortfall : Frame → List Rule → ℕ → ℕ
-shortfall F rs b = wants F b - has F rs b
+unfoldable pub excess : Targets → List Rule → ℕ → ℕ
+excess T rs b = has T rs b - wants T b
 
-unfoldable pub imbalance : Frame → List Rule → ℕ
-imbalance F rs = sumTo (backends F) (excess F rs)
+unfoldable pub shortfall : Targets → List Rule → ℕ → ℕ
+shortfall T rs b = wants T b - has T rs b
 
--- the backend of the largest excess, and of the largest shortfall, the lowest number if equal
-unfoldable pub giver : Frame → List Rule → ℕ
-giver F rs = argmax (excess F rs) (backends F)
+unfoldable pub imbalance : Targets → List Rule → ℕ
+imbalance T rs = sumTo (backends T) (excess T rs)
 
-unfoldable pub receiver : Frame → List Rule → ℕ
-receiver F rs = argmax (shortfall F rs) (backends F)
+-- the place of the largest excess, and of the largest shortfall, the lowest if equal
+unfoldable pub giver : Targets → List Rule → ℕ
+giver T rs = argmax (excess T rs) (backends T)
+
+unfoldable pub receiver : Targets → List Rule → ℕ
+receiver T rs = argmax (shortfall T rs) (backends T)
 
 -- O and U of document 01
-unfoldable pub largestExcess : Frame → List Rule → ℕ
-largestExcess F rs = excess F rs (giver F rs)
+unfoldable pub largestExcess : Targets → List Rule → ℕ
+largestExcess T rs = excess T rs (giver T rs)
 
-unfoldable pub largestShortfall : Frame → List Rule → ℕ
-largestShortfall F rs = shortfall F rs (receiver F rs)
+unfoldable pub largestShortfall : Targets → List Rule → ℕ
+largestShortfall T rs = shortfall T rs (receiver T rs)

@@ -1,8 +1,8 @@
--- What document 01 says of the expansion of one service and of the count by first match.
+-- What document 01 says of the expansion of one service and of the count by first match: this is what a reader has to believe. Inner has the contracts of inner functions.
 pub mod FirstMatch
 pub mod Imbalance
 pub mod Steps
 pub mod Sound
 pub mod Cases
 pub mod Answer
-pub mod Kept
+pub mod Inner

@@ -4,8 +4,9 @@ use mathlib.Core.Bool.{true}
 use mathlib.Core.List.{List, [], _∷_}
 use mathlib.Core.Path.{_≡_}
 use Rattle.numerals.specs.Sums.{sumTo}
-use Rattle.expansion.specs.FirstMatch.{gives}
-use Rattle.expansion.specs.Imbalance.{Frame, backends, weight}
+use Rattle.expansion.specs.FirstMatch.{isRule, gives}
+use Rattle.expansion.specs.Imbalance.{backends, label, weight}
+use Rattle.expansion.specs.Steps.{Frame}
 use Rattle.expansion.specs.declared.rule.Rule.{Rule}
 
 -- each rule has at most m bits
@@ -13,20 +14,23 @@ unfoldable pub Lengths : ℕ → List Rule → Type 0
 Lengths m [] = Unit {0}
 Lengths m (r ∷ rs) = (r .len ≤ m) × Lengths m rs
 
--- each s is given to one of the first n backends
-abbrev pub Complete : ℕ → List Rule → Type 0
-Complete n rs = (s : ℕ) → (b : ℕ) × (b < n) × (gives rs s b ≡ true)
+-- no two of the first n backends have one label
+abbrev pub Distinct : (ℕ → ℕ) → ℕ → Type 0
+Distinct labelled n = (a b : ℕ) → a < n → b < n → labelled a ≡ labelled b → a ≡ b
 
--- a rule of at most k bits, its value one of so many bits, for one of the first n backends
-pub record Formed (k n : ℕ) (r : Rule) : Type 0 where
-  pub short : r .len ≤ k
-  pub bits : r .value < 2 ^ (r .len)
-  pub known : r .backend < n
+-- each s is given to one of the first n backends, which are labelled so
+abbrev pub Complete : (ℕ → ℕ) → ℕ → List Rule → Type 0
+Complete labelled n rs = (s : ℕ) → (b : ℕ) × (b < n) × (gives rs s (labelled b) ≡ true)
+
+-- a rule of k bits for one of the first n backends
+pub record Formed (k : ℕ) (labelled : ℕ → ℕ) (n : ℕ) (r : Rule) : Type 0 where
+  pub rule : isRule k r ≡ true
+  pub known : (b : ℕ) × (b < n) × (r .backend ≡ labelled b)
 
 -- each rule is so
-unfoldable pub AllFormed : ℕ → ℕ → List Rule → Type 0
-AllFormed k n [] = Unit {0}
-AllFormed k n (r ∷ rs) = Formed k n r × AllFormed k n rs
+unfoldable pub AllFormed : ℕ → (ℕ → ℕ) → ℕ → List Rule → Type 0
+AllFormed k labelled n [] = Unit {0}
+AllFormed k labelled n (r ∷ rs) = Formed k labelled n r × AllFormed k labelled n rs
 
 -- no rule is longer than one before it
 unfoldable pub Falling : List Rule → Type 0
@@ -39,8 +43,9 @@ NoStar [] = Unit {0}
 NoStar (r ∷ rs) = (0 < r .len) × NoStar rs
 
 pub record Sound (F : Frame) : Type 0 where
-  pub positive : 0 < F .unit
-  pub balanced : sumTo (backends F) (weight F) ≡ F .unit
-  pub below : F .cap < F .k
-  pub short : Lengths (F .k - F .cap) (F .start)
-  pub complete : Complete (backends F) (F .start)
+  pub positive : 0 < F .targets .unit
+  pub balanced : sumTo (backends (F .targets)) (weight (F .targets)) ≡ F .targets .unit
+  pub distinct : Distinct (label (F .targets)) (backends (F .targets))
+  pub below : F .cap < F .targets .k
+  pub short : Lengths (F .targets .k - F .cap) (F .start)
+  pub complete : Complete (label (F .targets)) (backends (F .targets)) (F .start)

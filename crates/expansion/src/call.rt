@@ -1,13 +1,18 @@
 // The expansion without a text, into lent buffers.
 use crate::list::RuleList;
 use crate::rule::Record;
+use numerals::MOST_BACKENDS;
+use numerals::MOST_BITS;
+use numerals::MOST_RULES;
 use numerals::Refusal;
+use numerals::UNIT;
 ghost use mathlib.Core.Path.{_≡_};
 ghost use mathlib.Core.List.{map};
 ghost use Prim.Native.Nat.{_+_, _≤_, min};
 ghost use lib.Dec.{leb};
 ghost use lib.ListN.{length, take};
 ghost use lib.Seq.{sets};
+ghost use Rattle.numerals.specs.Limits.{mostRules};
 ghost use Rattle.expansion.specs.Answer.{inLimits, checkWeights, checkCall, answer, filled, lensMade, valuesMade, backendsMade, stairsMade};
 
 // What the expansion answers: the record of the list, or why it is turned back.
@@ -22,27 +27,27 @@ pub enum Checked {
     Refused(Refusal),
 }
 
-// The weights: 1 to 32 of them, each at most 1,000,000, and 1,000,000 together.
+// The weights: 1 to MOST_BACKENDS of them, each at most the unit, which they sum to.
 pub fn check_weights(weights: &[u64]) -> Checked
     ensures { λ r. ⌜ r ≡ checkWeights (now (weights .entry)) ⌝ }
 {
     if weights.len() == 0 {
         return Checked::Refused(Refusal::BadField);
     }
-    if 32 < weights.len() {
+    if MOST_BACKENDS < weights.len() {
         return Checked::Refused(Refusal::TooMany);
     }
     let mut sum: u64 = 0;
     let mut b = 0;
     while b < weights.len() {
         let w = weights[b];
-        if crate::ledger::UNIT < w {
+        if UNIT < w {
             return Checked::Refused(Refusal::BadField);
         }
         sum += w;
         b += 1;
     }
-    if sum == crate::ledger::UNIT {
+    if sum == UNIT {
         Checked::Sound
     } else {
         Checked::Refused(Refusal::Unbalanced)
@@ -63,13 +68,13 @@ fn in_limits(least: usize, most: usize, x: usize) -> bool
 fn check_call(k: usize, tolerance: u64, budget: usize, weights: &[u64]) -> Checked
     ensures { λ r. ⌜ r ≡ checkCall k tolerance budget (now (weights .entry)) ⌝ }
 {
-    if !in_limits(1, 12, k) {
+    if !in_limits(1, MOST_BITS, k) {
         return Checked::Refused(Refusal::BadField);
     }
-    if crate::ledger::UNIT < tolerance {
+    if UNIT < tolerance {
         return Checked::Refused(Refusal::BadField);
     }
-    if !in_limits(1, 32, budget) {
+    if !in_limits(1, MOST_RULES, budget) {
         return Checked::Refused(Refusal::BadField);
     }
     check_weights(weights)
@@ -84,7 +89,7 @@ fn copy_out(
     backends: &mut [usize],
     stairs: &mut [u64],
 )
-    requires { ⌜ (list .count ≤ 32) × ((at + list .count ≤ length (now lens)) × ((at + list .count ≤ length (now values)) × ((at + list .count ≤ length (now backends)) × (at + list .count ≤ length (now stairs))))) ⌝ }
+    requires { ⌜ (list .count ≤ mostRules) × ((at + list .count ≤ length (now lens)) × ((at + list .count ≤ length (now values)) × ((at + list .count ≤ length (now backends)) × (at + list .count ≤ length (now stairs))))) ⌝ }
     ensures lens { λ _. ⌜ now (lens .exit) ≡ sets (now (lens .entry)) at (map (λ r. r .len) (take (list .count) (list .rules))) ⌝ }
     ensures values { λ _. ⌜ now (values .exit) ≡ sets (now (values .entry)) at (map (λ r. r .value) (take (list .count) (list .rules))) ⌝ }
     ensures backends { λ _. ⌜ now (backends .exit) ≡ sets (now (backends .entry)) at (map (λ r. r .backend) (take (list .count) (list .rules))) ⌝ }
@@ -138,7 +143,7 @@ pub fn expand(
     if let Checked::Refused(why) = checked {
         return Expanded::Refused(why);
     }
-    let made = crate::run::make_list(k, tolerance, budget, weights);
+    let made = crate::run::make_numbered(k, tolerance, budget, weights);
     let list = made.list;
     let ended = made.ended;
     let n = list.count;

@@ -1,18 +1,20 @@
 // Who holds which k-bit suffixes, in the order of their tree places: holder[p] has the one with place p. A node is a suffix
 // that covers `size` of them: node j has the places from j × size on.
 use crate::rule::Move;
+use numerals::MOST_BITS;
 ghost use mathlib.Core.Path.{_≡_};
 ghost use Prim.Native.Nat.{ℕ, _+_, _-_, _*_, _^_, _≤_, _<_};
 ghost use lib.ListN.{length};
+ghost use Rattle.numerals.specs.Limits.{mostBits, mostSuffixes, mostBackends};
 ghost use Rattle.numerals.specs.Suffix.{place, Places};
-ghost use Rattle.expansion.specs.Kept as kept;
+ghost use Rattle.expansion.specs.Inner.Holders as held;
 
 // The lowest of the nodes from `from` on that the giver holds wholly, or `nodes` where there is none. The walk over the
 // nodes leaves one at its first suffix of another's, and ends at the first whole node. The inner walk takes the last
 // suffix, then two to a turn.
 fn lowest_whole(holder: &[u16], from: usize, nodes: usize, size: usize, giver: u16) -> usize
     requires { ⌜ (0 < size) × (nodes * size ≤ length (now holder)) ⌝ }
-    ensures { λ r. ⌜ r ≡ kept.lowestHeld (now (holder .entry)) size giver from nodes ⌝ }
+    ensures { λ r. ⌜ r ≡ held.lowestHeld (now (holder .entry)) size giver from nodes ⌝ }
 {
     let even = size - size % 2;
     let mut node = from;
@@ -42,7 +44,7 @@ fn lowest_whole(holder: &[u16], from: usize, nodes: usize, size: usize, giver: u
 // The places of a node go to a backend.
 fn give(holder: &mut [u16], at: usize, size: usize, receiver: u16)
     requires { ⌜ at + size ≤ length (now holder) ⌝ }
-    ensures { λ _. ⌜ kept.Given at size receiver (now (holder .entry)) (now (holder .exit)) ⌝ }
+    ensures { λ _. ⌜ held.Given at size receiver (now (holder .entry)) (now (holder .exit)) ⌝ }
 {
     let mut i = 0;
     while i < size {
@@ -53,8 +55,8 @@ fn give(holder: &mut [u16], at: usize, size: usize, receiver: u16)
 
 // No backend holds a place below its low. After a move the giver has none up to the end of the node that it gave.
 fn note_lows(low: &mut [u16], giver: usize, receiver: usize, at: usize, end: usize)
-    requires { ⌜ (giver < length (now low)) × ((receiver < length (now low)) × ((at ≤ 4096) × (end ≤ 4096))) ⌝ }
-    ensures { λ _. ⌜ now (low .exit) ≡ kept.lowered (now (low .entry)) giver receiver at end ⌝ }
+    requires { ⌜ (giver < length (now low)) × ((receiver < length (now low)) × ((at ≤ mostSuffixes) × (end ≤ mostSuffixes))) ⌝ }
+    ensures { λ _. ⌜ now (low .exit) ≡ held.lowered (now (low .entry)) giver receiver at end ⌝ }
 {
     let had = low[receiver];
     low[giver] = end as u16;
@@ -63,19 +65,19 @@ fn note_lows(low: &mut [u16], giver: usize, receiver: usize, at: usize, end: usi
 
 // The suffix of k bits that has a tree place, read from the listing of all twelve-bit ones.
 fn suffix_at(places: &[u16], k: usize, at: usize) -> usize
-    requires { ⌜ (k ≤ 12) × ((at < 2 ^ k) × Places 12 (now places)) ⌝ }
+    requires { ⌜ (k ≤ mostBits) × ((at < 2 ^ k) × Places mostBits (now places)) ⌝ }
     ensures { λ r. ⌜ r ≡ place k at ⌝ }
 {
-    (places[at] as usize) >> (12 - k)
+    (places[at] as usize) >> (MOST_BITS - k)
 }
 
 // Step 6: of the suffixes that cover 2^index and that the giver holds wholly, the one with the lowest tree place goes to
 // the receiver. Its value.
 pub fn hand_over(holder: &mut [u16], low: &mut [u16], places: &[u16], k: usize, m: Move) -> usize
-    requires { ⌜ (k ≤ 12) × ((m .index ≤ k) × ((m .giver < 32) × (m .receiver < 32))) ⌝ }
-    requires { ⌜ (length (now holder) ≡ 4096) × ((length (now low) ≡ 32) × Places 12 (now places)) ⌝ }
-    requires { ⌜ kept.nodeOf k m (now holder) (now low) < 2 ^ (k - m .index) ⌝ }
-    ensures { λ r. ⌜ kept.Handed k m r (now (holder .entry)) (now (low .entry)) (now (holder .exit)) (now (low .exit)) ⌝ }
+    requires { ⌜ (k ≤ mostBits) × ((m .index ≤ k) × ((m .giver < mostBackends) × (m .receiver < mostBackends))) ⌝ }
+    requires { ⌜ (length (now holder) ≡ mostSuffixes) × ((length (now low) ≡ mostBackends) × Places mostBits (now places)) ⌝ }
+    requires { ⌜ held.nodeOf k m (now holder) (now low) < 2 ^ (k - m .index) ⌝ }
+    ensures { λ r. ⌜ held.Handed k m r (now (holder .entry)) (now (low .entry)) (now (holder .exit)) (now (low .exit)) ⌝ }
 {
     let size: usize = 1 << m.index;
     let len = k - m.index;

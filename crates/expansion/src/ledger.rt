@@ -1,15 +1,12 @@
 // The ledger of a service: weight, share and error of each backend.
+use numerals::MOST_BACKENDS;
+use numerals::UNIT;
 ghost use mathlib.Core.Path.{_≡_};
-ghost use Prim.Native.Nat.{ℕ, _+_, _^_, _≤_, _<_};
-ghost use lib.Dec.{eqb};
+ghost use Prim.Native.Nat.{ℕ, _≤_, _<_};
 ghost use lib.IntN.{pos};
 ghost use lib.ListN.{length, getD};
-ghost use Rattle.numerals.specs.Pick.{pick};
-ghost use Rattle.numerals.specs.Limits.{unit};
-ghost use Rattle.expansion.specs.Kept as kept;
-
-// 100 percent, the sum of a service's weights; also one suffix in parts of the imbalance.
-pub const UNIT: u64 = 1000000;
+ghost use Rattle.numerals.specs.Limits.{mostBits, mostSuffixes, mostBackends, unit};
+ghost use Rattle.expansion.specs.Inner.Ledger as kept;
 
 // The ledger goes by value, so an entry is no wider than it must be.
 pub struct Backend {
@@ -19,7 +16,7 @@ pub struct Backend {
 }
 
 pub struct Ledger {
-    pub at: [Backend; 32],
+    pub at: [Backend; MOST_BACKENDS],
 }
 
 // The backend of the largest excess or shortfall, and its size.
@@ -37,7 +34,7 @@ pub struct Survey {
 
 // A backend that holds `share` of the 2^k suffixes.
 pub fn entry(weight: u64, share: u64, k: usize) -> Backend
-    requires { ⌜ (k ≤ 12) × ((share ≤ 4096) × (weight ≤ unit)) ⌝ }
+    requires { ⌜ (k ≤ mostBits) × ((share ≤ mostSuffixes) × (weight ≤ unit)) ⌝ }
     ensures { λ r. ⌜ r ≡ kept.entryOf unit k weight share ⌝ }
 {
     Backend {
@@ -47,19 +44,18 @@ pub fn entry(weight: u64, share: u64, k: usize) -> Backend
     }
 }
 
-// The ledger where one backend holds everything.
-pub fn opened(weights: &[u64], k: usize, first: usize) -> Ledger
-    requires { ⌜ (k ≤ 12) × (length (now weights) ≤ 32) ⌝ }
-    requires { ⌜ ((b : ℕ) → b < length (now weights) → getD (now weights) b 0 ≤ unit) ⌝ }
-    ensures { λ r. ⌜ ((b : ℕ) → b < length (now (weights .entry)) → kept.entryAt r b ≡ kept.entryOf unit k (getD (now (weights .entry)) b 0) (pick (eqb b first) (2 ^ k) 0)) ⌝ }
+// The ledger where each backend holds its share of the 2^k suffixes.
+pub fn opened(weights: &[u64], shares: &[u64], k: usize) -> Ledger
+    requires { ⌜ (k ≤ mostBits) × ((length (now weights) ≤ mostBackends) × (length (now weights) ≤ length (now shares))) ⌝ }
+    requires { ⌜ ((b : ℕ) → b < length (now weights) → (getD (now weights) b 0 ≤ unit) × (getD (now shares) b 0 ≤ mostSuffixes)) ⌝ }
+    ensures { λ r. ⌜ ((b : ℕ) → b < length (now (weights .entry)) → kept.entryAt r b ≡ kept.entryOf unit k (getD (now (weights .entry)) b 0) (getD (now (shares .entry)) b 0)) ⌝ }
 {
     let mut ledger = Ledger {
-        at: [entry(0, 0, 0); 32],
+        at: [entry(0, 0, 0); MOST_BACKENDS],
     };
     let mut b = 0;
     while b < weights.len() {
-        let share = if b == first { 1 << k } else { 0 };
-        ledger.at[b] = entry(weights[b], share, k);
+        ledger.at[b] = entry(weights[b], shares[b], k);
         b += 1;
     }
     ledger
@@ -79,7 +75,7 @@ fn raised(best: Extreme, b: usize, size: i64) -> Extreme
 
 // One walk over the first n backends. An error that is above zero is an excess, and otherwise a shortfall.
 pub fn survey_of(ledger: Ledger, n: usize) -> Survey
-    requires { ⌜ (0 < n) × (n ≤ 32) ⌝ }
+    requires { ⌜ (0 < n) × (n ≤ mostBackends) ⌝ }
     requires { ⌜ ((b : ℕ) → b < n → kept.Small (kept.errorAt ledger b)) ⌝ }
     ensures { λ r. ⌜ kept.Surveyed ledger n r ⌝ }
 {
@@ -110,7 +106,7 @@ pub fn survey_of(ledger: Ledger, n: usize) -> Survey
 
 // A backend that gave `count` suffixes away.
 fn less(b: Backend, count: u64) -> Backend
-    requires { ⌜ (count ≤ 4096) × ((count ≤ b .share) × kept.Small (b .error)) ⌝ }
+    requires { ⌜ (count ≤ mostSuffixes) × ((count ≤ b .share) × kept.Small (b .error)) ⌝ }
     ensures { λ r. ⌜ r ≡ kept.lessOf b count ⌝ }
 {
     Backend {
@@ -122,7 +118,7 @@ fn less(b: Backend, count: u64) -> Backend
 
 // A backend that was given `count` suffixes.
 fn more(b: Backend, count: u64) -> Backend
-    requires { ⌜ (count ≤ 4096) × ((b .share ≤ 4096) × kept.Small (b .error)) ⌝ }
+    requires { ⌜ (count ≤ mostSuffixes) × ((b .share ≤ mostSuffixes) × kept.Small (b .error)) ⌝ }
     ensures { λ r. ⌜ r ≡ kept.moreOf b count ⌝ }
 {
     Backend {
@@ -145,8 +141,8 @@ fn shift(ledger: &mut [Backend], giver: usize, receiver: usize, count: u64)
 
 // The ledger after `count` suffixes went from the giver to the receiver. Whoever calls this needs no walk.
 pub fn moved(ledger: Ledger, giver: usize, receiver: usize, count: u64) -> Ledger
-    requires { ⌜ (giver < 32) × ((receiver < 32) × (count ≤ 4096)) ⌝ }
-    requires { ⌜ (count ≤ kept.entryAt ledger giver .share) × (kept.entryAt ledger receiver .share ≤ 4096) ⌝ }
+    requires { ⌜ (giver < mostBackends) × ((receiver < mostBackends) × (count ≤ mostSuffixes)) ⌝ }
+    requires { ⌜ (count ≤ kept.entryAt ledger giver .share) × (kept.entryAt ledger receiver .share ≤ mostSuffixes) ⌝ }
     requires { ⌜ kept.Small (kept.errorAt ledger giver) × kept.Small (kept.errorAt ledger receiver) ⌝ }
     ensures { λ r. ⌜ r .at ≡ kept.movedOf (ledger .at) giver receiver count ⌝ }
 {

@@ -5,13 +5,23 @@ use crate::list::RuleList;
 use crate::rule::Ended;
 use crate::rule::Move;
 use crate::rule::Rule;
+use numerals::MOST_BACKENDS;
+use numerals::MOST_SUFFIXES;
+ghost use mathlib.Core.List.{List};
 ghost use mathlib.Core.Path.{_≡_};
-ghost use Prim.Native.Nat.{ℕ, _+_, _^_, _≤_, _<_};
-ghost use lib.ListN.{length, getD, set, replicate};
+ghost use Prim.Native.Nat.{ℕ, suc, _≤_, _<_};
+ghost use lib.ListN.{length, getD};
+ghost use Rattle.numerals.specs.Limits.{mostBits, mostBackends, mostRules, mostSuffixes, unit};
 ghost use Rattle.numerals.specs.Suffix.{Places};
-ghost use Rattle.numerals.specs.Sums.{argmax};
-ghost use Rattle.numerals.specs.Limits.{unit};
-ghost use Rattle.expansion.specs.Kept as kept;
+ghost use Rattle.numerals.specs.Sums.{listTo, argmax};
+ghost use Rattle.expansion.specs.Steps.{frame};
+ghost use Rattle.expansion.specs.Answer.{frameMade};
+ghost use Rattle.expansion.specs.declared.rule.Rule as rule;
+ghost use Rattle.expansion.specs.Inner.Ledger.{Sized};
+ghost use Rattle.expansion.specs.Inner.Terms.{nextFor};
+ghost use Rattle.expansion.specs.Inner.Holders.{Holds};
+ghost use Rattle.expansion.specs.Inner.Lists.{Listed};
+ghost use Rattle.expansion.specs.Inner.Run.{framed, Valid, Fits, Shared, inBudget, Stands, Adds, Made};
 
 // A list, and how it ended.
 pub struct Run {
@@ -19,11 +29,10 @@ pub struct Run {
     pub ended: Ended,
 }
 
-// The ledger after the rules so far, the newest rule, their number and the imbalance after them, and what comes next.
+// The ledger after the rules so far, the newest of them, the imbalance after them, and what comes next.
 pub struct State {
     pub ledger: Ledger,
     pub rule: Rule,
-    pub count: usize,
     pub imbalance: u64,
     pub next: Next,
 }
@@ -51,9 +60,9 @@ fn heaviest(weights: &[u64]) -> usize
 
 // Steps 2 to 4, for the largest excess and the largest shortfall: whether the list stops here, or the move that comes next.
 fn decide(give: Extreme, take: Extreme, k: usize, tolerance: u64, cap: usize) -> Next
-    requires { ⌜ (k ≤ 12) × ((tolerance ≤ unit) × (cap ≤ 12)) ⌝ }
-    requires { ⌜ kept.Sized give × kept.Sized take ⌝ }
-    ensures { λ r. ⌜ r ≡ kept.nextFor give take k tolerance cap ⌝ }
+    requires { ⌜ (k ≤ mostBits) × ((tolerance ≤ unit) × (cap ≤ mostBits)) ⌝ }
+    requires { ⌜ Sized give × Sized take ⌝ }
+    ensures { λ r. ⌜ r ≡ nextFor give take k tolerance cap ⌝ }
 {
     let slack = (tolerance * (1 << k)) as i64;
     let o = give.size;
@@ -80,16 +89,18 @@ fn advance(
     low: &mut [u16],
     places: &[u16],
     state: State,
+    labels: &[usize],
     weights: &[u64],
     k: usize,
     tolerance: u64,
     m: Move,
 ) -> State
-    requires { ⌜ kept.Valid k tolerance (now weights) × (kept.Stands k tolerance (now weights) (now holder) (now low) state × Places 12 (now places)) ⌝ }
-    requires { ⌜ (state .count < 32) × (state .next ≡ Next.Go m) ⌝ }
-    ensures stands { λ r. ⌜ kept.Stands k tolerance (now (weights .entry)) (now (holder .exit)) (now (low .exit)) r ⌝ }
-    ensures adds { λ r. ⌜ (r .count ≡ state .count + 1) × kept.Adds k tolerance (now (weights .entry)) (state .count) (r .rule) ⌝ }
+    requires { ⌜ ((cap : ℕ) × (x : ℕ) × (start : List rule.Rule) × Stands (framed k cap tolerance (now labels) (now weights) start) x (now holder) (now low) state) ⌝ }
+    requires { ⌜ Places mostBits (now places) × (state .next ≡ Next.Go m) ⌝ }
+    ensures { λ r. ⌜ ((cap x : ℕ) (start : List rule.Rule) → let F = framed k cap tolerance (now (labels .entry)) (now (weights .entry)) start in Stands F x (now (holder .entry)) (now (low .entry)) state → Stands F (suc x) (now (holder .exit)) (now (low .exit)) r × Adds F x (r .rule)) ⌝ }
 {
+    let receiver = m.receiver;
+    let label = labels[receiver];
     let n = weights.len();
     let value = crate::holders::hand_over(holder, low, places, k, m);
     let before = state.ledger;
@@ -100,42 +111,42 @@ fn advance(
         rule: Rule {
             len: k - m.index,
             value,
-            backend: m.receiver,
+            backend: label,
         },
-        count: state.count + 1,
         imbalance: seen.imbalance,
         // terms never grow along a list
         next: decide(seen.give, seen.take, k, tolerance, m.index),
     }
 }
 
-// Step 1: everything goes to the largest weight.
-fn begin(weights: &[u64], k: usize, tolerance: u64, first: usize) -> State
-    requires { ⌜ kept.Valid k tolerance (now weights) ⌝ }
-    requires { ⌜ first ≡ argmax (λ b. getD (now weights) b 0) (length (now weights)) ⌝ }
-    ensures stands { λ r. ⌜ kept.Stands k tolerance (now (weights .entry)) (replicate 4096 first) (replicate 32 0) r ⌝ }
-    ensures one { λ r. ⌜ (r .count ≡ 1) × (r .rule ≡ record { len = 0; value = 0; backend = first }) ⌝ }
+// The state at a start: rules, the newest of them `newest`, after which each backend holds its share.
+fn begin(
+    weights: &[u64],
+    shares: &[u64],
+    k: usize,
+    tolerance: u64,
+    cap: usize,
+    newest: Rule,
+) -> State
+    requires { ⌜ ((labels : List ℕ) × (start : List rule.Rule) × let F = framed k cap tolerance labels (now weights) start in Fits F × Shared F (now shares)) ⌝ }
+    ensures stands { λ r. ⌜ ((labels : List ℕ) (start : List rule.Rule) (holder low : List ℕ) → let F = framed k cap tolerance labels (now (weights .entry)) start in Fits F → Shared F (now (shares .entry)) → Holds (F .targets) start holder low → length holder ≡ mostSuffixes → length low ≡ mostBackends → Stands F 0 holder low r) ⌝ }
+    ensures newest { λ r. ⌜ r .rule ≡ newest ⌝ }
 {
     let n = weights.len();
-    let ledger = crate::ledger::opened(weights, k, first);
+    let ledger = crate::ledger::opened(weights, shares, k);
     let seen = crate::ledger::survey_of(ledger, n);
     State {
         ledger,
-        rule: Rule {
-            len: 0,
-            value: 0,
-            backend: first,
-        },
-        count: 1,
+        rule: newest,
         imbalance: seen.imbalance,
-        next: decide(seen.give, seen.take, k, tolerance, k - 1),
+        next: decide(seen.give, seen.take, k, tolerance, cap),
     }
 }
 
 // Step 5: a move that comes after `count` rules is made only if the budget has room for its rule. A list that stopped before
 // step 5 stays as it ended.
 fn in_budget(next: Next, count: usize, budget: usize) -> Next
-    ensures { λ r. ⌜ r ≡ kept.inBudget next count budget ⌝ }
+    ensures { λ r. ⌜ r ≡ inBudget next count budget ⌝ }
 {
     if count < budget {
         return next;
@@ -146,18 +157,23 @@ fn in_budget(next: Next, count: usize, budget: usize) -> Next
     }
 }
 
-// The list of a budget, for numbers that were checked.
-pub fn make_list(k: usize, tolerance: u64, budget: usize, weights: &[u64]) -> Run
-    requires { ⌜ kept.Valid k tolerance (now weights) × ((1 ≤ budget) × (budget ≤ 32)) ⌝ }
-    ensures { λ r. ⌜ kept.Made k tolerance budget (now (weights .entry)) r ⌝ }
+// The list from where it stands to its end: turn after turn, as long as the budget has room.
+fn go_on(
+    holder: &mut [u16],
+    low: &mut [u16],
+    places: &[u16],
+    mut state: State,
+    mut list: RuleList,
+    labels: &[usize],
+    weights: &[u64],
+    k: usize,
+    tolerance: u64,
+    budget: usize,
+) -> Run
+    requires { ⌜ ((cap : ℕ) × (x : ℕ) × (start : List rule.Rule) × let F = framed k cap tolerance (now labels) (now weights) start in Stands F x (now holder) (now low) state × Listed F x list) ⌝ }
+    requires { ⌜ (list .count ≤ budget) × ((budget ≤ mostRules) × Places mostBits (now places)) ⌝ }
+    ensures { λ r. ⌜ ((cap x : ℕ) (start : List rule.Rule) → let F = framed k cap tolerance (now (labels .entry)) (now (weights .entry)) start in Stands F x (now (holder .entry)) (now (low .entry)) state → Listed F x list → Made F budget r) ⌝ }
 {
-    let places = numerals::all_places();
-    let first = heaviest(weights);
-    let mut holder = [first as u16; 4096];
-    let mut low = [0u16; 32];
-    let mut state = begin(weights, k, tolerance, first);
-    let star = state.rule;
-    let mut list = crate::list::of_one(star, state.imbalance);
     loop {
         let n = list.count;
         let wanted = state.next;
@@ -167,16 +183,7 @@ pub fn make_list(k: usize, tolerance: u64, budget: usize, weights: &[u64]) -> Ru
                 return Run { list, ended };
             }
             Next::Go(m) => {
-                state = advance(
-                    &mut holder,
-                    &mut low,
-                    &places,
-                    state,
-                    weights,
-                    k,
-                    tolerance,
-                    m,
-                );
+                state = advance(holder, low, places, state, labels, weights, k, tolerance, m);
                 let rule = state.rule;
                 list.rules[n] = rule;
                 list.stairs[n] = state.imbalance;
@@ -185,3 +192,87 @@ pub fn make_list(k: usize, tolerance: u64, budget: usize, weights: &[u64]) -> Ru
         }
     }
 }
+
+// The list of a budget, for numbers that were checked. Step 1: everything goes to the largest weight.
+fn make_list(k: usize, tolerance: u64, budget: usize, labels: &[usize], weights: &[u64]) -> Run
+    requires { ⌜ Valid k tolerance (now labels) (now weights) × ((1 ≤ budget) × (budget ≤ mostRules)) ⌝ }
+    ensures { λ r. ⌜ Made (frame k unit tolerance (now (labels .entry)) (now (weights .entry))) budget r ⌝ }
+{
+    let places = numerals::all_places();
+    let first = heaviest(weights);
+    let star = Rule {
+        len: 0,
+        value: 0,
+        backend: labels[first],
+    };
+    let mut shares = [0u64; MOST_BACKENDS];
+    shares[first] = 1 << k;
+    let mut holder = [first as u16; MOST_SUFFIXES];
+    let mut low = [0u16; MOST_BACKENDS];
+    let state = begin(weights, &shares, k, tolerance, k - 1, star);
+    let list = crate::list::of_one(star, state.imbalance);
+    go_on(
+        &mut holder,
+        &mut low,
+        &places,
+        state,
+        list,
+        labels,
+        weights,
+        k,
+        tolerance,
+        budget,
+    )
+}
+
+// The labels 1, 2, ..
+fn numbers() -> [usize; MOST_BACKENDS]
+    ensures { λ r. ⌜ r ≡ listTo mostBackends suc ⌝ }
+{
+    NUMBERS
+}
+
+// The list of backends that are labelled by their number.
+pub fn make_numbered(k: usize, tolerance: u64, budget: usize, weights: &[u64]) -> Run
+    requires { ⌜ Valid k tolerance (listTo (length (now weights)) suc) (now weights) × ((1 ≤ budget) × (budget ≤ mostRules)) ⌝ }
+    ensures { λ r. ⌜ Made (frameMade k tolerance (now (weights .entry))) budget r ⌝ }
+{
+    let labels = numbers();
+    let n = weights.len();
+    make_list(k, tolerance, budget, &labels[..n], weights)
+}
+
+const NUMBERS: [usize; MOST_BACKENDS] = [
+    1,
+    2,
+    3,
+    4,
+    5,
+    6,
+    7,
+    8,
+    9,
+    10,
+    11,
+    12,
+    13,
+    14,
+    15,
+    16,
+    17,
+    18,
+    19,
+    20,
+    21,
+    22,
+    23,
+    24,
+    25,
+    26,
+    27,
+    28,
+    29,
+    30,
+    31,
+    32,
+];

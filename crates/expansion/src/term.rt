@@ -1,10 +1,13 @@
 // The term of a move: how many suffixes go from giver to receiver, and what that gains.
+use numerals::UNIT;
 ghost use mathlib.Core.Path.{_≡_};
 ghost use mathlib.Core.Bool.{true};
 ghost use Prim.Native.Nat.{ℕ, _≤_, min};
 ghost use lib.IntN.{pos};
+ghost use Rattle.numerals.specs.Limits.{mostBits};
 ghost use Rattle.expansion.specs.Steps as steps;
-ghost use Rattle.expansion.specs.Kept as kept;
+ghost use Rattle.expansion.specs.Inner.Ledger as kept;
+ghost use Rattle.expansion.specs.Inner.Terms as terms;
 
 // A term of 2^index suffixes and its reduction.
 pub struct Term {
@@ -42,15 +45,15 @@ fn is_enough(u: i64, o: i64, t: i64) -> bool
 
 // The greatest reduction of the terms of 1 to 2^cap suffixes, the larger term if equal.
 pub fn best_term(u: i64, o: i64, cap: usize) -> Term
-    requires { ⌜ (u ≡ pos (kept.over u)) × ((o ≡ pos (kept.over o)) × (cap ≤ 12)) ⌝ }
-    ensures { λ r. ⌜ kept.Best (kept.over u) (kept.over o) cap r ⌝ }
+    requires { ⌜ (u ≡ pos (kept.over u)) × ((o ≡ pos (kept.over o)) × (cap ≤ mostBits)) ⌝ }
+    ensures { λ r. ⌜ terms.Best (kept.over u) (kept.over o) cap r ⌝ }
 {
     let mut index = cap;
     let mut best: i64 = 0;
     let mut left = cap + 1;
     while 0 < left {
         left -= 1;
-        let t = (crate::ledger::UNIT * (1 << left)) as i64;
+        let t = (UNIT * (1 << left)) as i64;
         let r = reduction(u, o, t);
         // a smaller term has to gain more
         let least = best + 1;

@@ -1,4 +1,3 @@
 -- Laws that the functions' proofs share.
 pub mod Lent
-pub mod Numbers
 pub mod Promised

@@ -1,9 +1,6 @@
 // The answers of the exported calls, in plain numbers and laid out as C lays them out.
 use numerals::refusal_number;
-use sheets::Churned;
-use sheets::Looked;
 use sheets::Planned;
-use sheets::Printed;
 use sheets::Refused;
 ghost use mathlib.Core.Path.{_≡_};
 ghost use Rattle.gulmorzon.specs.Answers as answers;
@@ -40,52 +37,36 @@ fn answered(value: usize) -> Answer
     }
 }
 
-fn refused(r: Refused, sheet: usize) -> Answer
-    ensures { λ a. ⌜ a ≡ answers.refused r sheet ⌝ }
+fn refused(r: Refused) -> Answer
+    ensures { λ a. ⌜ a ≡ answers.refused r ⌝ }
 {
     let why = r.why;
     Answer {
         number: refusal_number(why) as usize,
         line: r.line,
-        sheet,
+        sheet: r.of,
         value: 0,
     }
 }
 
-pub fn of_printed(x: Printed) -> Answer
-    ensures { λ r. ⌜ r ≡ answers.ofPrinted x ⌝ }
+pub fn of_answer(x: sheets::Answer) -> Answer
+    ensures { λ r. ⌜ r ≡ answers.ofAnswer x ⌝ }
 {
     match x {
-        Printed::End(n) => answered(n),
-        Printed::Refused(r) => refused(r, 0),
+        sheets::Answer::Value(n) => answered(n),
+        sheets::Answer::Refused(r) => refused(r),
     }
 }
 
-pub fn of_looked(x: Looked) -> Answer
-    ensures { λ r. ⌜ r ≡ answers.ofLooked x ⌝ }
+fn plan_refused(r: Refused) -> PlanAnswer
+    ensures { λ a. ⌜ a ≡ answers.planRefused r ⌝ }
 {
-    match x {
-        Looked::Backend(b) => answered(b),
-        Looked::Refused(r) => refused(r, 0),
-    }
-}
-
-pub fn of_churned(x: Churned) -> Answer
-    ensures { λ r. ⌜ r ≡ answers.ofChurned x ⌝ }
-{
-    match x {
-        Churned::Moved(n) => answered(n),
-        Churned::Refused(r, sheet) => refused(r, sheet),
-    }
-}
-
-fn plan_refused(number: usize, line: usize, buffer: usize) -> PlanAnswer
-    ensures { λ r. ⌜ r ≡ answers.planRefused number line buffer ⌝ }
-{
+    let why = r.why;
+    let number = refusal_number(why) as usize;
     PlanAnswer {
         number,
-        line,
-        buffer,
+        line: r.line,
+        buffer: r.of,
         k: 0,
         services: 0,
         rules: 0,
@@ -106,10 +87,6 @@ pub fn of_planned(x: Planned) -> PlanAnswer
             rules: p.rules,
             total: p.total,
         },
-        Planned::Refused(r, buffer) => {
-            let why = r.why;
-            let number = refusal_number(why) as usize;
-            plan_refused(number, r.line, buffer)
-        }
+        Planned::Refused(r) => plan_refused(r),
     }
 }

@@ -1,11 +1,8 @@
-// The calls for C: each hands on the answer of a call of crate `sheets` in plain numbers, services and backends as they are
-// printed, from 1. `include/gulmorzon.h` declares them.
+// The calls for C: each hands on the answer of a call of crate `sheets` in plain numbers. `include/gulmorzon.h` declares them.
 mod answer;
-mod numbering;
 
 pub use answer::Answer;
 pub use answer::PlanAnswer;
-use sheets::Planned;
 ghost use mathlib.Core.Path.{_≡_};
 ghost use lib.ListN.{length, take};
 ghost use Rattle.sheets.specs.PercentageSheet.{readSheet};
@@ -21,38 +18,38 @@ pub extern "C" fn gulmorzon_plan(
     table: &mut [usize],
 ) -> PlanAnswer
     ensures answer { λ r. ⌜ r ≡ answers.ofPlanned (calls.planAnswer (now (text .entry)) (length (now (figures .entry))) (length (now (table .entry)))) ⌝ }
-    ensures figures { λ _. ⌜ now (figures .exit) ≡ calls.planFilled (calls.planAnswer (now (text .entry)) (length (now (figures .entry))) (length (now (table .entry)))) (now (figures .entry)) (calls.fromSheet (readSheet (now (text .entry))) calls.figuresFor) ⌝ }
-    ensures table { λ _. ⌜ now (table .exit) ≡ calls.planFilled (calls.planAnswer (now (text .entry)) (length (now (figures .entry))) (length (now (table .entry)))) (now (table .entry)) (calls.fromSheet (readSheet (now (text .entry))) (λ S. answers.printedCells (calls.tableFor S .lines))) ⌝ }
+    ensures figures { λ _. ⌜ now (figures .exit) ≡ calls.afterwards
+        (calls.isPlan (calls.planAnswer (now (text .entry)) (length (now (figures .entry))) (length (now (table .entry)))))
+        (now (figures .entry)) (calls.valuesOf (readSheet (now (text .entry))) calls.figuresFor) ⌝ }
+    ensures table { λ _. ⌜ now (table .exit) ≡ calls.afterwards
+        (calls.isPlan (calls.planAnswer (now (text .entry)) (length (now (figures .entry))) (length (now (table .entry)))))
+        (now (table .entry)) (calls.valuesOf (readSheet (now (text .entry))) calls.cellsFor) ⌝ }
 {
-    let planned = sheets::plan(text, figures, table);
-    if let Planned::Made(p) = planned {
-        numbering::number_lines(table, p.rules);
-    }
-    answer::of_planned(planned)
+    answer::of_planned(sheets::plan(text, figures, table))
 }
 
 // The rule sheet of a percentage sheet, into a lent buffer. The value is the number of bytes.
 #[no_mangle]
 pub extern "C" fn gulmorzon_split(text: &[u8], out: &mut [u8]) -> Answer
-    ensures answer { λ r. ⌜ r ≡ answers.ofPrinted (answers.splitAnswer (now (text .entry)) (length (now (out .entry)))) ⌝ }
-    ensures buffer { λ _. ⌜ now (out .exit) ≡ calls.printFilled (answers.splitAnswer (now (text .entry)) (length (now (out .entry)))) (now (out .entry)) (calls.textOf (readSheet (now (text .entry))) calls.sheetText) ⌝ }
+    ensures answer { λ r. ⌜ r ≡ answers.ofAnswer (answers.splitAnswer (now (text .entry)) (length (now (out .entry)))) ⌝ }
+    ensures buffer { λ _. ⌜ now (out .exit) ≡ answers.splitFilled (now (text .entry)) (length (now (out .entry))) (now (out .entry)) ⌝ }
     ensures demand { λ r. ⌜ (r .number ≡ 0 → Demand3 (now (text .entry)) (take (r .value) (now (out .exit)))) ⌝ }
 {
-    answer::of_printed(sheets::split_sheet(text, out))
+    answer::of_answer(sheets::split_sheet(text, out))
 }
 
 // The backend that a rule sheet gives a service's address to. The value is its number.
 #[no_mangle]
 pub extern "C" fn gulmorzon_lookup(text: &[u8], service: usize, address: u32) -> Answer
-    ensures { λ r. ⌜ r ≡ answers.ofLooked (calls.lookupAnswer (now (text .entry)) service address) ⌝ }
+    ensures { λ r. ⌜ r ≡ answers.ofAnswer (calls.lookupAnswer (now (text .entry)) service address) ⌝ }
 {
-    answer::of_looked(sheets::lookup(text, service, address))
+    answer::of_answer(sheets::lookup(text, service, address))
 }
 
 // How many suffixes of a service have another backend in the new rule sheet than in the old. The value is their number.
 #[no_mangle]
 pub extern "C" fn gulmorzon_churn(old: &[u8], new: &[u8], service: usize) -> Answer
-    ensures { λ r. ⌜ r ≡ answers.ofChurned (calls.churnAnswer (now (old .entry)) (now (new .entry)) service) ⌝ }
+    ensures { λ r. ⌜ r ≡ answers.ofAnswer (calls.churnAnswer (now (old .entry)) (now (new .entry)) service) ⌝ }
 {
-    answer::of_churned(sheets::churn(old, new, service))
+    answer::of_answer(sheets::churn(old, new, service))
 }

@@ -13,7 +13,8 @@ use borrow.Author.Tests.{le-leb, lt-leb, lt-ltb, le-ltb, leb-true, ltb-true}
 use Rattle.numerals.proofs.Choice.{both-left, both-right, both-false}
 use Rattle.numerals.proofs.Lists.{sets-snoc}
 use Rattle.numerals.specs.Pick.{pick, both}
-use Rattle.numerals.specs.Digits.{isDigit, allDigits, valueFrom, value, lowest, readDigits}
+use Rattle.numerals.specs.Digits.{isDigit, allDigits, valueFrom, value, lowest}
+use Rattle.numerals.specs.Inner.Digits.{readDigits}
 use Rattle.numerals.specs.declared.digits.Number.{Number}
 use Rattle.numerals.specs.declared.digits.Number.the-variants.{Value, Bad}
 

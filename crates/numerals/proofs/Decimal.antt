@@ -13,7 +13,8 @@ use Rattle.numerals.proofs.Choice.{by-less, both-left, both-right}
 use Rattle.numerals.proofs.Base.{length-lowest, lowest-front, value-lowest, all-lowest, lowest-value, value-below, value-front, digit-at, digit-low, picked}
 use Rattle.numerals.proofs.Fields.{Free, free-digits}
 use Rattle.numerals.specs.Pick.{pick, both}
-use Rattle.numerals.specs.Digits.{allDigits, value, lowest, readDigits, onValue}
+use Rattle.numerals.specs.Digits.{allDigits, value, lowest, onValue}
+use Rattle.numerals.specs.Inner.Digits.{readDigits}
 use Rattle.numerals.specs.Decimal.{noLeadingZero, isNumeral, number, widthIn, width, decimal}
 use Rattle.numerals.specs.declared.digits.Number.the-variants.{Value, Bad}
 

@@ -11,7 +11,8 @@ use lib.Seq.{slice}
 use lib.Pow.{pow-add}
 use borrow.Author.Tests.{le-leb, lt-leb, lt-ltb, leb-true}
 use Rattle.numerals.specs.Pick.{pick, both}
-use Rattle.numerals.specs.Digits.{allDigits, value, readDigits, onValue}
+use Rattle.numerals.specs.Digits.{allDigits, value, onValue}
+use Rattle.numerals.specs.Inner.Digits.{readDigits}
 use Rattle.numerals.specs.Decimal.{number}
 use Rattle.numerals.specs.Text.{split, indexOf}
 use Rattle.numerals.specs.Percentage.{fraction, atMostAll, percentOf, percentage}

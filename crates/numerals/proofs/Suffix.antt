@@ -10,7 +10,8 @@ use lib.ListN.{length}
 use lib.Pow.{pow-mono}
 use borrow.Author.Tests.{eq-eqb, ne-eqb, le-leb, lt-leb, lt-ltb, eqb-true, leb-true, ltb-true}
 use Rattle.numerals.specs.Pick.{pick, both}
-use Rattle.numerals.specs.Digits.{allDigits, value, lowest, readDigits}
+use Rattle.numerals.specs.Digits.{allDigits, value, lowest}
+use Rattle.numerals.specs.Inner.Digits.{readDigits}
 use Rattle.numerals.specs.Suffix.{isSuffix, suffix, suffixText}
 use Rattle.numerals.specs.Limits.{mostBits, mostSuffixes}
 use Rattle.numerals.specs.declared.digits.Number.{Number}

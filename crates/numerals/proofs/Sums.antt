@@ -1,6 +1,7 @@
 -- Laws of sums and counts over the numbers below n.
 use Prim.Native.Nat.{ℕ, zero, suc, _+_, _*_, _≤_, _<_}
 use mathlib.Core.Bool.{Bool, true, false}
+use mathlib.Core.List.{List, [], _∷_, _++_}
 use mathlib.Core.Logic.{_≢_}
 use mathlib.Core.Path.{_≡_, refl, ap, sym, _∙_}
 use native.Mathlib.Decide.{ℕ-discrete}
@@ -8,9 +9,11 @@ use native.Mathlib.Nat.{add-zero, add-suc, zero-mul, mul-one}
 use native.Mathlib.Numerals.{add-one}
 use native.Mathlib.Omega.{arith}
 use lib.Dec.{eqb}
+use lib.ListN.{length, getD, take, length-append}
+use lib.Seq.{take-suc}
 use borrow.Author.Tests.{eq-eqb, ne-eqb}
 use Rattle.numerals.specs.Pick.{pick}
-use Rattle.numerals.specs.Sums.{sumTo, countTo}
+use Rattle.numerals.specs.Sums.{sumTo, listTo, countTo}
 
 pub sum-none : (f : ℕ → ℕ) → sumTo 0 f ≡ 0
 unfolding sumTo
@@ -161,3 +164,39 @@ count-some (suc n) t h = go (t n) refl (count-some n t)
     go false e ih =
         let r = ih (omega (arith, ap bit e)) in
         (r .0, omega (arith, r .1), r .2)
+
+-- a listing of values
+
+pub length-list : (n : ℕ) (f : ℕ → ℕ) → length (listTo n f) ≡ n
+unfolding listTo
+length-list zero f = refl
+length-list (suc n) f = omega (arith, length-append (listTo n f) (f n ∷ []), length-list n f)
+
+getD-front : (xs ys : List ℕ) (i d : ℕ) → i < length xs → getD (xs ++ ys) i d ≡ getD xs i d
+getD-front [] ys i d l = absurd (omega arith)
+getD-front (x ∷ xs) ys zero d l = refl
+getD-front (x ∷ xs) ys (suc i) d l = getD-front xs ys i d (omega arith)
+
+getD-end : (xs : List ℕ) (x d : ℕ) → getD (xs ++ x ∷ []) (length xs) d ≡ x
+getD-end [] x d = refl
+getD-end (y ∷ xs) x d = getD-end xs x d
+
+pub list-at : (n : ℕ) (f : ℕ → ℕ) (i d : ℕ) → i < n → getD (listTo n f) i d ≡ f i
+unfolding listTo
+list-at zero f i d l = absurd (omega arith)
+list-at (suc n) f i d l = go (ℕ-discrete i n) (list-at n f i d)
+  where
+    go : Dec (i ≡ n) → (i < n → getD (listTo n f) i d ≡ f i) → getD (listTo n f ++ f n ∷ []) i d ≡ f i
+    go (yes e) ih =
+        ap (λ (x : ℕ). getD (listTo n f ++ f n ∷ []) x d) (e ∙ sym (length-list n f)) ∙ getD-end (listTo n f) (f n) d ∙ ap f (sym e)
+    go (no m) ih = getD-front (listTo n f) (f n ∷ []) i d (omega (arith, length-list n f)) ∙ ih (omega arith)
+
+-- numbers that are f 0, f 1, .. are the listing
+pub list-taken : (f : ℕ → ℕ) (xs : List ℕ) → ((i : ℕ) → i < length xs → getD xs i 0 ≡ f i) → (n : ℕ) → n ≤ length xs → take n xs ≡ listTo n f
+unfolding listTo
+list-taken f xs h zero l = refl
+list-taken f xs h (suc n) l = take-suc xs n 0 l ∙ rw (list-taken f xs h n (omega arith), h n l)
+
+pub list-first : (f : ℕ → ℕ) (n m : ℕ) → n ≤ m → take n (listTo m f) ≡ listTo n f
+list-first f n m l =
+    list-taken f (listTo m f) (λ i k. list-at m f i 0 (omega (arith, length-list m f))) n (omega (arith, length-list m f))

@@ -35,10 +35,6 @@ unfoldable pub lowest : ℕ → ℕ → ℕ → List ℕ
 lowest base zero n = []
 lowest base (suc l) n = lowest base l (n / base) ++ (48 + n % base) ∷ []
 
--- what digits that may be at most `most` are read as
-unfoldable pub readDigits : ℕ → ℕ → List ℕ → Number
-readDigits base most bs = pick (both (allDigits base bs) (leb (value base bs) most)) (Value (value base bs)) Bad
-
 -- what follows a number that was read
 unfoldable pub onValue : Number → (ℕ → Number) → Number
 onValue (Value v) f = f v

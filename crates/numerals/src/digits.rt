@@ -4,7 +4,8 @@ ghost use mathlib.Core.Path.{_≡_};
 ghost use Prim.Native.Nat.{_+_, _≤_, min};
 ghost use lib.ListN.{length};
 ghost use lib.Seq.{slice, sets};
-ghost use Rattle.numerals.specs.Digits.{readDigits, lowest};
+ghost use Rattle.numerals.specs.Digits.{lowest};
+ghost use Rattle.numerals.specs.Inner.Digits.{readDigits};
 
 // What reading a number finds.
 pub enum Number {

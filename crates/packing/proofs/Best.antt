@@ -7,8 +7,9 @@ use native.Mathlib.Nat.{mul-le-mul-right, le-trans}
 use native.Mathlib.Decide.{ℕ-discrete, decLe, decLt, le-ind}
 use Rattle.numerals.specs.Sums.{sumTo}
 use Rattle.numerals.proofs.Sums.{sum-le, sum-add, sum-mul}
-use Rattle.packing.specs.Grants.{Problem, Grants, saving, next, rules, total, more, grantsAfter, packed, Allowed, Convex}
-use Rattle.packing.proofs.Runs.{more-same, more-other, more-le, along, next-max, packed-allowed, Ends, packed-ends, next-lt}
+use Rattle.packing.specs.Grants.{Problem, Grants, saving, next, rules, total, more, grantsAfter, packed}
+use Rattle.packing.specs.Inner.Premises.{Allowed, Convex}
+use Rattle.packing.proofs.GrantSteps.{more-same, more-other, more-le, along, next-max, packed-allowed, Ends, packed-ends, next-lt}
 
 -- A cost c and a price p: where no rule from a on saves more than p, more rules than a don't pay.
 pub no-more :

@@ -1,8 +1,7 @@
 -- Laws of the packing.
-pub mod Runs
-pub mod Agree
+pub mod GrantSteps
+pub mod EqualGrants
 pub mod Best
-pub mod Lines
 pub mod Tables
 pub mod Convexity
 pub mod Demand
@@ -13,6 +12,6 @@ pub mod Stores
 pub mod Payable
 pub mod Winner
 pub mod Granting
-pub mod Meant
+pub mod StoredCosts
 pub mod Written
-pub mod Settled
+pub mod PackAnswer

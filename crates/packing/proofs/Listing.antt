@@ -1,28 +1,35 @@
 -- The lists of all services, each stored in its places, are those of the definitions; a list stored for a later service leaves them.
-use Prim.Native.Nat.{ℕ, zero, suc, _+_, _-_, _*_, _≤_, _<_, min}
+use Prim.Native.Nat.{ℕ, zero, suc, _+_, _-_, _*_, _^_, _≤_, _<_, min}
+use mathlib.Core.Bool.{Bool, false}
 use mathlib.Core.List.{List, [], _∷_, _++_, map, reverse}
 use mathlib.Core.Path.{_≡_, refl, sym, ap, ap₂, _∙_}
 use native.Mathlib.Decide.{ℕ-discrete}
+use native.Mathlib.Nat.{zero-mul}
 use native.Mathlib.Omega.{arith}
 use lib.ListN.{length, getD, set, take, drop, length-set, length-append, length-map, length-reverse, List·getD-append, List·getD-map}
-use lib.Seq.{sets, getD-set-same, getD-set-other, getD-at}
-use borrow.Author.Tests.{le-leb}
-use Rattle.expansion.specs.Imbalance.{Frame}
-use Rattle.expansion.specs.Steps.{firstRule, frame, after, endOf, listOf, stair, stairsTo}
-use Rattle.expansion.specs.Answer.{checkCall, answer, filled, listMade, lensMade, valuesMade, backendsMade, stairsMade, recordMade}
-use Rattle.numerals.specs.Limits.{unit}
-use Rattle.expansion.specs.Kept.{noRule}
+use lib.Seq.{sets, length-sets, getD-set-same, getD-set-other, getD-at, drop-length}
+use lib.Dec.{eqb}
+use borrow.Author.Tests.{le-leb, ne-eqb}
+use Rattle.numerals.specs.Sums.{countTo}
+use Rattle.expansion.specs.FirstMatch.{nobody, firstMatch, gives, share}
+use Rattle.expansion.specs.Imbalance.{Targets, backends, label, has, excess, imbalance}
+use Rattle.expansion.specs.Steps.{Frame, firstRule, frame, endOf, listOf, oldest, stair, stairsTo}
+use Rattle.expansion.specs.Answer.{checkCall, answer, filled, frameMade, listMade, lensMade, valuesMade, backendsMade, stairsMade, recordMade}
+use Rattle.numerals.specs.Limits.{mostRules, unit}
+use Rattle.expansion.specs.Inner.Lists.{noRule}
 use Rattle.expansion.specs.declared.rule.Rule.{Rule}
 use Rattle.expansion.specs.declared.rule.Record.{Record}
 use Rattle.expansion.specs.declared.call.Checked.the-variants.{Sound as Passed}
 use Rattle.expansion.specs.declared.call.Expanded.{Expanded}
 use Rattle.expansion.specs.declared.call.Expanded.the-variants.{Made}
-use Rattle.expansion.proofs.Turns.{length-le, length-oldest, oldest-after}
-use Rattle.packing.specs.Count.{services, weightsOf}
+use Rattle.numerals.proofs.Sums.{sum-zero, count-const}
+use Rattle.expansion.proofs.Turns.{length-le}
+use Rattle.packing.specs.Count.{services, targetsOf}
 use Rattle.packing.specs.Table.{ruleBudget, frameOf, listFor}
 use Rattle.packing.specs.Answer.{servicesOf, endNumber}
-use Rattle.packing.specs.Kept.{ruleAt, ListedTo, start}
-use Rattle.packing.proofs.Checks.{chunk-at}
+use Rattle.packing.specs.Inner.Lists.{stride, placeOf, ruleAt, ListedTo, start}
+use Rattle.packing.specs.Inner.Premises.{Labelled}
+use Rattle.packing.proofs.Checks.{chunk-at, labels-at, numbers-labelled}
 
 -- stores from a position on
 
@@ -42,30 +49,53 @@ sets-at l (v ∷ vs) at zero i e h fits =
 sets-at l (v ∷ vs) at (suc j) i e h fits =
     sets-at (set l at v) vs (suc at) j i (omega arith) (omega arith) (omega (arith, length-set l at v))
 
--- the places of service s hold these values
+-- the places of service s for its rules hold these values
 pub record Column (l : List ℕ) (s : ℕ) (vs : List ℕ) : Type 0 where
-  pub at : (j : ℕ) → j < length vs → getD l (32 * s + j) 0 ≡ getD vs j 0
+  pub at : (j : ℕ) → j < length vs → getD l (placeOf s (suc j)) 0 ≡ getD vs j 0
 
-column-made : (l vs : List ℕ) (s : ℕ) → 32 * s + length vs ≤ length l → Column (sets l (32 * s) vs) s vs
-column-made l vs s fits = record { at = λ j h. sets-at l vs (32 * s) j (32 * s + j) refl h fits }
+column-made : (l vs : List ℕ) (s : ℕ) → placeOf s 1 + length vs ≤ length l → Column (sets l (placeOf s 1) vs) s vs
+column-made l vs s fits =
+    record { at = λ j h. sets-at l vs (placeOf s 1) j (placeOf s (suc j)) (omega arith) h fits }
 
 column-kept :
-    (l vs us : List ℕ) (s t : ℕ) → s < t → length vs ≤ 32 → Column l s vs → Column (sets l (32 * t) us) s vs
+    (l vs us : List ℕ) (s t : ℕ) → s < t → length vs ≤ mostRules → Column l s vs → Column (sets l (placeOf t 1) us) s vs
 column-kept l vs us s t h few C =
-    record { at = λ j k. sets-below l us (32 * t) (32 * s + j) (omega arith) ∙ C .at j k }
+    record { at = λ j k. sets-below l us (placeOf t 1) (placeOf s (suc j)) (omega arith) ∙ C .at j k }
+
+-- the place for no rule of a service isn't one of its rules, nor of an earlier service
+column-other :
+    (l vs : List ℕ) (s t x : ℕ) → s ≤ t → length vs ≤ mostRules → Column l s vs → Column (set l (stride * t) x) s vs
+column-other l vs s t x h few C =
+    record { at = λ j k. getD-set-other l (stride * t) (placeOf s (suc j)) x 0 (λ e. omega arith) ∙ C .at j k }
 
 -- the length of a list
 
 module _ (k tolerance : ℕ) (ws : List ℕ) where
-  pub list-some : 1 ≤ length (listMade k tolerance 32 ws)
-  unfolding listMade listOf frame firstRule after
-  list-some =
-      let F = frame k unit tolerance ws in
-      omega (arith, length-oldest 1 (after F 31), ap length (oldest-after F 1 31 (omega arith)))
+  pub list-few : length (listMade k tolerance mostRules ws) ≤ mostRules
+  unfolding listMade listOf frameMade frame firstRule
+  list-few = length-le (frameMade k tolerance ws) (mostRules - 1)
 
-  pub list-few : length (listMade k tolerance 32 ws) ≤ 32
-  unfolding listMade listOf frame firstRule
-  list-few = length-le (frame k unit tolerance ws) 31
+-- with no rule no backend that has a label has too much
+none-given : (T : Targets) (b : ℕ) → (label T b ≡ nobody → ⊥) → excess T [] b ≡ 0
+unfolding excess has share gives firstMatch
+none-given T b h =
+    let other : eqb nobody (label T b) ≡ false = ne-eqb nobody (label T b) (λ e. h (sym e)) in
+    let none : share (T .k) [] (label T b) ≡ 0 =
+    ap (λ (t : Bool). countTo (2 ^ (T .k)) (λ s. t)) other ∙ count-const (2 ^ (T .k)) false in
+    omega (arith, ap (λ (a : ℕ). a * T .unit) none, zero-mul (T .unit))
+
+-- the stair before any rule
+pub stair-none : (F : Frame) (rs : List Rule) → Labelled (F .targets) → stair F 0 rs ≡ 0
+unfolding stair oldest imbalance
+stair-none F rs labelled =
+    let all : length rs - 0 ≡ length rs = omega arith in
+    ap (λ (n : ℕ). imbalance (F .targets) (drop n rs)) all
+    ∙ ap (imbalance (F .targets)) (drop-length rs)
+    ∙ sum-zero (backends (F .targets)) (excess (F .targets) []) (λ b l. none-given (F .targets) b (labelled b l))
+
+made-labelled : (k tolerance : ℕ) (ws : List ℕ) → Labelled (frameMade k tolerance ws .targets)
+unfolding frameMade frame backends label
+made-labelled k tolerance ws = numbers-labelled (length ws)
 
 length-stairs : (F : Frame) (rs : List Rule) (c : ℕ) → length (stairsTo F rs c) ≡ c
 unfolding stairsTo
@@ -95,49 +125,58 @@ length-column f rs = length-map (reverse rs) f ∙ length-reverse rs
 
 -- the list of service s, whose weights are ws, as it is stored
 pub record Entry (k tolerance : ℕ) (ws : List ℕ) (s : ℕ) (lens values backends stairs counts ends : List ℕ) : Type 0 where
-  pub len : Column lens s (lensMade k tolerance 32 ws)
-  pub value : Column values s (valuesMade k tolerance 32 ws)
-  pub backend : Column backends s (backendsMade k tolerance 32 ws)
-  pub stair : Column stairs s (stairsMade k tolerance 32 ws)
-  pub count : getD counts s 0 ≡ recordMade k tolerance 32 ws .rules
-  pub ended : getD ends s 0 ≡ endNumber (recordMade k tolerance 32 ws .ended)
+  pub len : Column lens s (lensMade k tolerance mostRules ws)
+  pub value : Column values s (valuesMade k tolerance mostRules ws)
+  pub backend : Column backends s (backendsMade k tolerance mostRules ws)
+  pub none : getD stairs (stride * s) 0 ≡ 0
+  pub stair : Column stairs s (stairsMade k tolerance mostRules ws)
+  pub count : getD counts s 0 ≡ recordMade k tolerance mostRules ws .rules
+  pub ended : getD ends s 0 ≡ endNumber (recordMade k tolerance mostRules ws .ended)
 
 entry-made :
     (k tolerance : ℕ) (ws : List ℕ) (s : ℕ) (lens values backends stairs counts ends : List ℕ)
-    → 32 * s + 32 ≤ min (min (length lens) (length values)) (min (length backends) (length stairs))
+    → placeOf s 1 + mostRules ≤ min (min (length lens) (length values)) (min (length backends) (length stairs))
     → s < min (length counts) (length ends)
-    → Entry k tolerance ws s (sets lens (32 * s) (lensMade k tolerance 32 ws))
-    (sets values (32 * s) (valuesMade k tolerance 32 ws)) (sets backends (32 * s) (backendsMade k tolerance 32 ws))
-    (sets stairs (32 * s) (stairsMade k tolerance 32 ws)) (set counts s (recordMade k tolerance 32 ws .rules))
-    (set ends s (endNumber (recordMade k tolerance 32 ws .ended)))
+    → Entry k tolerance ws s (sets lens (placeOf s 1) (lensMade k tolerance mostRules ws))
+    (sets values (placeOf s 1) (valuesMade k tolerance mostRules ws))
+    (sets backends (placeOf s 1) (backendsMade k tolerance mostRules ws))
+    (set (sets stairs (placeOf s 1) (stairsMade k tolerance mostRules ws)) (stride * s) 0)
+    (set counts s (recordMade k tolerance mostRules ws .rules))
+    (set ends s (endNumber (recordMade k tolerance mostRules ws .ended)))
 unfolding lensMade valuesMade backendsMade stairsMade
 entry-made k tolerance ws s lens values backends stairs counts ends fits room =
-    let rs = listMade k tolerance 32 ws in
-    let few : length rs ≤ 32 = list-few k tolerance ws in
+    let rs = listMade k tolerance mostRules ws in
+    let few : length rs ≤ mostRules = list-few k tolerance ws in
+    let long : length (stairsMade k tolerance mostRules ws) ≡ length rs =
+    length-stairs (frameMade k tolerance ws) rs (length rs) in
     record {
-      len = column-made lens (lensMade k tolerance 32 ws) s (omega (arith, length-column (λ (r : Rule). r .len) rs));
-      value = column-made values (valuesMade k tolerance 32 ws) s (omega (arith, length-column (λ (r : Rule). r .value) rs));
-      backend = column-made backends (backendsMade k tolerance 32 ws) s (omega (arith, length-column (λ (r : Rule). r .backend) rs));
-      stair = column-made stairs (stairsMade k tolerance 32 ws) s (omega (arith, length-stairs (frame k unit tolerance ws) rs (length rs)));
-      count = getD-set-same counts s (recordMade k tolerance 32 ws .rules) 0 (omega arith);
-      ended = getD-set-same ends s (endNumber (recordMade k tolerance 32 ws .ended)) 0 (omega arith);
+      len = column-made lens (lensMade k tolerance mostRules ws) s (omega (arith, length-column (λ (r : Rule). r .len) rs));
+      value = column-made values (valuesMade k tolerance mostRules ws) s (omega (arith, length-column (λ (r : Rule). r .value) rs));
+      backend = column-made backends (backendsMade k tolerance mostRules ws) s (omega (arith, length-column (λ (r : Rule). r .backend) rs));
+      none = getD-set-same (sets stairs (placeOf s 1) (stairsMade k tolerance mostRules ws)) (stride * s) 0 0 (omega (arith, length-sets stairs (placeOf s 1) (stairsMade k tolerance mostRules ws)));
+      stair = column-other (sets stairs (placeOf s 1) (stairsMade k tolerance mostRules ws)) (stairsMade k tolerance mostRules ws) s s 0 (omega arith) (omega arith) (column-made stairs (stairsMade k tolerance mostRules ws) s (omega arith));
+      count = getD-set-same counts s (recordMade k tolerance mostRules ws .rules) 0 (omega arith);
+      ended = getD-set-same ends s (endNumber (recordMade k tolerance mostRules ws .ended)) 0 (omega arith);
     }
 
 -- a list stored for a later service t
 entry-kept :
-    (k tolerance : ℕ) (ws : List ℕ) (s t : ℕ) (lens values backends stairs counts ends a b d e : List ℕ) (x y : ℕ)
+    (k tolerance : ℕ) (ws : List ℕ) (s t : ℕ) (lens values backends stairs counts ends a b d e : List ℕ) (x y z : ℕ)
     → s < t → Entry k tolerance ws s lens values backends stairs counts ends
-    → Entry k tolerance ws s (sets lens (32 * t) a) (sets values (32 * t) b) (sets backends (32 * t) d)
-    (sets stairs (32 * t) e) (set counts t x) (set ends t y)
+    → Entry k tolerance ws s (sets lens (placeOf t 1) a) (sets values (placeOf t 1) b) (sets backends (placeOf t 1) d)
+    (set (sets stairs (placeOf t 1) e) (stride * t) z) (set counts t x) (set ends t y)
 unfolding lensMade valuesMade backendsMade stairsMade
-entry-kept k tolerance ws s t lens values backends stairs counts ends a b d e x y h E =
-    let rs = listMade k tolerance 32 ws in
-    let few : length rs ≤ 32 = list-few k tolerance ws in
+entry-kept k tolerance ws s t lens values backends stairs counts ends a b d e x y z h E =
+    let rs = listMade k tolerance mostRules ws in
+    let few : length rs ≤ mostRules = list-few k tolerance ws in
+    let long : length (stairsMade k tolerance mostRules ws) ≡ length rs =
+    length-stairs (frameMade k tolerance ws) rs (length rs) in
     record {
-      len = column-kept lens (lensMade k tolerance 32 ws) a s t h (omega (arith, length-column (λ (r : Rule). r .len) rs)) (E .len);
-      value = column-kept values (valuesMade k tolerance 32 ws) b s t h (omega (arith, length-column (λ (r : Rule). r .value) rs)) (E .value);
-      backend = column-kept backends (backendsMade k tolerance 32 ws) d s t h (omega (arith, length-column (λ (r : Rule). r .backend) rs)) (E .backend);
-      stair = column-kept stairs (stairsMade k tolerance 32 ws) e s t h (omega (arith, length-stairs (frame k unit tolerance ws) rs (length rs))) (E .stair);
+      len = column-kept lens (lensMade k tolerance mostRules ws) a s t h (omega (arith, length-column (λ (r : Rule). r .len) rs)) (E .len);
+      value = column-kept values (valuesMade k tolerance mostRules ws) b s t h (omega (arith, length-column (λ (r : Rule). r .value) rs)) (E .value);
+      backend = column-kept backends (backendsMade k tolerance mostRules ws) d s t h (omega (arith, length-column (λ (r : Rule). r .backend) rs)) (E .backend);
+      none = getD-set-other (sets stairs (placeOf t 1) e) (stride * t) (stride * s) z 0 (λ p. omega arith) ∙ sets-below stairs e (placeOf t 1) (stride * s) (omega arith) ∙ E .none;
+      stair = column-other (sets stairs (placeOf t 1) e) (stairsMade k tolerance mostRules ws) s t z (omega arith) (omega arith) (column-kept stairs (stairsMade k tolerance mostRules ws) e s t h (omega arith) (E .stair));
       count = getD-set-other counts t s x 0 (λ p. omega arith) ∙ E .count;
       ended = getD-set-other ends t s y 0 (λ p. omega arith) ∙ E .ended;
     }
@@ -158,42 +197,42 @@ entries-none k tolerance sizes ws lens values backends stairs counts ends = reco
 
 -- a call of the expansion that passes its checks and has the room makes the list
 made-answer :
-    (k tolerance : ℕ) (ws : List ℕ) (at room : ℕ) → checkCall k tolerance 32 ws ≡ Passed → at + 32 ≤ room
-    → answer k tolerance 32 ws at room ≡ Made (recordMade k tolerance 32 ws)
+    (k tolerance : ℕ) (ws : List ℕ) (at room : ℕ) → checkCall k tolerance mostRules ws ≡ Passed → at + mostRules ≤ room
+    → answer k tolerance mostRules ws at room ≡ Made (recordMade k tolerance mostRules ws)
 unfolding answer
 made-answer k tolerance ws at room passed fits =
     simp (
       passed,
-      le-leb (at + length (listMade k tolerance 32 ws)) room (omega (arith, list-few k tolerance ws)),
+      le-leb (at + length (listMade k tolerance mostRules ws)) room (omega (arith, list-few k tolerance ws)),
     )
 
 -- one list more, as the expansion answers for the weights of service s
 module _ (k tolerance : ℕ) (sizes ws : List ℕ) (s : ℕ) (lens values backends stairs : List ℕ)
-    (passed : checkCall k tolerance 32 (part sizes ws s) ≡ Passed)
-    (fits : 32 * s + 32 ≤ min (min (length lens) (length values)) (min (length backends) (length stairs)))
+    (passed : checkCall k tolerance mostRules (part sizes ws s) ≡ Passed)
+    (fits : placeOf s 1 + mostRules ≤ min (min (length lens) (length values)) (min (length backends) (length stairs)))
     (own : List ℕ) (is : own ≡ part sizes ws s) (r : Expanded)
-    (told : r ≡ answer k tolerance 32 own (32 * s) (min (min (length lens) (length values)) (min (length backends) (length stairs)))) where
-  pub made : r ≡ Made (recordMade k tolerance 32 (part sizes ws s))
+    (answered : r ≡ answer k tolerance mostRules own (placeOf s 1) (min (min (length lens) (length values)) (min (length backends) (length stairs)))) where
+  pub made : r ≡ Made (recordMade k tolerance mostRules (part sizes ws s))
   made =
-      told
-      ∙ rw is (made-answer k tolerance (part sizes ws s) (32 * s) (min (min (length lens) (length values)) (min (length backends) (length stairs))) passed fits)
+      answered
+      ∙ rw is (made-answer k tolerance (part sizes ws s) (placeOf s 1) (min (min (length lens) (length values)) (min (length backends) (length stairs))) passed fits)
 
   pub entries-more :
       (m : Record) → r ≡ Made m → (counts ends : List ℕ) → s < min (length counts) (length ends)
       → Entries k tolerance sizes ws s lens values backends stairs counts ends
       → (lens′ values′ backends′ stairs′ : List ℕ)
-      → lens′ ≡ filled r lens (32 * s) (lensMade k tolerance 32 own)
-      → values′ ≡ filled r values (32 * s) (valuesMade k tolerance 32 own)
-      → backends′ ≡ filled r backends (32 * s) (backendsMade k tolerance 32 own)
-      → stairs′ ≡ filled r stairs (32 * s) (stairsMade k tolerance 32 own)
-      → Entries k tolerance sizes ws (s + 1) lens′ values′ backends′ stairs′ (set counts s (m .rules)) (set ends s (endNumber (m .ended)))
+      → lens′ ≡ filled r lens (placeOf s 1) (lensMade k tolerance mostRules own)
+      → values′ ≡ filled r values (placeOf s 1) (valuesMade k tolerance mostRules own)
+      → backends′ ≡ filled r backends (placeOf s 1) (backendsMade k tolerance mostRules own)
+      → stairs′ ≡ filled r stairs (placeOf s 1) (stairsMade k tolerance mostRules own)
+      → Entries k tolerance sizes ws (s + 1) lens′ values′ backends′ (set stairs′ (stride * s) 0) (set counts s (m .rules)) (set ends s (endNumber (m .ended)))
   entries-more m e counts ends room E lens′ values′ backends′ stairs′ p q u v =
       let ws′ = part sizes ws s in
-      let same : m ≡ recordMade k tolerance 32 ws′ = cc made in
-      let p′ : lens′ ≡ sets lens (32 * s) (lensMade k tolerance 32 ws′) = rw (made, is) at p in
-      let q′ : values′ ≡ sets values (32 * s) (valuesMade k tolerance 32 ws′) = rw (made, is) at q in
-      let u′ : backends′ ≡ sets backends (32 * s) (backendsMade k tolerance 32 ws′) = rw (made, is) at u in
-      let v′ : stairs′ ≡ sets stairs (32 * s) (stairsMade k tolerance 32 ws′) = rw (made, is) at v in
+      let same : m ≡ recordMade k tolerance mostRules ws′ = cc made in
+      let p′ : lens′ ≡ sets lens (placeOf s 1) (lensMade k tolerance mostRules ws′) = rw (made, is) at p in
+      let q′ : values′ ≡ sets values (placeOf s 1) (valuesMade k tolerance mostRules ws′) = rw (made, is) at q in
+      let u′ : backends′ ≡ sets backends (placeOf s 1) (backendsMade k tolerance mostRules ws′) = rw (made, is) at u in
+      let v′ : stairs′ ≡ sets stairs (placeOf s 1) (stairsMade k tolerance mostRules ws′) = rw (made, is) at v in
       rw (same, p′, q′, u′, v′) (record { each = λ t l. go t l (ℕ-discrete t s) })
     where
       ws′ : List ℕ
@@ -201,52 +240,66 @@ module _ (k tolerance : ℕ) (sizes ws : List ℕ) (s : ℕ) (lens values backen
 
       go :
           (t : ℕ) → t < s + 1 → Dec (t ≡ s)
-          → Entry k tolerance (part sizes ws t) t (sets lens (32 * s) (lensMade k tolerance 32 ws′))
-          (sets values (32 * s) (valuesMade k tolerance 32 ws′)) (sets backends (32 * s) (backendsMade k tolerance 32 ws′))
-          (sets stairs (32 * s) (stairsMade k tolerance 32 ws′)) (set counts s (recordMade k tolerance 32 ws′ .rules))
-          (set ends s (endNumber (recordMade k tolerance 32 ws′ .ended)))
+          → Entry k tolerance (part sizes ws t) t (sets lens (placeOf s 1) (lensMade k tolerance mostRules ws′))
+          (sets values (placeOf s 1) (valuesMade k tolerance mostRules ws′)) (sets backends (placeOf s 1) (backendsMade k tolerance mostRules ws′))
+          (set (sets stairs (placeOf s 1) (stairsMade k tolerance mostRules ws′)) (stride * s) 0) (set counts s (recordMade k tolerance mostRules ws′ .rules))
+          (set ends s (endNumber (recordMade k tolerance mostRules ws′ .ended)))
       go t l (yes e) = rw e (entry-made k tolerance ws′ s lens values backends stairs counts ends fits room)
       go t l (no d) =
-          entry-kept k tolerance (part sizes ws t) t s lens values backends stairs counts ends (lensMade k tolerance 32 ws′)
-          (valuesMade k tolerance 32 ws′) (backendsMade k tolerance 32 ws′) (stairsMade k tolerance 32 ws′)
-          (recordMade k tolerance 32 ws′ .rules) (endNumber (recordMade k tolerance 32 ws′ .ended)) (omega arith) (E .each t (omega arith))
+          entry-kept k tolerance (part sizes ws t) t s lens values backends stairs counts ends (lensMade k tolerance mostRules ws′)
+          (valuesMade k tolerance mostRules ws′) (backendsMade k tolerance mostRules ws′) (stairsMade k tolerance mostRules ws′)
+          (recordMade k tolerance mostRules ws′ .rules) (endNumber (recordMade k tolerance mostRules ws′ .ended)) 0 (omega arith) (E .each t (omega arith))
 
 -- so service s has the list of the definitions
 module _ (k tolerance : ℕ) (volumes sizes ws : List ℕ) (s : ℕ) (inside : s < length sizes) where
-  frame-of : frameOf (servicesOf k volumes sizes ws) tolerance s ≡ frame k unit tolerance (part sizes ws s)
-  unfolding frameOf servicesOf weightsOf part
-  frame-of = ap (frame k unit tolerance) (chunk-at sizes ws s inside)
+  frame-of : frameOf (servicesOf k volumes sizes ws) tolerance s ≡ frameMade k tolerance (part sizes ws s)
+  unfolding frameOf servicesOf targetsOf part frameMade
+  frame-of = ap₂ (frame k unit tolerance) (labels-at sizes ws s inside) (chunk-at sizes ws s inside)
 
-  list-of : listFor (servicesOf k volumes sizes ws) tolerance s ≡ listMade k tolerance 32 (part sizes ws s)
+  list-of : listFor (servicesOf k volumes sizes ws) tolerance s ≡ listMade k tolerance mostRules (part sizes ws s)
   unfolding listFor ruleBudget listMade
-  list-of = ap (λ (F : Frame). listOf F 32) frame-of
+  list-of = ap (λ (F : Frame). listOf F mostRules) frame-of
 
   -- one column of its rules
   column-of :
       (f : Rule → ℕ) → f noRule ≡ 0 → (l : List ℕ)
-      → Column l s (map f (reverse (listMade k tolerance 32 (part sizes ws s)))) → (j : ℕ)
+      → Column l s (map f (reverse (listMade k tolerance mostRules (part sizes ws s)))) → (j : ℕ)
       → j < length (listFor (servicesOf k volumes sizes ws) tolerance s)
-      → getD l (32 * s + j) 0 ≡ f (ruleAt (servicesOf k volumes sizes ws) tolerance s j)
+      → getD l (placeOf s (suc j)) 0 ≡ f (ruleAt (servicesOf k volumes sizes ws) tolerance s j)
   unfolding ruleAt
   column-of f e l C j h =
-      let rs = listMade k tolerance 32 (part sizes ws s) in
+      let rs = listMade k tolerance mostRules (part sizes ws s) in
       C .at j (omega (arith, ap length list-of, length-column f rs))
       ∙ rule-at f e rs j
       ∙ ap (λ (x : List Rule). f (getD (reverse x) j noRule)) (sym list-of)
 
   stairs-of :
-      (l : List ℕ) → Column l s (stairsMade k tolerance 32 (part sizes ws s)) → (j : ℕ)
+      (l : List ℕ) → Column l s (stairsMade k tolerance mostRules (part sizes ws s)) → (j : ℕ)
       → j < length (listFor (servicesOf k volumes sizes ws) tolerance s)
-      → getD l (32 * s + j) 0
+      → getD l (placeOf s (suc j)) 0
       ≡ stair (frameOf (servicesOf k volumes sizes ws) tolerance s) (suc j) (listFor (servicesOf k volumes sizes ws) tolerance s)
   unfolding stairsMade
   stairs-of l C j h =
-      let F = frame k unit tolerance (part sizes ws s) in
-      let rs = listMade k tolerance 32 (part sizes ws s) in
+      let F = frameMade k tolerance (part sizes ws s) in
+      let rs = listMade k tolerance mostRules (part sizes ws s) in
       let inside : j < length rs = omega (arith, ap length list-of) in
       C .at j (omega (arith, length-stairs F rs (length rs)))
       ∙ stairs-at F rs (length rs) j inside
       ∙ ap₂ (λ (F : Frame) (x : List Rule). stair F (suc j) x) (sym frame-of) (sym list-of)
+
+  -- with that before any rule
+  stairs-from :
+      (l : List ℕ) → getD l (stride * s) 0 ≡ 0 → Column l s (stairsMade k tolerance mostRules (part sizes ws s)) → (c : ℕ)
+      → c ≤ length (listFor (servicesOf k volumes sizes ws) tolerance s)
+      → getD l (placeOf s c) 0
+      ≡ stair (frameOf (servicesOf k volumes sizes ws) tolerance s) c (listFor (servicesOf k volumes sizes ws) tolerance s)
+  stairs-from l e C zero h =
+      let here : placeOf s 0 ≡ stride * s = omega arith in
+      ap (λ (i : ℕ). getD l i 0) here
+      ∙ e
+      ∙ sym (stair-none (frameMade k tolerance (part sizes ws s)) (listMade k tolerance mostRules (part sizes ws s)) (made-labelled k tolerance (part sizes ws s)))
+      ∙ ap₂ (λ (F : Frame) (x : List Rule). stair F 0 x) (sym frame-of) (sym list-of)
+  stairs-from l e C (suc j) h = stairs-of l C j h
 
 -- and so have all
 pub listed :
@@ -259,15 +312,14 @@ listed k tolerance sizes ws n lens values backends stairs counts ends inside E v
     let known : (s : ℕ) → s < length volumes → s < length sizes = λ s l. omega arith in
     let entry : (s : ℕ) → s < length volumes → Entry k tolerance (part sizes ws s) s lens values backends stairs counts ends =
     λ s l. E .each s (omega arith) in
-    let list : (s : ℕ) → s < length volumes → listFor S tolerance s ≡ listMade k tolerance 32 (part sizes ws s) =
+    let list : (s : ℕ) → s < length volumes → listFor S tolerance s ≡ listMade k tolerance mostRules (part sizes ws s) =
     λ s l. list-of k tolerance volumes sizes ws s (known s l) in
     record {
       stepped =
           record {
             count = λ s l. entry s l .count ∙ ap length (sym (list s l));
-            some = λ s l. omega (arith, ap length (list s l), list-some k tolerance (part sizes ws s));
             few = λ s l. omega (arith, ap length (list s l), list-few k tolerance (part sizes ws s));
-            step = λ s j l. stairs-of k tolerance volumes sizes ws s (known s l) stairs (entry s l .stair) j;
+            step = λ s c l. stairs-from k tolerance volumes sizes ws s (known s l) stairs (entry s l .none) (entry s l .stair) c;
           };
       ended =
           λ s l. entry s l .ended ∙ ap₂ (λ (F : Frame) (x : List Rule). endNumber (endOf F x)) (sym (frame-of k tolerance volumes sizes ws s (known s l))) (sym (list s l));

@@ -9,7 +9,8 @@ use native.Mathlib.Omega.{arith}
 use lib.ListN.{length, getD, set, length-append}
 use lib.Seq.{sets}
 use Rattle.numerals.specs.Sums.{sumTo}
-use Rattle.packing.specs.Stored.{storedFigures, storedCells, storedTable}
+use Rattle.packing.specs.Inner.Lists.{placeOf}
+use Rattle.packing.specs.Inner.Stored.{storedFigures, storedCells, storedTable}
 
 -- a run after another one
 pub sets-append : (l : List ℕ) (i : ℕ) (a b : List ℕ) → sets l i (a ++ b) ≡ sets (sets l i a) (i + length a) b
@@ -54,42 +55,43 @@ module _ (lens values backends : List ℕ) where
   length-cells s (suc c) = omega (arith, length-cells s c)
 
   pub length-stored :
-      (grants : List ℕ) (n : ℕ)
-      → length (storedTable grants lens values backends n) ≡ 4 * sumTo n (λ s. getD grants s 0)
+      (lines : ℕ → ℕ) (n : ℕ) → length (storedTable lines lens values backends n) ≡ 4 * sumTo n lines
   unfolding storedTable sumTo
-  length-stored grants zero = refl
-  length-stored grants (suc n) =
+  length-stored lines zero = refl
+  length-stored lines (suc n) =
       omega (
         arith,
-        length-append (storedTable grants lens values backends n) (storedCells lens values backends n (getD grants n 0)),
-        length-stored grants n,
-        length-cells n (getD grants n 0),
+        length-append (storedTable lines lens values backends n) (storedCells lens values backends n (lines n)),
+        length-stored lines n,
+        length-cells n (lines n),
       )
 
   -- the cells of one service more
   pub table-more :
-      (out₀ out out′ grants : List ℕ) (n at : ℕ) → out ≡ sets out₀ 0 (storedTable grants lens values backends n)
-      → at ≡ 4 * sumTo n (λ s. getD grants s 0)
-      → out′ ≡ sets out at (storedCells lens values backends n (getD grants n 0))
-      → out′ ≡ sets out₀ 0 (storedTable grants lens values backends (n + 1))
+      (out₀ out out′ : List ℕ) (lines : ℕ → ℕ) (n at : ℕ)
+      → out ≡ sets out₀ 0 (storedTable lines lens values backends n) → at ≡ 4 * sumTo n lines
+      → out′ ≡ sets out at (storedCells lens values backends n (lines n))
+      → out′ ≡ sets out₀ 0 (storedTable lines lens values backends (n + 1))
   unfolding storedTable
-  table-more out₀ out out′ grants n at p here q =
-      let old : List ℕ = storedTable grants lens values backends n in
-      let new : List ℕ = storedCells lens values backends n (getD grants n 0) in
-      let e : at ≡ 0 + length old = omega (arith, length-stored grants n) in
+  table-more out₀ out out′ lines n at p here q =
+      let old : List ℕ = storedTable lines lens values backends n in
+      let new : List ℕ = storedCells lens values backends n (lines n) in
+      let e : at ≡ 0 + length old = omega (arith, length-stored lines n) in
       rw add-one (q ∙ ap₂ (λ (l : List ℕ) (i : ℕ). sets l i new) p e ∙ sym (sets-append out₀ 0 old new))
 
   -- of the lines left of a service, the first is stored, and one less is left
   pub line-more :
-      (out out′ : List ℕ) (i s c from : ℕ) → 0 < c → from ≡ 32 * s + (c - 1)
-      → out′ ≡ sets (set out i s) (i + 1) (getD lens from 0 ∷ getD values from 0 ∷ getD backends from 0 ∷ [])
+      (out out′ : List ℕ) (i s c from : ℕ) → 0 < c → from ≡ placeOf s c
+      → out′ ≡ sets (set out i (s + 1)) (i + 1) (getD lens from 0 ∷ getD values from 0 ∷ getD backends from 0 ∷ [])
       → sets out i (storedCells lens values backends s c) ≡ sets out′ (i + 4) (storedCells lens values backends s (c - 1))
   unfolding storedCells
   line-more out out′ i s zero from l e p = absurd (omega arith)
   line-more out out′ i s (suc c) from l e p =
       let four : i + 4 ≡ suc (suc (suc (suc i))) = omega arith in
+      let number : s + 1 ≡ suc s = omega arith in
+      let next : i + 1 ≡ suc i = omega arith in
       let less : suc c - 1 ≡ c = omega arith in
-      rw (p, e, four, add-one, less)
+      rw (p, e, four, number, next, less)
 
   pub none-left : (out : List ℕ) (i s c : ℕ) → c ≡ 0 → sets out i (storedCells lens values backends s c) ≡ out
   unfolding storedCells

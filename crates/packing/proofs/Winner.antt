@@ -8,7 +8,7 @@ use lib.ListN.{length, getD, set, replicate, length-set, length-replicate, getD-
 use lib.Seq.{getD-set-same, getD-set-other}
 use Rattle.numerals.specs.Sums.{argmax}
 use Rattle.numerals.proofs.Searches.{IsArgmax, argmax-is, argmax-unique}
-use Rattle.packing.specs.Tournament.{greaterChild, Tournament, Replaced, keyOf, Entered}
+use Rattle.packing.specs.Inner.Tournament.{leaves, nodes, greaterChild, Tournament, Replaced, keyOf, Entered}
 
 -- a store elsewhere leaves a node as it was
 kept :
@@ -22,35 +22,35 @@ kept tree j v p a b c h =
 
 -- while nodes are filled anew: i was stored last, and only its parent may be wrong; the leaves are those of the start
 pub record Refilling (start : List ℕ) (i : ℕ) (tree : List ℕ) : Type 0 where
-  pub places : length tree ≡ 128
+  pub places : length tree ≡ nodes
   pub low : 0 < i
-  pub high : i < 128
+  pub high : i < nodes
   pub node :
-      (p : ℕ) → 0 < p → p < 64 → (2 * p ≡ i → ⊥) → (2 * p + 1 ≡ i → ⊥)
+      (p : ℕ) → 0 < p → p < leaves → (2 * p ≡ i → ⊥) → (2 * p + 1 ≡ i → ⊥)
       → getD tree p 0 ≡ greaterChild tree p
-  pub leaves : (s : ℕ) → getD tree (64 + s) 0 ≡ getD start (64 + s) 0
+  pub keys : (s : ℕ) → getD tree (leaves + s) 0 ≡ getD start (leaves + s) 0
 
-module _ {before : List ℕ} (h : Tournament before) (s key : ℕ) (l : s < 64) where
-  pub refill-first : Refilling (set before (64 + s) key) (64 + s) (set before (64 + s) key)
+module _ {before : List ℕ} (h : Tournament before) (s key : ℕ) (l : s < leaves) where
+  pub refill-first : Refilling (set before (leaves + s) key) (leaves + s) (set before (leaves + s) key)
   refill-first =
       record {
-        places = length-set before (64 + s) key ∙ h .places;
+        places = length-set before (leaves + s) key ∙ h .places;
         low = omega arith;
         high = omega arith;
-        node = λ p a b c d. kept before (64 + s) key p (λ e. omega arith) c d (h .node p a b);
-        leaves = λ _. refl;
+        node = λ p a b c d. kept before (leaves + s) key p (λ e. omega arith) c d (h .node p a b);
+        keys = λ _. refl;
       }
 
   -- the root has no parent
-  pub refill-last : (i : ℕ) (tree : List ℕ) → Refilling (set before (64 + s) key) i tree → i ≤ 1 → Replaced before s key tree
+  pub refill-last : (i : ℕ) (tree : List ℕ) → Refilling (set before (leaves + s) key) i tree → i ≤ 1 → Replaced before s key tree
   refill-last i tree c m =
       record {
         tournament = record {
           places = c .places;
           node = λ p a b. c .node p a b (λ e. omega arith) (λ e. omega arith);
         };
-        here = c .leaves s ∙ getD-set-same before (64 + s) key 0 (omega (arith, h .places));
-        others = λ t _ d. c .leaves t ∙ getD-set-other before (64 + s) (64 + t) key 0 (λ e. d (omega arith));
+        here = c .keys s ∙ getD-set-same before (leaves + s) key 0 (omega (arith, h .places));
+        others = λ t _ d. c .keys t ∙ getD-set-other before (leaves + s) (leaves + t) key 0 (λ e. d (omega arith));
       }
 
 -- the parent is filled
@@ -63,14 +63,14 @@ refill-more start i tree h l =
       low = omega arith;
       high = omega (arith, h .high);
       node = λ p a b c d. go p a b c d (ℕ-discrete p (i / 2));
-      leaves = λ s. getD-set-other tree (i / 2) (64 + s) v 0 (λ e. omega (arith, h .high)) ∙ h .leaves s;
+      keys = λ s. getD-set-other tree (i / 2) (leaves + s) v 0 (λ e. omega (arith, h .high)) ∙ h .keys s;
     }
   where
     v : ℕ
     v = greaterChild tree (i / 2)
 
     go :
-        (p : ℕ) → 0 < p → p < 64 → (2 * p ≡ i / 2 → ⊥) → (2 * p + 1 ≡ i / 2 → ⊥) → Dec (p ≡ i / 2)
+        (p : ℕ) → 0 < p → p < leaves → (2 * p ≡ i / 2 → ⊥) → (2 * p + 1 ≡ i / 2 → ⊥) → Dec (p ≡ i / 2)
         → getD (set tree (i / 2) v) p 0 ≡ greaterChild (set tree (i / 2) v) p
     go p a b c d (yes e) =
         ap (λ (j : ℕ). getD (set tree (i / 2) v) j 0) e
@@ -80,24 +80,24 @@ refill-more start i tree h l =
     go p a b c d (no e) = kept tree (i / 2) v p e c d (h .node p a b (λ x. e (omega arith)) (λ x. e (omega arith)))
 
 -- without a service every key is 0
-pub entered-none : (f : ℕ → ℕ) → Entered f 0 (replicate 128 0)
+pub entered-none : (f : ℕ → ℕ) → Entered f 0 (replicate nodes 0)
 entered-none f =
     record {
       tournament = record {
-        places = length-replicate {A = ℕ} 128 0;
+        places = length-replicate {A = ℕ} nodes 0;
         node = λ i a b. zeros i (omega arith) ∙ sym (ap₂ max (zeros (2 * i) (omega arith)) (zeros (2 * i + 1) (omega arith)));
       };
       key = λ s l. absurd (omega arith);
-      none = λ s _ l. zeros (64 + s) (omega arith);
+      none = λ s _ l. zeros (leaves + s) (omega arith);
     }
   where
-    zeros : (i : ℕ) → i < 128 → _≡_ {A = ℕ} (getD (replicate 128 0) i 0) 0
-    zeros i l = getD-replicate 128 i 0 0 l
+    zeros : (i : ℕ) → i < nodes → _≡_ {A = ℕ} (getD (replicate nodes 0) i 0) 0
+    zeros i l = getD-replicate nodes i 0 0 l
 
 -- a service enters, or enters again with another saving
 pub entered-one :
     (f g : ℕ → ℕ) (n m s : ℕ) (before tree : List ℕ) → Entered f n before → Replaced before s (keyOf (g s) s) tree
-    → n ≤ m → m ≤ 64 → s < m → ((i : ℕ) → i < m → (i ≡ s → ⊥) → (i < n) × (g i ≡ f i)) → Entered g m tree
+    → n ≤ m → m ≤ leaves → s < m → ((i : ℕ) → i < m → (i ≡ s → ⊥) → (i < n) × (g i ≡ f i)) → Entered g m tree
 entered-one f g n m s before tree h r a b l same =
     record {
       tournament = r .tournament;
@@ -105,8 +105,8 @@ entered-one f g n m s before tree h r a b l same =
       none = λ i k c. r .others i c (λ e. omega arith) ∙ h .none i (omega arith) c;
     }
   where
-    go : (i : ℕ) → i < m → Dec (i ≡ s) → getD tree (64 + i) 0 ≡ keyOf (g i) i
-    go i k (yes e) = ap (λ (j : ℕ). getD tree (64 + j) 0) e ∙ r .here ∙ ap (λ (j : ℕ). keyOf (g j) j) (sym e)
+    go : (i : ℕ) → i < m → Dec (i ≡ s) → getD tree (leaves + i) 0 ≡ keyOf (g i) i
+    go i k (yes e) = ap (λ (j : ℕ). getD tree (leaves + j) 0) e ∙ r .here ∙ ap (λ (j : ℕ). keyOf (g j) j) (sym e)
     go i k (no d) =
         r .others i (omega arith) d
         ∙ h .key i (same i k d .0)
@@ -115,12 +115,12 @@ entered-one f g n m s before tree h r a b l same =
 -- a key that some leaf has
 record Leaf (tree : List ℕ) (v : ℕ) : Type 0 where
   leaf : ℕ
-  inside : leaf < 64
-  is : v ≡ getD tree (64 + leaf) 0
+  inside : leaf < leaves
+  is : v ≡ getD tree (leaves + leaf) 0
 
 module _ {tree : List ℕ} (h : Tournament tree) where
   -- no node holds more than the root
-  below-root : (d i : ℕ) → i ≤ d → 0 < i → i < 128 → getD tree i 0 ≤ getD tree 1 0
+  below-root : (d i : ℕ) → i ≤ d → 0 < i → i < nodes → getD tree i 0 ≤ getD tree 1 0
   below-root zero i a b c = absurd (omega arith)
   below-root (suc d) i a b c = go (ℕ-discrete i 1) (below-root d (i / 2))
     where
@@ -130,20 +130,20 @@ module _ {tree : List ℕ} (h : Tournament tree) where
           let o : i ≡ 2 * (i / 2) + 1 = omega arith in
           omega (arith, h .node (i / 2) (omega arith) (omega arith), ap (λ (j : ℕ). getD tree j 0) o)
 
-      go : Dec (i ≡ 1) → (i / 2 ≤ d → 0 < i / 2 → i / 2 < 128 → getD tree (i / 2) 0 ≤ getD tree 1 0) → getD tree i 0 ≤ getD tree 1 0
+      go : Dec (i ≡ 1) → (i / 2 ≤ d → 0 < i / 2 → i / 2 < nodes → getD tree (i / 2) 0 ≤ getD tree 1 0) → getD tree i 0 ≤ getD tree 1 0
       go (yes e) ih = omega (arith, ap (λ (j : ℕ). getD tree j 0) e)
       go (no e) ih =
           omega (arith, up (ℕ-discrete i (2 * (i / 2))) (omega arith), ih (omega arith) (omega arith) (omega arith))
 
   -- every node holds the key of some leaf
-  from-leaf : (d i : ℕ) → 128 ≤ i + d → 0 < i → i < 128 → Leaf tree (getD tree i 0)
+  from-leaf : (d i : ℕ) → nodes ≤ i + d → 0 < i → i < nodes → Leaf tree (getD tree i 0)
   from-leaf zero i a b c = absurd (omega arith)
-  from-leaf (suc d) i a b c = go (decLt i 64) (from-leaf d)
+  from-leaf (suc d) i a b c = go (decLt i leaves) (from-leaf d)
     where
       Below : Type 0
-      Below = (j : ℕ) → 128 ≤ j + d → 0 < j → j < 128 → Leaf tree (getD tree j 0)
+      Below = (j : ℕ) → nodes ≤ j + d → 0 < j → j < nodes → Leaf tree (getD tree j 0)
 
-      down : i < 64 → Below → Dec (getD tree (2 * i) 0 ≤ getD tree (2 * i + 1) 0) → Leaf tree (getD tree i 0)
+      down : i < leaves → Below → Dec (getD tree (2 * i) 0 ≤ getD tree (2 * i + 1) 0) → Leaf tree (getD tree i 0)
       down l ih (yes m) =
           let p = ih (2 * i + 1) (omega arith) (omega arith) (omega arith) in
           record { leaf = p .leaf; inside = p .inside; is = omega (arith, h .node i b l, p .is) }
@@ -151,11 +151,11 @@ module _ {tree : List ℕ} (h : Tournament tree) where
           let p = ih (2 * i) (omega arith) (omega arith) (omega arith) in
           record { leaf = p .leaf; inside = p .inside; is = omega (arith, h .node i b l, p .is) }
 
-      go : Dec (i < 64) → Below → Leaf tree (getD tree i 0)
+      go : Dec (i < leaves) → Below → Leaf tree (getD tree i 0)
       go (yes l) ih = down l ih (decLe (getD tree (2 * i) 0) (getD tree (2 * i + 1) 0))
       go (no l) ih =
-          let e : i ≡ 64 + (i - 64) = omega arith in
-          record { leaf = i - 64; inside = omega arith; is = ap (λ (j : ℕ). getD tree j 0) e }
+          let e : i ≡ leaves + (i - leaves) = omega arith in
+          record { leaf = i - leaves; inside = omega arith; is = ap (λ (j : ℕ). getD tree j 0) e }
 
 -- the place of the greatest value, the lowest if equal, and that value
 pub record Greatest (f : ℕ → ℕ) (n i v : ℕ) : Type 0 where
@@ -164,15 +164,15 @@ pub record Greatest (f : ℕ → ℕ) (n i v : ℕ) : Type 0 where
 
 -- the root has it
 pub winner :
-    (f : ℕ → ℕ) (n : ℕ) (tree : List ℕ) → Entered f n tree → 0 < n → n ≤ 64
-    → Greatest f n (63 - getD tree 1 0 % 64) (getD tree 1 0 / 64)
-winner f n tree h some few = go (from-leaf (h .tournament) 127 1 (omega arith) (omega arith) (omega arith))
+    (f : ℕ → ℕ) (n : ℕ) (tree : List ℕ) → Entered f n tree → 0 < n → n ≤ leaves
+    → Greatest f n (leaves - 1 - getD tree 1 0 % leaves) (getD tree 1 0 / leaves)
+winner f n tree h some few = go (from-leaf (h .tournament) (nodes - 1) 1 (omega arith) (omega arith) (omega arith))
   where
     top : ℕ
     top = getD tree 1 0
 
     most : (i : ℕ) → i < n → keyOf (f i) i ≤ top
-    most i l = omega (arith, h .key i l, below-root (h .tournament) 127 (64 + i) (omega arith) (omega arith) (omega arith))
+    most i l = omega (arith, h .key i l, below-root (h .tournament) (nodes - 1) (leaves + i) (omega arith) (omega arith) (omega arith))
 
     first : (j : ℕ) → j < n → top ≡ keyOf (f j) j → IsArgmax f n j
     first j l e =
@@ -182,17 +182,17 @@ winner f n tree h some few = go (from-leaf (h .tournament) 127 1 (omega arith) (
           lowest = λ i k. omega (arith, most i (omega arith));
         }
 
-    found : (j : ℕ) → j < n → top ≡ keyOf (f j) j → Greatest f n (63 - top % 64) (top / 64)
+    found : (j : ℕ) → j < n → top ≡ keyOf (f j) j → Greatest f n (leaves - 1 - top % leaves) (top / leaves)
     found j l e =
-        let here : 63 - top % 64 ≡ j = omega arith in
+        let here : leaves - 1 - top % leaves ≡ j = omega arith in
         record {
           place = here ∙ argmax-unique f n j (argmax f n) (first j l e) (argmax-is f n some);
           value = omega (arith, ap f here);
         }
 
-    go : Leaf tree top → Greatest f n (63 - top % 64) (top / 64)
+    go : Leaf tree top → Greatest f n (leaves - 1 - top % leaves) (top / leaves)
     go p = by-cases (decLt (p .leaf) n)
       where
-        by-cases : Dec (p .leaf < n) → Greatest f n (63 - top % 64) (top / 64)
+        by-cases : Dec (p .leaf < n) → Greatest f n (leaves - 1 - top % leaves) (top / leaves)
         by-cases (yes l) = found (p .leaf) l (p .is ∙ h .key (p .leaf) l)
         by-cases (no l) = absurd (omega (arith, p .is, h .none (p .leaf) (omega arith) (p .inside), most 0 some))

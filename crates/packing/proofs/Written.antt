@@ -1,26 +1,26 @@
--- What the program writes off its lists is what document 01 says: the figures, and the cells of the packing's table.
-use Prim.Native.Nat.{ℕ, zero, suc, _+_, _*_, _≤_, _<_, min}
+-- The figures and the cells that the program writes off its stored lists are those of document 01.
+use Prim.Native.Nat.{ℕ, zero, suc, _-_, _≤_, _<_, min}
 use mathlib.Core.Path.{_≡_, refl, sym, ap, ap₂, _∙_}
 use mathlib.Core.List.{List, [], _∷_, _++_, reverse, reverse-reverse}
 use native.Mathlib.Omega.{arith}
-use lib.ListN.{length, getD, length-reverse}
+use lib.ListN.{length, getD, drop, length-reverse}
 use lib.Seq.{take-all}
+use Rattle.numerals.specs.Limits.{mostServices}
 use Rattle.numerals.specs.Sums.{sumTo}
 use Rattle.expansion.specs.Steps.{oldest}
-use Rattle.expansion.specs.Kept.{noRule, newestFirst}
+use Rattle.expansion.specs.Inner.Lists.{noRule, newestFirst}
 use Rattle.expansion.specs.declared.rule.Rule.{Rule}
-use Rattle.numerals.proofs.Sums.{sum-ext}
+use Rattle.numerals.proofs.Sums.{sum-ext, sum-le}
 use Rattle.expansion.proofs.Listing.{take-newest, oldest-newest}
 use Rattle.packing.specs.Grants.{Grants}
 use Rattle.packing.specs.Count.{Line, Services, services}
-use Rattle.packing.specs.Table.{listFor, linesOf, tableOf, table, granted}
+use Rattle.packing.specs.Table.{listFor, linesOf, tableOf, table, granted, oneEach}
 use Rattle.packing.specs.Answer.{linesMade, figuresTo, figuresMade, cells}
-use Rattle.packing.specs.Kept.{ruleAt, Listed, Granted}
-use Rattle.packing.specs.Stored.{storedFigures, storedCells, storedTable, Tabled}
+use Rattle.packing.specs.Inner.Lists.{placeOf, ruleAt, Listed, Granted}
+use Rattle.packing.specs.Inner.Stored.{storedLines, storedFigures, storedCells, storedTable, Counted}
 use Rattle.packing.proofs.Tables.{length-table}
-use Rattle.packing.proofs.Meant.{within-list}
 
--- the c oldest rules of a list, told from its reverse
+-- the c oldest rules of a list, by its reverse
 pub oldest-reverse : (rs : List Rule) (c : ℕ) → c ≤ length rs → oldest c rs ≡ newestFirst (reverse rs) c
 oldest-reverse rs c l =
     ap (oldest c) (sym (reverse-reverse rs) ∙ ap reverse whole ∙ reverse-reverse (newestFirst (reverse rs) (length rs)))
@@ -37,13 +37,20 @@ cells-append [] b = refl
 cells-append (l ∷ a) b =
     ap (λ (r : List ℕ). l .service ∷ l .rule .len ∷ l .rule .value ∷ l .rule .backend ∷ r) (cells-append a b)
 
+-- a list cut at its own length is whole
+oldest-cut : (rs : List Rule) (g : ℕ) → oldest (min g (length rs)) rs ≡ oldest g rs
+unfolding oldest
+oldest-cut rs g =
+    let e : length rs - min g (length rs) ≡ length rs - g = omega arith in
+    ap (λ (d : ℕ). drop d rs) e
+
 -- the cells of c rules of a listing
 cells-of :
     (lens values backends : List ℕ) (rs : List Rule) (s c : ℕ)
-    → ((j : ℕ) → j < c → getD lens (32 * s + j) 0 ≡ getD rs j noRule .len)
-    → ((j : ℕ) → j < c → getD values (32 * s + j) 0 ≡ getD rs j noRule .value)
-    → ((j : ℕ) → j < c → getD backends (32 * s + j) 0 ≡ getD rs j noRule .backend)
-    → storedCells lens values backends s c ≡ cells (linesOf s (newestFirst rs c))
+    → ((j : ℕ) → j < c → getD lens (placeOf s (suc j)) 0 ≡ getD rs j noRule .len)
+    → ((j : ℕ) → j < c → getD values (placeOf s (suc j)) 0 ≡ getD rs j noRule .value)
+    → ((j : ℕ) → j < c → getD backends (placeOf s (suc j)) 0 ≡ getD rs j noRule .backend)
+    → storedCells lens values backends s c ≡ cells (linesOf (suc s) (newestFirst rs c))
 unfolding storedCells cells linesOf newestFirst
 cells-of lens values backends rs s zero p q r = refl
 cells-of lens values backends rs s (suc c) p q r =
@@ -52,28 +59,43 @@ cells-of lens values backends rs s (suc c) p q r =
 
 module _ (S : Services) (tolerance : ℕ) (lens values backends stairs counts ends : List ℕ)
     (listed : Listed S tolerance lens values backends stairs counts ends) where
-  -- the table of any grants within the lists
+  -- the table of any grants, past the end of a list too
   cells-to :
-      (g : Grants) (grants : List ℕ) → Granted S g grants
-      → ((s : ℕ) → s < services S → g s ≤ length (listFor S tolerance s)) → (n : ℕ) → n ≤ services S
-      → storedTable grants lens values backends n ≡ cells (tableOf n (listFor S tolerance) g)
+      (g : Grants) (grants : List ℕ) → Granted S g grants → (n : ℕ) → n ≤ services S
+      → storedTable (storedLines grants counts) lens values backends n ≡ cells (tableOf n (listFor S tolerance) g)
   unfolding storedTable tableOf cells ruleAt
-  cells-to g grants kept within zero l = refl
-  cells-to g grants kept within (suc n) l =
+  cells-to g grants kept zero l = refl
+  cells-to g grants kept (suc n) l =
       let rs : List Rule = listFor S tolerance n in
-      ap₂ _++_ (cells-to g grants kept within n (omega arith))
-      (ap (storedCells lens values backends n) (kept .grant n l)
-      ∙ cells-of lens values backends (reverse rs) n (g n) (λ j m. listed .len n j l (omega (arith, within n l)))
-      (λ j m. listed .value n j l (omega (arith, within n l))) (λ j m. listed .backend n j l (omega (arith, within n l)))
-      ∙ ap (λ (r : List Rule). cells (linesOf n r)) (sym (oldest-reverse rs (g n) (within n l))))
-      ∙ sym (cells-append (tableOf n (listFor S tolerance) g) (linesOf n (oldest (g n) rs)))
+      let c : ℕ = min (g n) (length rs) in
+      let lines : min (getD grants n 0) (getD counts n 0) ≡ c = ap₂ min (kept .grant n l) (listed .stepped .count n l) in
+      ap₂ _++_ (cells-to g grants kept n (omega arith))
+      (ap (storedCells lens values backends n) lines
+      ∙ cells-of lens values backends (reverse rs) n c (λ j m. listed .len n j l (omega arith))
+      (λ j m. listed .value n j l (omega arith)) (λ j m. listed .backend n j l (omega arith))
+      ∙ ap (λ (r : List Rule). cells (linesOf (suc n) r)) (sym (oldest-reverse rs c (omega arith)) ∙ oldest-cut rs (g n)))
+      ∙ sym (cells-append (tableOf n (listFor S tolerance) g) (linesOf (suc n) (oldest (g n) rs)))
 
-  module _ (capacity : ℕ) (grants : List ℕ) (kept : Granted S (granted S tolerance capacity) grants) where
-    pub table-meant : storedTable grants lens values backends (services S) ≡ cells (linesMade S tolerance capacity)
+  module _ (capacity : ℕ) (grants : List ℕ) (kept : Granted S (granted S tolerance oneEach capacity) grants) where
+    pub table-kept :
+        storedTable (storedLines grants counts) lens values backends (services S) ≡ cells (linesMade S tolerance capacity)
     unfolding linesMade table
-    table-meant =
-        cells-to (granted S tolerance capacity) grants kept
-        (within-list S tolerance capacity (listed .stepped .some)) (services S) (omega arith)
+    table-kept = cells-to (granted S tolerance oneEach capacity) grants kept (services S) (omega arith)
+
+    -- the number of lines
+    pub lines-kept : sumTo (services S) (storedLines grants counts) ≡ length (linesMade S tolerance capacity)
+    unfolding linesMade table
+    lines-kept =
+        sum-ext (services S) (storedLines grants counts)
+        (λ s. min (granted S tolerance oneEach capacity s) (length (listFor S tolerance s)))
+        (λ s l. ap₂ min (kept .grant s l) (listed .stepped .count s l))
+        ∙ sym (length-table (services S) (listFor S tolerance) (granted S tolerance oneEach capacity))
+
+    -- there are no more than grants
+    pub lines-le : sumTo (services S) (storedLines grants counts) ≤ sumTo (services S) (granted S tolerance oneEach capacity)
+    lines-le =
+        sum-le (services S) (storedLines grants counts) (granted S tolerance oneEach capacity)
+        (λ s l. omega (arith, kept .grant s l))
 
     figures-to : (n : ℕ) → n ≤ services S → storedFigures grants counts ends n ≡ figuresTo S tolerance capacity n
     unfolding storedFigures figuresTo
@@ -81,36 +103,17 @@ module _ (S : Services) (tolerance : ℕ) (lens values backends stairs counts en
     figures-to (suc n) l =
         rw (figures-to n (omega arith), kept .grant n l, listed .stepped .count n l, listed .ended n l)
 
-    pub figures-meant : storedFigures grants counts ends (services S) ≡ figuresMade S tolerance capacity
+    pub figures-kept : storedFigures grants counts ends (services S) ≡ figuresMade S tolerance capacity
     unfolding figuresMade
-    figures-meant = figures-to (services S) (omega arith)
+    figures-kept = figures-to (services S) (omega arith)
 
-    -- the sum of the grants kept is that of the packing's
-    sum-kept : sumTo (services S) (λ s. getD grants s 0) ≡ sumTo (services S) (granted S tolerance capacity)
-    sum-kept = sum-ext (services S) (λ s. getD grants s 0) (granted S tolerance capacity) (kept .grant)
-
-    -- there is what is written, and room for it
-    pub tabled :
-        (room : ℕ) → services S ≤ 64 → services S ≤ length grants → length lens ≡ 2048 → length values ≡ 2048
-        → length backends ≡ 2048 → 4 * sumTo (services S) (granted S tolerance capacity) ≤ room
-        → Tabled (services S) grants lens values backends room
-    tabled room few long p q r fits =
-        record {
-          few = few;
-          given = long;
-          most = λ s l. omega (arith, kept .grant s l, within-list S tolerance capacity (listed .stepped .some) s l, listed .stepped .few s l);
-          all-lens = p;
-          all-values = q;
-          all-backends = r;
-          fits = omega (arith, sum-kept);
-        }
-
--- the number of lines is the sum of the grants
-pub rules-made :
-    (S : Services) (tolerance capacity : ℕ) → ((s : ℕ) → s < services S → 1 ≤ length (listFor S tolerance s))
-    → length (linesMade S tolerance capacity) ≡ sumTo (services S) (granted S tolerance capacity)
-unfolding linesMade table
-rules-made S tolerance capacity some =
-    length-table (services S) (listFor S tolerance) (granted S tolerance capacity)
-    ∙ sum-ext (services S) (λ s. min (granted S tolerance capacity s) (length (listFor S tolerance s)))
-    (granted S tolerance capacity) (λ s l. omega (arith, within-list S tolerance capacity some s l))
+  pub counted :
+      (grants : List ℕ) → services S ≤ mostServices → services S ≤ length grants → services S ≤ length counts
+      → Counted (services S) grants counts
+  counted grants few long listing =
+      record {
+        few = few;
+        granted = long;
+        listed = listing;
+        most = λ s l. omega (arith, listed .stepped .count s l, listed .stepped .few s l);
+      }

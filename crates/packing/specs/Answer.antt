@@ -1,21 +1,23 @@
 -- The packing as a call (document 01, "Packing" and "Turned-back work"): what it checks, in the order of the sheet that would hold its numbers, what it answers, and what it writes.
 use Prim.Native.Nat.{ℕ, zero, suc, _*_}
-use mathlib.Core.List.{List, [], _∷_, _++_}
+use mathlib.Core.List.{List, [], _∷_, _++_, map}
 use lib.Dec.{leb, ltb, eqb}
 use lib.ListN.{length, take, drop}
 use lib.Seq.{sets}
 use Rattle.numerals.specs.Pick.{pick}
+use Rattle.numerals.specs.Sums.{listTo}
 use Rattle.expansion.specs.Answer.{andThen, orElse, inLimits, checkWeights}
-use Rattle.numerals.specs.Limits.{unit}
+use Rattle.numerals.specs.Limits.{mostBits, mostBackends, mostServices, mostCapacity, mostVolume, unit}
 use Rattle.expansion.specs.Steps.{endOf}
 use Rattle.numerals.specs.Refusals.{no1, no2, no4, no5, no6, no7}
 use Rattle.expansion.specs.declared.rule.Ended.{Ended}
 use Rattle.expansion.specs.declared.rule.Ended.the-variants.{Within, NoGain, Budget}
 use Rattle.expansion.specs.declared.call.Checked.{Checked}
-use Rattle.expansion.specs.declared.call.Checked.the-variants.{Sound as Passed, Refused as Turned}
+use Rattle.expansion.specs.declared.call.Checked.the-variants.{Sound as Passed, Refused as Failed}
 use Rattle.packing.specs.Grants.{total}
 use Rattle.packing.specs.Count.{Line, Services, services}
-use Rattle.packing.specs.Table.{frameOf, listFor, table, problem, granted}
+use Rattle.packing.specs.Table.{frameOf, listFor, table, problem, granted, oneEach}
+use Rattle.packing.specs.Demand.{Demand}
 use Rattle.packing.specs.declared.call.Packed.{Packed}
 use Rattle.packing.specs.declared.call.Packing.{Packing}
 use Rattle.packing.specs.declared.call.Packing.the-variants.{Made, Refused}
@@ -25,25 +27,33 @@ unfoldable pub chunks : List ℕ → List ℕ → List (List ℕ)
 chunks [] ws = []
 chunks (n ∷ ns) ws = take n ws ∷ chunks ns (drop n ws)
 
+-- backends are labelled by their number from 1
 unfoldable pub servicesOf : ℕ → List ℕ → List ℕ → List ℕ → Services
-servicesOf k volumes sizes ws = record { k = k; unit = unit; volumes = volumes; weights = chunks sizes ws }
+servicesOf k volumes sizes ws =
+    record {
+      k = k;
+      unit = unit;
+      volumes = volumes;
+      labels = map (λ (own : List ℕ). listTo (length own) suc) (chunks sizes ws);
+      weights = chunks sizes ws;
+    }
 
 -- the line of one service, whose weights are the first `size` of the row: the field count (no weight is 1, a 33rd is 4, and a row that has not so many is 1), then the volume, the weights and their sum
 unfoldable pub checkService : ℕ → ℕ → List ℕ → Checked
 checkService volume size ws =
     andThen (orElse (ltb 0 size) no1)
-    (andThen (orElse (leb size 32) no4)
+    (andThen (orElse (leb size mostBackends) no4)
     (andThen (orElse (leb size (length ws)) no1)
-    (andThen (orElse (leb volume 10000) no2)
+    (andThen (orElse (leb volume mostVolume) no2)
     (checkWeights (take size ws)))))
 
 -- the lines of the services from s on, each with its volume and its size: a 65th is 4, one that lacks either has too few fields, and weights left over stand on no service's line
 unfoldable pub checkFrom : ℕ → List ℕ → List ℕ → List ℕ → Checked
 checkFrom s [] [] ws = orElse (eqb (length ws) 0) no1
-checkFrom s [] (n ∷ ns) ws = andThen (orElse (ltb s 64) no4) (Turned no1)
-checkFrom s (v ∷ vs) [] ws = andThen (orElse (ltb s 64) no4) (Turned no1)
+checkFrom s [] (n ∷ ns) ws = andThen (orElse (ltb s mostServices) no4) (Failed no1)
+checkFrom s (v ∷ vs) [] ws = andThen (orElse (ltb s mostServices) no4) (Failed no1)
 checkFrom s (v ∷ vs) (n ∷ ns) ws =
-    andThen (orElse (ltb s 64) no4)
+    andThen (orElse (ltb s mostServices) no4)
     (andThen (checkService v n ws)
     (checkFrom (suc s) vs ns (drop n ws)))
 
@@ -56,9 +66,9 @@ checkServices volumes sizes ws =
 -- the first line: k, tolerance and capacity
 unfoldable pub checkHead : ℕ → ℕ → ℕ → Checked
 checkHead k tolerance capacity =
-    andThen (orElse (inLimits 1 12 k) no2)
+    andThen (orElse (inLimits 1 mostBits k) no2)
     (andThen (orElse (leb tolerance unit) no2)
-    (orElse (inLimits 1 2048 capacity) no2))
+    (orElse (inLimits 1 mostCapacity capacity) no2))
 
 -- the first line, the services line by line, no service, and a capacity below their number, which is that of the volumes once the lines passed
 unfoldable pub checkAll : ℕ → ℕ → ℕ → List ℕ → List ℕ → List ℕ → Checked
@@ -75,13 +85,13 @@ endNumber Budget = 2
 
 -- the lines of the packing's table
 unfoldable pub linesMade : Services → ℕ → ℕ → List Line
-linesMade S tolerance capacity = table S tolerance (granted S tolerance capacity)
+linesMade S tolerance capacity = table S tolerance (granted S tolerance oneEach capacity)
 
 unfoldable pub packedOf : Services → ℕ → ℕ → Packed
 packedOf S tolerance capacity =
     record {
       rules = length (linesMade S tolerance capacity);
-      total = total (problem S tolerance capacity) (granted S tolerance capacity);
+      total = total (problem S tolerance oneEach capacity) (granted S tolerance oneEach capacity);
     }
 
 -- the figures of the first n services: its grant, the length of its list and how the list ended
@@ -89,7 +99,7 @@ unfoldable pub figuresTo : Services → ℕ → ℕ → ℕ → List ℕ
 figuresTo S tolerance capacity zero = []
 figuresTo S tolerance capacity (suc n) =
     figuresTo S tolerance capacity n
-    ++ granted S tolerance capacity n
+    ++ granted S tolerance oneEach capacity n
     ∷ length (listFor S tolerance n)
     ∷ endNumber (endOf (frameOf S tolerance n) (listFor S tolerance n))
     ∷ []
@@ -101,6 +111,18 @@ figuresMade S tolerance capacity = figuresTo S tolerance capacity (services S)
 unfoldable pub cells : List Line → List ℕ
 cells [] = []
 cells (l ∷ ls) = l .service ∷ l .rule .len ∷ l .rule .value ∷ l .rule .backend ∷ cells ls
+
+-- figures and cells of the numbers handed in, and demand 3 of a total and their lines
+abbrev pub figuresOf : ℕ → ℕ → ℕ → List ℕ → List ℕ → List ℕ → List ℕ
+figuresOf k tolerance capacity volumes sizes ws = figuresMade (servicesOf k volumes sizes ws) tolerance capacity
+
+abbrev pub cellsOf : ℕ → ℕ → ℕ → List ℕ → List ℕ → List ℕ → List ℕ
+cellsOf k tolerance capacity volumes sizes ws = cells (linesMade (servicesOf k volumes sizes ws) tolerance capacity)
+
+abbrev pub Demanded : ℕ → ℕ → ℕ → List ℕ → List ℕ → List ℕ → ℕ → Type 0
+Demanded k tolerance capacity volumes sizes ws t =
+    let S = servicesOf k volumes sizes ws in
+    Demand S tolerance oneEach capacity t (linesMade S tolerance capacity)
 
 -- the lent buffers, as a refusal names the one that is too short; one that is about none names `noBuffer`
 abbrev pub noBuffer : ℕ
@@ -115,7 +137,7 @@ tableBuffer = 2
 -- what is answered where all checks passed
 abbrev pub onPassed : Checked → Packing → Packing
 onPassed Passed made = made
-onPassed (Turned why) made = Refused why noBuffer
+onPassed (Failed why) made = Refused why noBuffer
 
 -- the answer with this table of n services, where there is room for so many figures and cells: 7 names the first buffer that is too short
 unfoldable pub written : Packed → ℕ → ℕ → ℕ → Packing

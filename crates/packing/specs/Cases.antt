@@ -3,7 +3,7 @@ use Prim.Native.Nat.{ℕ}
 use mathlib.Core.Path.{_≡_}
 use mathlib.Core.List.{[], _∷_}
 use Rattle.packing.specs.Count.{Line, Services, counted}
-use Rattle.packing.specs.Table.{table, granted}
+use Rattle.packing.specs.Table.{table, granted, oneEach}
 
 abbrev pub sample : Services
 sample =
@@ -11,6 +11,7 @@ sample =
       k = 5;
       unit = 1000000;
       volumes = 55 ∷ 45 ∷ [];
+      labels = (1 ∷ 2 ∷ 3 ∷ []) ∷ (1 ∷ 2 ∷ 3 ∷ []) ∷ [];
       weights = (166667 ∷ 333333 ∷ 500000 ∷ []) ∷ (250000 ∷ 250000 ∷ 500000 ∷ []) ∷ [];
     }
 
@@ -18,9 +19,9 @@ abbrev pub line : ℕ → ℕ → ℕ → ℕ → Line
 line s l v b = record { service = s; rule = record { len = l; value = v; backend = b } }
 
 pub record P7 : Type 0 where
-  pub first : granted sample 20000 5 0 ≡ 2
-  pub second : granted sample 20000 5 1 ≡ 3
+  pub first : granted sample 20000 oneEach 5 0 ≡ 2
+  pub second : granted sample 20000 oneEach 5 1 ≡ 3
   pub lines :
-      table sample 20000 (granted sample 20000 5)
-      ≡ line 0 1 0 1 ∷ line 0 0 0 2 ∷ line 1 2 0 1 ∷ line 1 1 0 0 ∷ line 1 0 0 2 ∷ []
-  pub amount : counted sample (table sample 20000 (granted sample 20000 5)) ≡ 293333920
+      table sample 20000 (granted sample 20000 oneEach 5)
+      ≡ line 1 1 0 2 ∷ line 1 0 0 3 ∷ line 2 2 0 2 ∷ line 2 1 0 1 ∷ line 2 0 0 3 ∷ []
+  pub amount : counted sample (table sample 20000 (granted sample 20000 oneEach 5)) ≡ 293333920

@@ -1,5 +1,5 @@
 -- Packing (document 01, under that heading), over any cost of each service by its grant and any least grants.
-use Prim.Native.Nat.{ℕ, zero, suc, _-_, _≤_, _<_}
+use Prim.Native.Nat.{ℕ, zero, suc, _-_}
 use mathlib.Core.Bool.{true, false}
 use lib.Dec.{ltb, eqb}
 use Rattle.numerals.specs.Pick.{pick}
@@ -49,15 +49,3 @@ grantsAfter P (suc x) = grantStep P (grantsAfter P x)
 -- the grants of the packing: no more turns than the capacity are needed
 unfoldable pub packed : Problem → Grants
 packed P = grantsAfter P (P .capacity)
-
--- grants that a table may have: at least the least to each service, at most the capacity in all
-pub record Allowed (P : Problem) (g : Grants) : Type 0 where
-  pub enough : (s : ℕ) → s < P .services → P .least s ≤ g s
-  pub room : rules P g ≤ P .capacity
-
--- falling convex costs from the least grant on: what a rule saves is never more than what the one before it saved
-pub record Convex (P : Problem) : Type 0 where
-  pub falls : (s x : ℕ) → s < P .services → P .least s ≤ x → P .cost s (suc x) ≤ P .cost s x
-  pub bends :
-      (s x : ℕ) → s < P .services → P .least s ≤ x
-      → P .cost s (suc x) - P .cost s (suc (suc x)) ≤ P .cost s x - P .cost s (suc x)

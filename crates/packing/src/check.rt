@@ -12,16 +12,16 @@ fn check_head(k: usize, tolerance: u64, capacity: usize) -> Checked
     if k < 1 {
         return Checked::Refused(Refusal::BadField);
     }
-    if 12 < k {
+    if numerals::MOST_BITS < k {
         return Checked::Refused(Refusal::BadField);
     }
-    if 1000000 < tolerance {
+    if numerals::UNIT < tolerance {
         return Checked::Refused(Refusal::BadField);
     }
     if capacity < 1 {
         return Checked::Refused(Refusal::BadField);
     }
-    if 2048 < capacity {
+    if numerals::MOST_CAPACITY < capacity {
         return Checked::Refused(Refusal::BadField);
     }
     Checked::Sound
@@ -35,13 +35,13 @@ fn check_service(volume: u64, size: usize, weights: &[u64]) -> Checked
     if size < 1 {
         return Checked::Refused(Refusal::Malformed);
     }
-    if 32 < size {
+    if numerals::MOST_BACKENDS < size {
         return Checked::Refused(Refusal::TooMany);
     }
     if weights.len() < size {
         return Checked::Refused(Refusal::Malformed);
     }
-    if 10000 < volume {
+    if numerals::MOST_VOLUME < volume {
         return Checked::Refused(Refusal::BadField);
     }
     expansion::check_weights(&weights[..size])
@@ -62,7 +62,7 @@ fn check_services(volumes: &[u64], sizes: &[usize], weights: &[u64]) -> Checked
     let mut at = 0;
     let mut s = 0;
     while s < lines {
-        if 64 <= s {
+        if numerals::MOST_SERVICES <= s {
             return Checked::Refused(Refusal::TooMany);
         }
         if volumes.len() <= s {
@@ -97,7 +97,8 @@ pub fn check_all(
     sizes: &[usize],
     weights: &[u64],
 ) -> Checked
-    ensures { λ r. ⌜ r ≡ checkAll k tolerance capacity (now (volumes .entry)) (now (sizes .entry)) (now (weights .entry)) ⌝ }
+    ensures { λ r. ⌜ r ≡ checkAll k tolerance capacity
+        (now (volumes .entry)) (now (sizes .entry)) (now (weights .entry)) ⌝ }
 {
     let head = check_head(k, tolerance, capacity);
     if let Checked::Refused(why) = head {

@@ -1,11 +1,17 @@
-// The lists of all services, each made once: service s has the places from 32 s on.
+// The lists of all services, each made once: service s has the places from STRIDE s on, the first for no rule and the
+// c-th after it for the c-th oldest rule.
 use expansion::Ended;
 use expansion::Expanded;
 ghost use mathlib.Core.Path.{_≡_};
 ghost use Prim.Native.Nat.{_*_, _≤_, min};
 ghost use lib.ListN.{length};
 ghost use Rattle.packing.specs.Answer.{endNumber};
-ghost use Rattle.packing.specs.Kept.{Sized, ListedTo};
+ghost use Rattle.packing.specs.Inner.Lists.{stride, Sized, ListedTo};
+
+// The places of one service, and of all.
+pub const STRIDE: usize = numerals::MOST_RULES + 1;
+
+pub const PLACES: usize = STRIDE * numerals::MOST_SERVICES;
 
 // How a list ended, as a number: within 0, no gain 1, budget 2.
 pub fn end_number(ended: Ended) -> usize
@@ -18,7 +24,8 @@ pub fn end_number(ended: Ended) -> usize
     }
 }
 
-// The rules and stairs of every list, its number of rules and how it ended.
+// The rules and stairs of every list, its number of rules and how it ended. With no rule nobody has too much, so the
+// stair before any rule is 0.
 pub fn make_lists(
     k: usize,
     tolerance: u64,
@@ -32,8 +39,12 @@ pub fn make_lists(
     ends: &mut [usize],
 )
     requires { ⌜ Sized k tolerance (now sizes) (now weights) ⌝ }
-    requires { ⌜ (32 * length (now sizes) ≤ min (min (length (now lens)) (length (now values))) (min (length (now backends)) (length (now stairs)))) × (length (now sizes) ≤ min (length (now counts)) (length (now ends))) ⌝ }
-    ensures { λ _. ⌜ ListedTo k tolerance (now (sizes .entry)) (now (weights .entry)) (length (now (sizes .entry))) (now (lens .exit)) (now (values .exit)) (now (backends .exit)) (now (stairs .exit)) (now (counts .exit)) (now (ends .exit)) ⌝ }
+    requires { ⌜ (stride * length (now sizes)
+        ≤ min (min (length (now lens)) (length (now values))) (min (length (now backends)) (length (now stairs))))
+        × (length (now sizes) ≤ min (length (now counts)) (length (now ends))) ⌝ }
+    ensures { λ _. ⌜ ListedTo k tolerance (now (sizes .entry)) (now (weights .entry)) (length (now (sizes .entry)))
+        (now (lens .exit)) (now (values .exit)) (now (backends .exit)) (now (stairs .exit))
+        (now (counts .exit)) (now (ends .exit)) ⌝ }
 {
     let mut at = 0;
     let mut s = 0;
@@ -42,9 +53,9 @@ pub fn make_lists(
         let made = expansion::expand(
             k,
             tolerance,
-            32,
+            numerals::MOST_RULES,
             &weights[at..at + n],
-            32 * s,
+            STRIDE * s + 1,
             lens,
             values,
             backends,
@@ -53,6 +64,7 @@ pub fn make_lists(
         let Expanded::Made(list) = made else {
             return;
         };
+        stairs[STRIDE * s] = 0;
         counts[s] = list.rules;
         let ended = list.ended;
         ends[s] = end_number(ended);

@@ -1,14 +1,18 @@
 // What is written into the lent buffers: three figures for each service, four numbers for each line of the table.
 use crate::call::Packed;
 use crate::call::Packing;
+use crate::grants::lines_of;
+use crate::lists::STRIDE;
 use numerals::Refusal;
 ghost use mathlib.Core.Path.{_≡_};
 ghost use mathlib.Core.List.{[], _∷_};
-ghost use Prim.Native.Nat.{_+_, _*_, _≤_};
+ghost use Prim.Native.Nat.{_+_, _*_, _≤_, _<_};
 ghost use lib.ListN.{length};
 ghost use lib.Seq.{sets};
+ghost use Rattle.numerals.specs.Limits.{mostServices, mostRules};
 ghost use Rattle.packing.specs.Answer.{written, filled};
-ghost use Rattle.packing.specs.Stored.{storedFigures, storedCells, storedTable, Tabled, Writable};
+ghost use Rattle.packing.specs.Inner.Lists.{places};
+ghost use Rattle.packing.specs.Inner.Stored.{storedFigures, storedLines, storedCells, storedTable, Tabled, Writable};
 
 // Three numbers from position `at` on.
 fn write_three(out: &mut [usize], at: usize, a: usize, b: usize, c: usize)
@@ -28,8 +32,10 @@ fn write_figures(
     counts: &[usize],
     ends: &[usize],
 )
-    requires { ⌜ (n ≤ length (now grants)) × ((n ≤ length (now counts)) × ((n ≤ length (now ends)) × (3 * n ≤ length (now figures)))) ⌝ }
-    ensures { λ _. ⌜ now (figures .exit) ≡ sets (now (figures .entry)) 0 (storedFigures (now (grants .entry)) (now (counts .entry)) (now (ends .entry)) n) ⌝ }
+    requires { ⌜ (n ≤ length (now grants))
+        × ((n ≤ length (now counts)) × ((n ≤ length (now ends)) × (3 * n ≤ length (now figures)))) ⌝ }
+    ensures { λ _. ⌜ now (figures .exit) ≡ sets (now (figures .entry)) 0
+        (storedFigures (now (grants .entry)) (now (counts .entry)) (now (ends .entry)) n) ⌝ }
 {
     let mut s = 0;
     while s < n {
@@ -38,24 +44,26 @@ fn write_figures(
     }
 }
 
-// The lines of one service from position `at` on, the newest rule first.
+// So many lines of one service from position `at` on, the newest rule first.
 fn write_service(
     table: &mut [usize],
     at: usize,
     s: usize,
-    grant: usize,
+    lines: usize,
     lens: &[usize],
     values: &[usize],
     backends: &[usize],
 )
-    requires { ⌜ (at + 4 * grant ≤ length (now table)) × ((32 * s + grant ≤ length (now lens)) × ((32 * s + grant ≤ length (now values)) × (32 * s + grant ≤ length (now backends)))) ⌝ }
-    ensures { λ _. ⌜ now (table .exit) ≡ sets (now (table .entry)) at (storedCells (now (lens .entry)) (now (values .entry)) (now (backends .entry)) s grant) ⌝ }
+    requires { ⌜ (at + 4 * lines ≤ length (now table)) × ((s < mostServices) × (lines ≤ mostRules))
+        × ((length (now lens) ≡ places) × ((length (now values) ≡ places) × (length (now backends) ≡ places))) ⌝ }
+    ensures { λ _. ⌜ now (table .exit) ≡ sets (now (table .entry)) at
+        (storedCells (now (lens .entry)) (now (values .entry)) (now (backends .entry)) s lines) ⌝ }
 {
-    let mut left = grant;
+    let mut left = lines;
     let mut i = at;
     while 0 < left {
-        let from = 32 * s + (left - 1);
-        table[i] = s;
+        let from = STRIDE * s + left;
+        table[i] = s + 1;
         write_three(table, i + 1, lens[from], values[from], backends[from]);
         i += 4;
         left -= 1;
@@ -63,23 +71,26 @@ fn write_service(
 }
 
 // The lines of all services, ascending.
-fn write_table(
+fn write_lines(
     table: &mut [usize],
     n: usize,
     grants: &[usize],
+    counts: &[usize],
     lens: &[usize],
     values: &[usize],
     backends: &[usize],
 )
-    requires { ⌜ Tabled n (now grants) (now lens) (now values) (now backends) (length (now table)) ⌝ }
-    ensures { λ _. ⌜ now (table .exit) ≡ sets (now (table .entry)) 0 (storedTable (now (grants .entry)) (now (lens .entry)) (now (values .entry)) (now (backends .entry)) n) ⌝ }
+    requires { ⌜ Tabled n (now grants) (now counts) (now lens) (now values) (now backends) (length (now table)) ⌝ }
+    ensures { λ _. ⌜ now (table .exit) ≡ sets (now (table .entry)) 0
+        (storedTable (storedLines (now (grants .entry)) (now (counts .entry)))
+        (now (lens .entry)) (now (values .entry)) (now (backends .entry)) n) ⌝ }
 {
     let mut at = 0;
     let mut s = 0;
     while s < n {
-        let grant = grants[s];
-        write_service(table, at, s, grant, lens, values, backends);
-        at += 4 * grant;
+        let lines = lines_of(grants[s], counts[s]);
+        write_service(table, at, s, lines, lens, values, backends);
+        at += 4 * lines;
         s += 1;
     }
 }
@@ -99,8 +110,11 @@ pub fn write_out(
 ) -> Packing
     requires { ⌜ Writable n (packed .rules) (now grants) (now counts) (now ends) (now lens) (now values) (now backends) ⌝ }
     ensures answer { λ r. ⌜ r ≡ written packed n (length (now (figures .entry))) (length (now (table .entry))) ⌝ }
-    ensures figures { λ r. ⌜ now (figures .exit) ≡ filled r (now (figures .entry)) (storedFigures (now (grants .entry)) (now (counts .entry)) (now (ends .entry)) n) ⌝ }
-    ensures table { λ r. ⌜ now (table .exit) ≡ filled r (now (table .entry)) (storedTable (now (grants .entry)) (now (lens .entry)) (now (values .entry)) (now (backends .entry)) n) ⌝ }
+    ensures figures { λ r. ⌜ now (figures .exit) ≡ filled r (now (figures .entry))
+        (storedFigures (now (grants .entry)) (now (counts .entry)) (now (ends .entry)) n) ⌝ }
+    ensures table { λ r. ⌜ now (table .exit) ≡ filled r (now (table .entry))
+        (storedTable (storedLines (now (grants .entry)) (now (counts .entry)))
+        (now (lens .entry)) (now (values .entry)) (now (backends .entry)) n) ⌝ }
 {
     if figures.len() < 3 * n {
         return Packing::Refused(Refusal::ShortLoan, 1);
@@ -109,6 +123,6 @@ pub fn write_out(
         return Packing::Refused(Refusal::ShortLoan, 2);
     }
     write_figures(figures, n, grants, counts, ends);
-    write_table(table, n, grants, lens, values, backends);
+    write_lines(table, n, grants, counts, lens, values, backends);
     Packing::Made(packed)
 }

@@ -8,8 +8,8 @@ use lib.ListN.{length, getD}
 use lib.Pow.{pow-mono}
 use Rattle.numerals.specs.Limits.{unit, totalLimit}
 use Rattle.numerals.specs.Sums.{sumTo}
-use Rattle.expansion.specs.Imbalance.{Frame, backends, imbalance}
-use Rattle.expansion.specs.Steps.{firstRule, frame, after, listOf, oldest, stair}
+use Rattle.expansion.specs.Imbalance.{backends, imbalance}
+use Rattle.expansion.specs.Steps.{firstRule, frame, after, listOf, oldest, stair, Frame}
 use Rattle.expansion.specs.Sound.{AllFormed, Sound}
 use Rattle.expansion.specs.declared.rule.Rule.{Rule}
 use Rattle.expansion.proofs.Base.{base-sound, base-formed, base-falling}

@@ -1,6 +1,6 @@
 // The arguments of a call.
-use crate::input::start;
 use crate::output;
+use crate::part::start;
 use commands::Command;
 use libc::STDERR_FILENO;
 

@@ -4,6 +4,7 @@ use crate::input;
 use crate::input::Read;
 use crate::input::TEXT;
 use crate::output;
+use crate::part::start;
 use commands::Command;
 use commands::Outcome;
 
@@ -18,7 +19,7 @@ pub fn split_input() {
     let mut text = [0u8; TEXT];
     let read = input::read_input(&mut text);
     if let Read::Bytes(n) = read {
-        split_text(input::start(&text, n));
+        split_text(start(&text, n));
     }
 }
 
@@ -30,7 +31,7 @@ pub fn split() {
     let mut text = [0u8; TEXT];
     let read = input::read_file(2, &mut text);
     match read {
-        Read::Bytes(n) => split_text(input::start(&text, n)),
+        Read::Bytes(n) => split_text(start(&text, n)),
         Read::Failed => output::usage(Command::Split),
     }
 }
@@ -49,12 +50,7 @@ fn look(table: &[u8]) {
     let mut address = [0u8; arguments::ROOM];
     let a = os::arg(4, &mut address);
     let mut out = [0u8; commands::ROOM];
-    let outcome = commands::lookup(
-        table,
-        input::start(&service, s),
-        input::start(&address, a),
-        &mut out,
-    );
+    let outcome = commands::lookup(table, start(&service, s), start(&address, a), &mut out);
     print_outcome(outcome, &out, Command::Lookup);
 }
 
@@ -66,7 +62,7 @@ pub fn lookup() {
     let mut table = [0u8; TEXT];
     let read = input::read_file(2, &mut table);
     match read {
-        Read::Bytes(n) => look(input::start(&table, n)),
+        Read::Bytes(n) => look(start(&table, n)),
         Read::Failed => output::usage(Command::Lookup),
     }
 }
@@ -76,7 +72,7 @@ fn compare(old: &[u8], new: &[u8]) {
     let mut service = [0u8; arguments::ROOM];
     let s = os::arg(4, &mut service);
     let mut out = [0u8; commands::ROOM];
-    let outcome = commands::churn(old, new, input::start(&service, s), &mut out);
+    let outcome = commands::churn(old, new, start(&service, s), &mut out);
     print_outcome(outcome, &out, Command::Churn);
 }
 
@@ -85,7 +81,7 @@ fn compare_to(old: &[u8]) {
     let mut new = [0u8; TEXT];
     let read = input::read_file(3, &mut new);
     match read {
-        Read::Bytes(n) => compare(old, input::start(&new, n)),
+        Read::Bytes(n) => compare(old, start(&new, n)),
         Read::Failed => output::usage(Command::Churn),
     }
 }
@@ -105,7 +101,7 @@ pub fn churn() {
     let mut old = [0u8; TEXT];
     let read = input::read_file(2, &mut old);
     match read {
-        Read::Bytes(n) => compare_to(input::start(&old, n)),
+        Read::Bytes(n) => compare_to(start(&old, n)),
         Read::Failed => output::usage(Command::Churn),
     }
 }

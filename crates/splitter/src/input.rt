@@ -1,10 +1,11 @@
 // A text read to its end. A read that fails is never taken for the end: half a sheet would be another sheet.
 use crate::arguments;
+use crate::part::start;
 use libc::EINTR;
 use libc::STDIN_FILENO;
 ghost use Prim.Native.Nat.{_≤_};
 ghost use mathlib.Core.Path.{_≡_};
-ghost use lib.ListN.{length, take};
+ghost use lib.ListN.{length};
 ghost use Rattle.splitter.specs.Input.{bytes, Came, judged};
 
 // A text's bytes, or that it can't be read, which was then told on standard error.
@@ -14,17 +15,10 @@ pub enum Read {
 }
 
 // The limit of a text, and the byte past it by which one that is too long is refused.
-pub const TEXT: usize = 65537;
+pub const TEXT: usize = commands::ROOM + 1;
 
 // How often in a row a read may be interrupted by a signal before it counts as failed.
 const INTERRUPTIONS: usize = 1000;
-
-// The first n bytes of a buffer, or all of a shorter one.
-pub fn start(text: &[u8], n: usize) -> &[u8]
-    ensures { λ r. ⌜ now r ≡ take n (now (text .entry)) ⌝ }
-{
-    if n <= text.len() { &text[..n] } else { text }
-}
 
 // What a call of the C library's read came to.
 enum Step {

@@ -3,6 +3,7 @@ mod arguments;
 mod calls;
 mod input;
 mod output;
+mod part;
 
 use commands::Command;
 

@@ -1,5 +1,5 @@
 // What a call prints, and what it complains of.
-use crate::input::start;
+use crate::part::start;
 use commands::Command;
 use libc::STDERR_FILENO;
 use libc::STDOUT_FILENO;

@@ -47,10 +47,3 @@ pub fn refused(why: Refusal) {
     bytes(b"refused");
     field(numerals::refusal_number(why));
 }
-
-// A number that counts from 1, by its place from 0.
-pub fn place(i: usize) {
-    if i < 4096 {
-        number(i as u64 + 1);
-    }
-}

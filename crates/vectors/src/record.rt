@@ -1,4 +1,4 @@
-// The input of a test program: a run of records, each of eight decimal digits, the length of its body, and the body: a
+// The input of the test program: a run of records, each of eight decimal digits, the length of its body, and the body: a
 // header line of fields, and a payload.
 use libc::STDIN_FILENO;
 use numerals::Number;

@@ -2,7 +2,7 @@
 use numerals::Number;
 ghost use mathlib.Core.Path.{_≡_};
 ghost use Prim.Native.Nat.{min};
-ghost use lib.ListN.{length, take, drop};
+ghost use lib.ListN.{length, getD, take, drop};
 ghost use lib.Seq.{paste};
 ghost use Rattle.vectors.specs.Parts.{behind, part, fields, lines};
 ghost use Rattle.vectors.specs.Numbers.{numeral, numbers};
@@ -46,6 +46,14 @@ pub fn number(s: &[u8], from: usize) -> u64
         Number::Value(v) => v,
         Number::Bad => 0,
     }
+}
+
+// The first byte of the field that starts at a position, or 0.
+pub fn letter(s: &[u8], from: usize) -> u8
+    ensures { λ r. ⌜ r ≡ getD (part 32 from (now (s .entry))) 0 0 ⌝ }
+{
+    let field = part(s, from, 32);
+    if 0 < field.len() { field[0] } else { 0 }
 }
 
 // How many fields a text has. An empty one has none.

@@ -8,9 +8,9 @@ use crate::numerals::WHOLE;
 use crate::random::Random;
 use crate::suffix::Suffix;
 
-/// What the twin says to one record; nothing if the record is not of a kind.
+/// What the twin says to one record; nothing if the record is of no kind.
 pub fn answer(record: &Record) -> Option<String> {
-    let ("E", &[k, tolerance, budget]) = (record.op, record.numbers.as_slice()) else {
+    let ("E", &[k, tolerance, budget]) = (record.kind, record.numbers.as_slice()) else {
         return None;
     };
     let weights = numbers(std::str::from_utf8(record.payload).ok()?)?;
@@ -48,16 +48,14 @@ fn list_text(list: &Expansion) -> String {
     text
 }
 
-/// All records of this kind.
-pub fn records() -> Records {
-    let mut records = Records::default();
+/// Adds all of them.
+pub fn add_all(records: &mut Records) {
     let mut random = Random::new(2);
-    listed(&mut records);
-    at_random(&mut records, &mut random);
-    at_limits(&mut records, &mut random);
-    refused(&mut records);
-    refused_at_random(&mut records, &mut random);
-    records
+    listed(records);
+    at_random(records, &mut random);
+    at_limits(records, &mut random);
+    refused(records);
+    refused_at_random(records, &mut random);
 }
 
 fn add_list(records: &mut Records, numbers: [u64; 3], weights: &[u64]) {

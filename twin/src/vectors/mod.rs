@@ -18,59 +18,68 @@ mod writes;
 use records::{take_record, Record, Records};
 use std::path::Path;
 
-/// How one kind of vectors is made and answered.
-struct Kind {
+/// How the vectors of one layer are made and answered.
+struct Layer {
     name: &'static str,
-    records: fn() -> Records,
+    add_all: fn(&mut Records),
     answer: fn(&Record) -> Option<String>,
 }
 
-const KINDS: [Kind; 4] = [
-    Kind {
+const LAYERS: [Layer; 4] = [
+    Layer {
         name: "numerals",
-        records: numerals::records,
+        add_all: numerals::add_all,
         answer: numerals::answer,
     },
-    Kind {
+    Layer {
         name: "expansion",
-        records: expansion::records,
+        add_all: expansion::add_all,
         answer: expansion::answer,
     },
-    Kind {
+    Layer {
         name: "packing",
-        records: packing::records,
+        add_all: packing::add_all,
         answer: packing::answer,
     },
-    Kind {
+    Layer {
         name: "sheets",
-        records: sheets::records,
+        add_all: sheets::add_all,
         answer: sheets::answer,
     },
 ];
 
-fn kind(name: &str) -> Result<&'static Kind, String> {
-    let found = KINDS.iter().find(|kind| kind.name == name);
-    found.ok_or_else(|| format!("no vectors called {name}"))
+/// All vectors, layer by layer.
+fn records() -> Records {
+    let mut records = Records::default();
+    for layer in &LAYERS {
+        records.begin(layer.name);
+        (layer.add_all)(&mut records);
+    }
+    records
+}
+
+fn answer_one(record: &Record) -> Option<String> {
+    let layer = LAYERS.iter().find(|layer| layer.name == record.layer)?;
+    (layer.answer)(record)
 }
 
 /// Answers a file of vectors, one line for each.
-pub fn answer(name: &str, mut file: &[u8]) -> Result<String, String> {
-    let kind = kind(name)?;
+pub fn answer(mut file: &[u8]) -> Result<String, String> {
     let mut answers = String::new();
     let mut number = 0;
     while !file.is_empty() {
         number += 1;
-        let line = take_record(&mut file).and_then(|record| (kind.answer)(&record));
-        answers += &line.ok_or_else(|| format!("record {number} is not of {name}"))?;
+        let line = take_record(&mut file).and_then(|record| answer_one(&record));
+        answers += &line.ok_or_else(|| format!("record {number} is of no kind"))?;
         answers.push('\n');
     }
     Ok(answers)
 }
 
-/// Writes both files of one kind into a folder and returns how many records.
-pub fn write(name: &str, folder: &Path) -> Result<usize, String> {
-    let records = (kind(name)?.records)();
-    let answers = answer(name, records.bytes())?;
+/// Writes both files into a folder and returns how many records.
+pub fn write(folder: &Path) -> Result<usize, String> {
+    let records = records();
+    let answers = answer(records.bytes())?;
     let write = |file: &str, bytes: &[u8]| std::fs::write(folder.join(file), bytes);
     std::fs::create_dir_all(folder)
         .and_then(|()| write("stdin", records.bytes()))
@@ -84,10 +93,11 @@ mod tests {
     use super::*;
 
     /// The answer to one record.
-    fn said(name: &str, header: &str, payload: &str) -> String {
+    fn said(layer: &'static str, header: &str, payload: &str) -> String {
         let mut records = Records::default();
+        records.begin(layer);
         records.add(header, payload.as_bytes());
-        answer(name, records.bytes()).unwrap()
+        answer(records.bytes()).unwrap()
     }
 
     #[test]
@@ -120,13 +130,13 @@ mod tests {
     fn a_table_in_numbers_shows_its_whole_buffer() {
         let said = |header, payload| said("sheets", header, payload);
         assert_eq!(
-            said("W 5 0 20", "0 0 0 1"),
+            said("W 5 0 20", "1 0 0 2"),
             "end 18 TABLE 5 1 0/1 * 2/......\n"
         );
-        assert_eq!(said("W 5 0 2", "0 0 0 1"), "REFUSED 7 0 ......\n");
-        assert_eq!(said("W 5 0 2", "0 0 0 1 1"), "REFUSED 1 0 ......\n");
-        assert_eq!(said("W 0 0 2", "0 0 0 1 1"), "REFUSED 2 0 ......\n");
-        assert_eq!(said("W 0 0 2", "0 65536 0 1"), "REFUSED 11 0 ......\n");
+        assert_eq!(said("W 5 0 2", "1 0 0 2"), "REFUSED 7 0 ......\n");
+        assert_eq!(said("W 5 0 2", "1 0 0 2 1"), "REFUSED 1 0 ......\n");
+        assert_eq!(said("W 0 0 2", "1 0 0 2 1"), "REFUSED 2 0 ......\n");
+        assert_eq!(said("W 0 0 2", "1 65536 0 2"), "REFUSED 11 0 ......\n");
         assert_eq!(said("W 5 0 0", ""), "REFUSED 2 0 ....\n");
     }
 
@@ -141,11 +151,9 @@ mod tests {
 
     #[test]
     fn each_record_has_one_answer_line_and_the_bytes_never_change() {
-        for kind in &KINDS {
-            let (once, twice) = ((kind.records)(), (kind.records)());
-            assert_eq!(once.bytes(), twice.bytes());
-            let answers = answer(kind.name, once.bytes()).unwrap();
-            assert_eq!(answers.lines().count(), once.count());
-        }
+        let (once, twice) = (records(), records());
+        assert_eq!(once.bytes(), twice.bytes());
+        let answers = answer(once.bytes()).unwrap();
+        assert_eq!(answers.lines().count(), once.count());
     }
 }

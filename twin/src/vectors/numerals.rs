@@ -7,10 +7,10 @@ use crate::random::Random;
 use crate::refusal::Reason;
 use crate::suffix::{write_handed, Suffix, MOST_BITS};
 
-/// What the twin says to one record; nothing if the record is not of a kind.
+/// What the twin says to one record; nothing if the record is of no kind.
 pub fn answer(record: &Record) -> Option<String> {
     let payload = record.payload;
-    Some(match (record.op, record.numbers.as_slice()) {
+    Some(match (record.kind, record.numbers.as_slice()) {
         ("N", &[lo, hi]) => value_text(read_number(payload, lo, hi)),
         ("P", &[]) => value_text(read_percentage(payload)),
         ("W", &[number, at, length]) => {
@@ -75,23 +75,21 @@ fn written_text(length: u64, write: impl Fn(&mut [u8]) -> Result<usize, Reason>)
     }
 }
 
-/// All records of this kind.
-pub fn records() -> Records {
-    let mut records = Records::default();
+/// Adds all of them.
+pub fn add_all(records: &mut Records) {
     let mut random = Random::new(1);
-    numbers_at_limits(&mut records);
-    numbers_at_random(&mut records, &mut random);
-    percentages_listed(&mut records);
-    percentages_at_random(&mut records, &mut random);
-    numbers_written(&mut records, &mut random);
-    suffixes_read(&mut records, &mut random);
-    suffixes_of_any_k(&mut records);
-    suffixes_written(&mut records, &mut random);
-    no_suffixes(&mut records, &mut random);
-    places(&mut records, &mut random);
-    line_ends(&mut records, &mut random);
-    field_lists(&mut records, &mut random);
-    records
+    numbers_at_limits(records);
+    numbers_at_random(records, &mut random);
+    percentages_listed(records);
+    percentages_at_random(records, &mut random);
+    numbers_written(records, &mut random);
+    suffixes_read(records, &mut random);
+    suffixes_of_any_k(records);
+    suffixes_written(records, &mut random);
+    no_suffixes(records, &mut random);
+    places(records, &mut random);
+    line_ends(records, &mut random);
+    field_lists(records, &mut random);
 }
 
 /// The limits of document 01, of signed and of unsigned 64-bit numbers.

@@ -9,10 +9,10 @@ use crate::packing::{pack, Order, Packing, Service};
 use crate::random::Random;
 use crate::refusal::Refusal;
 
-/// What the twin says to one record; nothing if the record is not of a kind.
+/// What the twin says to one record; nothing if the record is of no kind.
 pub fn answer(record: &Record) -> Option<String> {
     let text = std::str::from_utf8(record.payload).ok()?;
-    match (record.op, record.numbers.as_slice()) {
+    match (record.kind, record.numbers.as_slice()) {
         ("K", &[k, tolerance, capacity]) => {
             let services: Option<Vec<Service>> = text.lines().map(read_service).collect();
             Some(shown(pack(&Order {
@@ -57,17 +57,15 @@ fn packing_text(packing: &Packing) -> String {
     text
 }
 
-/// All records of this kind.
-pub fn records() -> Records {
-    let mut records = Records::default();
+/// Adds all of them.
+pub fn add_all(records: &mut Records) {
     let mut random = Random::new(3);
-    listed(&mut records);
-    at_random(&mut records, &mut random);
-    large(&mut records, &mut random);
-    refused(&mut records);
-    refused_at_random(&mut records, &mut random);
-    rows::add_all(&mut records);
-    records
+    listed(records);
+    at_random(records, &mut random);
+    large(records, &mut random);
+    refused(records);
+    refused_at_random(records, &mut random);
+    rows::add_all(records);
 }
 
 fn add(records: &mut Records, order: &Order) {

@@ -243,6 +243,7 @@ fn spoilt(records: &mut Records, random: &mut Random) {
 pub fn hostile(seed: u64, count: usize) -> Records {
     let mut random = Random::new(seed);
     let mut records = Records::default();
+    records.begin("sheets");
     for _ in 0..count {
         let order = small(&mut random);
         let text = sheet_text(&mut random, &order);

@@ -6,10 +6,10 @@ use super::{counts, percentage_sheets, plans, rule_sheets, writes};
 use crate::calls::{churn, lookup, split, split_into};
 use crate::rule_sheet::{read, text_of};
 
-/// What the twin says to one record; nothing if the record is not of a kind.
+/// What the twin says to one record; nothing if the record is of no kind.
 pub fn answer(record: &Record) -> Option<String> {
     let text = record.payload;
-    match (record.op, record.numbers.as_slice()) {
+    match (record.kind, record.numbers.as_slice()) {
         ("R", &[]) => Some(shown(
             split(text).map(|packing| slashed(&text_of(&packing.table))),
         )),
@@ -45,13 +45,11 @@ fn slashed(text: &[u8]) -> String {
     String::from_utf8_lossy(text).replace('\n', "/")
 }
 
-/// All records of this kind.
-pub fn records() -> Records {
-    let mut records = Records::default();
-    percentage_sheets::add_all(&mut records);
-    rule_sheets::add_all(&mut records);
-    counts::add_all(&mut records);
-    plans::add_all(&mut records);
-    writes::add_all(&mut records);
-    records
+/// Adds all of them.
+pub fn add_all(records: &mut Records) {
+    percentage_sheets::add_all(records);
+    rule_sheets::add_all(records);
+    counts::add_all(records);
+    plans::add_all(records);
+    writes::add_all(records);
 }

@@ -73,7 +73,7 @@ fn listed(records: &mut Records) {
             add(records, 13, 1, 5, &sample[..length]);
         }
     }
-    sample[0] = 64;
+    sample[0] = 65;
     for length in [1, 3, 5, 18] {
         add(records, 5, MOST_TOTAL + 1, 5, &sample[..length]);
         add(records, 5, 0, 5, &sample[..length]);
@@ -102,11 +102,11 @@ fn heads(records: &mut Records) {
     }
 }
 
-/// Each number of two lines in turn, at its limits and above.
+/// Each number of two lines in turn, at its limits and beyond.
 fn fields(records: &mut Records) {
-    let table = [0, 2, 1, 0, 0, 0, 0, 1];
+    let table = [1, 2, 1, 1, 1, 0, 0, 2];
     for at in 0..table.len() {
-        for number in [0, 1, 2, 4, 12, 13, 31, 32, 63, 64, 1 << 32, u64::MAX] {
+        for number in [0, 1, 2, 4, 12, 13, 32, 33, 64, 65, 1 << 32, u64::MAX] {
             let mut numbers = table;
             numbers[at] = number;
             add(records, 3, 0, 30, &numbers);
@@ -118,12 +118,12 @@ fn fields(records: &mut Records) {
 fn suffixes(records: &mut Records) {
     for length in 0..=13 {
         for value in [(1 << length) - 1, 1 << length] {
-            let table = [63, length, value, 31, 63, 0, 0, 31];
+            let table = [64, length, value, 32, 64, 0, 0, 32];
             add(records, 12, 0, needed(12, 0, &table), &table);
         }
     }
     for length in [63, 64, 65, 128, 70_000] {
-        add(records, 12, 0, 20, &[0, length, 0, 0, 0, 0, 0, 0]);
+        add(records, 12, 0, 20, &[1, length, 0, 1, 1, 0, 0, 1]);
     }
 }
 
@@ -133,10 +133,10 @@ fn numbers_in(lines: &str) -> Option<Vec<u64>> {
     for line in lines.split(',') {
         let fields: Vec<&str> = line.split(' ').collect();
         let suffix = Suffix::read(fields[1].as_bytes(), 12)?;
-        numbers.push(fields[0].parse::<u64>().ok()? - 1);
+        numbers.push(fields[0].parse().ok()?);
         numbers.push(u64::from(suffix.length()));
         numbers.push(u64::from(suffix.value()));
-        numbers.push(fields[2].parse::<u64>().ok()? - 1);
+        numbers.push(fields[2].parse().ok()?);
     }
     Some(numbers)
 }
@@ -155,28 +155,28 @@ fn orders(records: &mut Records) {
 fn thirty_third_rules(records: &mut Records) {
     let tails: [&[u64]; 6] = [
         &[],
-        &[0, 0, 0, 0],
-        &[0, 0, 0, 0, 0, 0, 0, 0],
-        &[1, 0, 0, 0],
-        &[0, 2, 0, 0],
-        &[0, 1, 0, 32],
+        &[1, 0, 0, 1],
+        &[1, 0, 0, 1, 1, 0, 0, 1],
+        &[2, 0, 0, 1],
+        &[1, 2, 0, 1],
+        &[1, 1, 0, 33],
     ];
     for before in [30, 31, 32, 33] {
         for tail in tails {
-            let numbers = [&[0, 1, 0, 1].repeat(before), tail].concat();
+            let numbers = [&[1, 1, 0, 2].repeat(before), tail].concat();
             add(records, 5, 0, needed(5, 0, &numbers), &numbers);
         }
     }
     let again = [
-        &[0, 1, 0, 1].repeat(31),
-        &[0, 0, 0, 0, 1, 0, 0, 0, 0, 0, 0, 0][..],
+        &[1, 1, 0, 2].repeat(31),
+        &[1, 0, 0, 1, 2, 0, 0, 1, 1, 0, 0, 1][..],
     ];
     add(records, 5, 0, 9, &again.concat());
 }
 
 /// 64 services, 2,048 lines, the longest text, and more.
 fn at_limits(records: &mut Records) {
-    let stars: Vec<u64> = (0..65).flat_map(|service| [service, 0, 0, 31]).collect();
+    let stars: Vec<u64> = (1..=65).flat_map(|service| [service, 0, 0, 32]).collect();
     add(records, 1, 0, needed(1, 0, &stars[..256]), &stars[..256]);
     add(records, 1, 0, 9, &stars);
     let lines = |rule: [u64; 3]| {
@@ -185,13 +185,13 @@ fn at_limits(records: &mut Records) {
             let rules = [service, length, value, backend].repeat(31);
             rules.into_iter().chain([service, 0, 0, backend])
         };
-        (0..64).flat_map(own).collect::<Vec<u64>>()
+        (1..=64).flat_map(own).collect::<Vec<u64>>()
     };
-    let mut small = lines([1, 0, 0]);
+    let mut small = lines([1, 0, 1]);
     add(records, 1, 0, needed(1, 0, &small) - 1, &small);
-    small.extend([63, 0, 0, 0]);
+    small.extend([64, 0, 0, 1]);
     add(records, 1, 0, 9, &small);
-    let wide = lines([12, 2_730, 31]);
+    let wide = lines([12, 2_730, 32]);
     let room = needed(12, MOST_TOTAL, &wide);
     add(records, 12, MOST_TOTAL, room, &wide);
 }
@@ -199,26 +199,26 @@ fn at_limits(records: &mut Records) {
 /// Numbers left over, of any size: alone, and behind lines that are right, have
 /// no `*` yet, are bad, are one too many or out of order.
 fn left_over(records: &mut Records) {
-    let thirty_three = [0, 1, 0, 1].repeat(33);
+    let thirty_three = [1, 1, 0, 2].repeat(33);
     let fronts: [&[u64]; 10] = [
         &[],
-        &[0, 0, 0, 0],
-        &[0, 1, 0, 0],
-        &[0, 0, 0, 0, 1, 5, 31, 31],
-        &[64, 0, 0, 0],
-        &[0, 6, 0, 0],
-        &[0, 0, 1, 0],
-        &[0, 0, 0, 32, 0, 0, 0, 0],
-        &[0, 0, 0, 0, 0, 0, 0, 0],
+        &[1, 0, 0, 1],
+        &[1, 1, 0, 1],
+        &[1, 0, 0, 1, 2, 5, 31, 32],
+        &[65, 0, 0, 1],
+        &[1, 6, 0, 1],
+        &[1, 0, 1, 1],
+        &[1, 0, 0, 33, 1, 0, 0, 1],
+        &[1, 0, 0, 1, 1, 0, 0, 1],
         &thirty_three,
     ];
-    let rests: [&[u64]; 5] = [&[0], &[1, 0], &[1, 0, 0], &[64, 13, 9], &[u64::MAX]];
+    let rests: [&[u64]; 5] = [&[0], &[2, 0], &[2, 0, 0], &[65, 13, 9], &[u64::MAX]];
     for front in fronts {
         for rest in rests {
             add(records, 5, 0, 20, &[front, rest].concat());
         }
         for (k, total) in [(0, 0), (13, 0), (12, MOST_TOTAL + 1)] {
-            add(records, k, total, 9, &[front, &[0, 0]].concat());
+            add(records, k, total, 9, &[front, &[1, 0]].concat());
         }
     }
 }
@@ -235,7 +235,7 @@ fn add_long(records: &mut Records, k: u64, bytes: u64, others: &[u64], rest: &[u
         "1\n".len() as u64
     };
     let bits = bytes - head - broken - line * (1 + others.len() as u64 / 4);
-    let long = [0, bits, 0, 0];
+    let long = [1, bits, 0, 1];
     add(records, k, 7, 20, &[others, &long, rest].concat());
     add(records, k, 7, 20, &[&long, others, rest].concat());
 }
@@ -245,59 +245,59 @@ fn add_long(records: &mut Records, k: u64, bytes: u64, others: &[u64], rest: &[u
 fn too_long(records: &mut Records) {
     for bytes in [65_535, 65_536, 65_537, 70_000, 1 << 32] {
         add_long(records, 5, bytes, &[], &[]);
-        add_long(records, 5, bytes, &[0, 0, 0, 0], &[]);
-        add_long(records, 13, bytes, &[0, 0, 0, 0, 0, 0, 0, 0], &[0]);
-        add_long(records, 5, bytes, &[8, 0, 0, 8], &[8, 70_000, 0]);
+        add_long(records, 5, bytes, &[1, 0, 0, 1], &[]);
+        add_long(records, 13, bytes, &[1, 0, 0, 1, 1, 0, 0, 1], &[1]);
+        add_long(records, 5, bytes, &[9, 0, 0, 9], &[9, 70_000, 0]);
     }
     for length in [65_530, 1_000_000, 1 << 32, 1 << 63, u64::MAX] {
         for k in [0, 12, u64::MAX] {
-            add(records, k, 0, 9, &[0, length, 0, 0]);
+            add(records, k, 0, 9, &[1, length, 0, 1]);
         }
         add(
             records,
             5,
             u64::MAX,
             9,
-            &[length, length, length, length, 0],
+            &[length, length, length, length, 1],
         );
         add(
             records,
             5,
             0,
             9,
-            &[0, 0, length, 0, length, 0, length, length],
+            &[1, 0, length, 1, length, 0, length, length],
         );
     }
     for small in 0..24 {
-        add(records, 5, 0, 9, &[0, u64::MAX - small, 0, 0]);
+        add(records, 5, 0, 9, &[1, u64::MAX - small, 0, 1]);
     }
     for (times, length) in [(2, 1 << 63), (4, 1 << 62), (8, 1 << 61), (256, 1 << 56)] {
-        add(records, 5, 0, 9, &[0, length, 0, 0].repeat(times));
+        add(records, 5, 0, 9, &[1, length, 0, 1].repeat(times));
     }
-    add(records, 5, 0, 9, &[0, u64::MAX, 0, 0, 0, 1, 0, 0]);
-    add(records, 5, 0, 9, &[0, u64::MAX - 40, 0, 0].repeat(3));
+    add(records, 5, 0, 9, &[1, u64::MAX, 0, 1, 1, 1, 0, 1]);
+    add(records, 5, 0, 9, &[1, u64::MAX - 40, 0, 1].repeat(3));
 }
 
 /// 2,047 to 2,049 lines, with the broken one, and as many wide lines around
 /// 65,536 bytes.
 fn many_and_wide(records: &mut Records) {
-    let own = |service| [[service, 1, 0, 0].repeat(31), vec![service, 0, 0, 0]].concat();
-    let mut full: Vec<u64> = (0..64).flat_map(own).collect();
+    let own = |service| [[service, 1, 0, 1].repeat(31), vec![service, 0, 0, 1]].concat();
+    let mut full: Vec<u64> = (1..=64).flat_map(own).collect();
     for length in [8_189, 8_191] {
         add(records, 1, 0, 9, &full[..length]);
     }
-    full.extend([63, 0, 0]);
+    full.extend([64, 0, 0]);
     for length in [8_193, 8_195] {
         add(records, 1, 0, 9, &full[..length]);
     }
     for (k, total) in [(1, 0), (13, 0), (1, u64::MAX)] {
-        add(records, k, total, 9, &[0, 0, 0, 0].repeat(2_049));
+        add(records, k, total, 9, &[1, 0, 0, 1].repeat(2_049));
     }
     // Lines of 32 bytes, line 1 of 16, then `10 *.. 10` and `10`, around 65,536.
     for (lines, bits) in [(2_046, 37), (2_047, 5)] {
         for more in 0..3 {
-            let mut wide = [9_999_999_998, 7, 0, 9_999_999_999].repeat(lines);
-            wide.extend([9, bits - 1 + more, 0, 9, 9]);
+            let mut wide = [9_999_999_999, 7, 0, 10_000_000_000].repeat(lines);
+            wide.extend([10, bits - 1 + more, 0, 10, 10]);
             add(records, 12, 0, 9, &wide);
         }
     }

@@ -20,7 +20,7 @@ use Rattle.expansion.proofs.call.check_weights.Tie as tie
 abbrev Inv-loop : tie.InvT-loop
 Inv-loop weights sum₀ b₀ sum b =
     (b ≤ length weights)
-    × (sum ≤ 1000000 * b)
+    × (sum ≤ unit * b)
     × (sum ≡ sumTo b (λ j. getD weights j 0))
     × (allTo b (λ j. leb (getD weights j 0) unit) ≡ true)
 
@@ -49,6 +49,7 @@ returns-3 c =
     sym (weights-over _ (omega arith) (omega arith) (c .before .before .before .loop .b) (omega arith) (c .if3 .taken))
 
 add-sum : tie.Need-add-sum Inv-loop μ-loop
+unfolding unit
 add-sum c = omega arith
 
 add-b : tie.Need-add-b Inv-loop μ-loop

@@ -4,7 +4,8 @@ use mathlib.Core.List.{map-id}
 use mathlib.Core.Path.{_≡_, refl, _∙_}
 use native.Mathlib.Omega.{arith}
 use lib.ListN.{length, length-map}
-use Rattle.expansion.specs.Kept.{noRule}
+use Rattle.numerals.specs.Limits.{mostRules}
+use Rattle.expansion.specs.Inner.Lists.{noRule}
 use Rattle.expansion.specs.declared.rule.Rule.{Rule}
 use Rattle.expansion.proofs.Listing.{Copied, copied-length, copied-more}
 use Rattle.expansion.proofs.call.copy_out.Statement.{statement}
@@ -25,10 +26,10 @@ loop-holds : tie.Need-loop-holds Inv-loop μ-loop
 loop-holds c = (omega arith, record { is = refl }, record { is = refl }, record { is = refl }, record { is = refl })
 
 -- the arrays of the list
-rules-long : (c : tie.Start Inv-loop μ-loop) → length (c .args .t1 .rules) ≡ 32
+rules-long : (c : tie.Start Inv-loop μ-loop) → length (c .args .t1 .rules) ≡ mostRules
 rules-long c = simp length-map at (c .good .0 .1 .1 .0 .1 .0 .1)
 
-stairs-long : (c : tie.Start Inv-loop μ-loop) → length (c .args .t1 .stairs) ≡ 32
+stairs-long : (c : tie.Start Inv-loop μ-loop) → length (c .args .t1 .stairs) ≡ mostRules
 stairs-long c = simp length-map at (c .good .0 .1 .1 .1 .0 .1 .0 .1)
 
 mul-rule : tie.Need-mul-rule Inv-loop μ-loop

@@ -9,6 +9,7 @@ use lib.ListN.{length, take, length-map}
 use lib.Seq.{sets}
 use borrow.Author.Needs.{needs}
 use borrow.Author.Tests.{not-true, not-false, leb-true}
+use Rattle.numerals.specs.Limits.{mostRules}
 use Rattle.expansion.specs.Answer.{checkCall, listMade, lensMade, valuesMade, backendsMade}
 use Rattle.expansion.specs.declared.rule.Rule.{Rule}
 use Rattle.expansion.specs.declared.call.Checked.the-variants.{Sound as Passed}
@@ -44,8 +45,8 @@ passed : (c : tie.After-enum-told)
     → let s = c .before .before .before .before .before .before .before .before in let a = s .args in checkCall (a .k) (a .tolerance) (a .budget) (a .weights .now) ≡ Passed
 passed c = sym (c .before .before .check-call .ensures) ∙ c .enum-told .given .1
 
-make-list-requires : tie.Need-make-list-requires
-make-list-requires c κs =
+make-numbered-requires : tie.Need-make-numbered-requires
+make-numbered-requires c κs =
     let s = c .before .before .before .before .before .before .before .before in let a = s .args in
     let v = call-passed (a .k) (a .tolerance) (a .budget) (a .weights .now) (passed c) in
     (v .0, (v .1, v .2))
@@ -63,16 +64,16 @@ has-room-requires : tie.Need-has-room-requires
 has-room-requires c κs = search needs
 
 -- from the test of the room back to the list made, and to the start
-abbrev list-of : tie.After-has-room → tie.After-make-list
+abbrev list-of : tie.After-has-room → tie.After-make-numbered
 list-of c = c .before .before .before .before .before
 
 abbrev begun : tie.After-has-room → tie.Start
 begun c = c .before .before .before .before .before .before .before .before .before .before .before .before .before .before
 
 -- the test is one of the shortest buffer
-room-is : (c : tie.After-has-room) → c .has-room .result ≡ leb (begun c .args .at + list-of c .make-list .result .list .count) (room (begun c))
+room-is : (c : tie.After-has-room) → c .has-room .result ≡ leb (begun c .args .at + list-of c .make-numbered .result .list .count) (room (begun c))
 room-is c =
-    let n = begun c .args .at + list-of c .make-list .result .list .count in
+    let n = begun c .args .at + list-of c .make-numbered .result .list .count in
     let least : c .before .smaller3 .result ≡ room (begun c) = omega (arith, c .before .smaller3 .ensures, c .before .before .smaller2 .ensures, c .before .before .before .smaller .ensures) in
     c .has-room .ensures ∙ ap (leb n) least
 
@@ -83,22 +84,22 @@ returns-2 c =
     let a = s .args in
     let m = list-of h in (
       sym
-          (answer-short (a .k) (a .tolerance) (a .budget) (a .weights .now) (m .make-list .result) (m .make-list .ensures)
+          (answer-short (a .k) (a .tolerance) (a .budget) (a .weights .now) (m .make-numbered .result) (m .make-numbered .ensures)
           (a .at) (room s) (passed (m .before)) (sym (room-is h) ∙ not-true _ (c .if1 .taken))),
       (refl, (refl, (refl, refl))),
     )
 
 -- all have room
-fits : (c : tie.Else1) → begun (c .before) .args .at + list-of (c .before) .make-list .result .list .count ≤ room (begun (c .before))
+fits : (c : tie.Else1) → begun (c .before) .args .at + list-of (c .before) .make-numbered .result .list .count ≤ room (begun (c .before))
 fits c =
-    leb-true (begun (c .before) .args .at + list-of (c .before) .make-list .result .list .count) (room (begun (c .before)))
+    leb-true (begun (c .before) .args .at + list-of (c .before) .make-numbered .result .list .count) (room (begun (c .before)))
     (sym (room-is (c .before)) ∙ not-false _ (c .if1 .left))
 
 copy-out-requires : tie.Need-copy-out-requires
 copy-out-requires c κs =
     let e = c .before .before .before .before in
     let f = fits e in
-    (list-of (e .before) .make-list .ensures .few-rules, (omega arith, (omega arith, (omega arith, omega arith))))
+    (list-of (e .before) .make-numbered .ensures .few-rules, (omega arith, (omega arith, (omega arith, omega arith))))
 
 same-length : tie.Need-same-length
 same-length c = search needs
@@ -113,11 +114,11 @@ same-length-4 : tie.Need-same-length-4
 same-length-4 c = search needs
 
 -- the arrays of the list
-rules-long : (c : tie.After-make-list) → length (c .make-list .result .list .rules) ≡ 32
-rules-long c = simp length-map at (c .make-list .ok .1 .1 .0 .1 .1 .0 .1 .0 .1)
+rules-long : (c : tie.After-make-numbered) → length (c .make-numbered .result .list .rules) ≡ mostRules
+rules-long c = simp length-map at (c .make-numbered .ok .1 .1 .0 .1 .1 .0 .1 .0 .1)
 
-stairs-long : (c : tie.After-make-list) → length (c .make-list .result .list .stairs) ≡ 32
-stairs-long c = simp length-map at (c .make-list .ok .1 .1 .0 .1 .1 .1 .0 .1 .0 .1)
+stairs-long : (c : tie.After-make-numbered) → length (c .make-numbered .result .list .stairs) ≡ mostRules
+stairs-long c = simp length-map at (c .make-numbered .ok .1 .1 .0 .1 .1 .1 .0 .1 .0 .1)
 
 returns-3 : tie.Need-returns-3
 unfolding lensMade valuesMade backendsMade
@@ -126,8 +127,8 @@ returns-3 c =
     let s = begun (e .before) in
     let a = s .args in
     let m = list-of (e .before) in
-    let r = m .make-list .result in
-    let M = m .make-list .ensures in
+    let r = m .make-numbered .result in
+    let M = m .make-numbered .ensures in
     let rules : r .list .count ≤ length (r .list .rules) = omega (arith, rules-long m, M .few-rules) in
     let stairs : r .list .count ≤ length (r .list .stairs) = omega (arith, stairs-long m, M .few-rules) in
     let column : (f : Rule → ℕ)
@@ -155,7 +156,7 @@ expand-spec =
     enum-known-checked
     returns
     enum-told
-    make-list-requires
+    make-numbered-requires
     smaller-requires
     smaller-requires-2
     smaller-requires-3

@@ -2,7 +2,7 @@
 use Prim.Native.Nat.{_-_, _≤_}
 use mathlib.Core.Path.{_≡_}
 use native.Mathlib.Omega.{arith}
-use Rattle.expansion.specs.Kept.{Given}
+use Rattle.expansion.specs.Inner.Holders.{Given}
 use Rattle.expansion.proofs.Holdings.{given-none, given-more}
 use Rattle.expansion.proofs.holders.give.Statement.{statement}
 use Rattle.expansion.proofs.holders.give.Tie as tie

@@ -5,8 +5,9 @@ use native.Mathlib.Nat.{suc-mul, mul-le-mul-right}
 use native.Mathlib.Omega.{arith}
 use lib.Pow.{pow-pos}
 use borrow.Author.Needs.{needs}
+use Rattle.numerals.specs.Limits.{mostSuffixes}
 use Rattle.numerals.specs.Suffix.{place}
-use Rattle.expansion.specs.Kept.{Given, lowered, nodeOf}
+use Rattle.expansion.specs.Inner.Holders.{Given, lowered, nodeOf}
 use Rattle.numerals.proofs.Powers.{pow-few, shifted}
 use Rattle.expansion.proofs.Count.{pow-split}
 use Rattle.expansion.proofs.holders.hand_over.Statement.{statement}
@@ -20,7 +21,7 @@ size-is : (s : tie.Start) → (1 * 2 ^ (s .args .m .index)) % 2 ^ 64 ≡ 2 ^ (s 
 size-is s = shifted (s .args .m .index) (omega arith)
 
 -- all places are those of the nodes
-all-is : (s : tie.Start) → 2 ^ (s .args .k - s .args .m .index) * 2 ^ (s .args .m .index) ≤ 4096
+all-is : (s : tie.Start) → 2 ^ (s .args .k - s .args .m .index) * 2 ^ (s .args .m .index) ≤ mostSuffixes
 all-is s = omega (arith, pow-split (s .args .m .index) (s .args .k) (s .pre .0 .1 .0), pow-few (s .args .k) (s .pre .0 .0))
 
 shl-size : tie.Need-shl-size
@@ -63,7 +64,7 @@ found : (c : tie.After-lowest-whole) → c .lowest-whole .result ≡ node c
 unfolding nodeOf
 found c = simp (nodes-is (begun c), size-is (begun c)) at (c .lowest-whole .ensures)
 
-inside : (c : tie.After-lowest-whole) → let i = begun c .args .m .index in c .lowest-whole .result * 2 ^ i + 2 ^ i ≤ 4096
+inside : (c : tie.After-lowest-whole) → let i = begun c .args .m .index in c .lowest-whole .result * 2 ^ i + 2 ^ i ≤ mostSuffixes
 inside c =
     let s = begun c in
     let i = s .args .m .index in

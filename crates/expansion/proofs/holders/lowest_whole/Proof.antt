@@ -8,7 +8,7 @@ use native.Mathlib.Nat.{suc-mul, mul-le-mul-right}
 use native.Mathlib.Omega.{arith}
 use mathlib.Core.List.{List}
 use lib.ListN.{getD}
-use Rattle.expansion.specs.Kept.{heldBy}
+use Rattle.expansion.specs.Inner.Holders.{heldBy}
 use Rattle.expansion.proofs.Holdings.{held-not, held-all, lowest-is}
 use Rattle.expansion.proofs.holders.lowest_whole.Statement.{statement}
 use Rattle.expansion.proofs.holders.lowest_whole.Tie as tie

@@ -5,7 +5,7 @@ use mathlib.Core.Path.{_≡_, ap}
 use native.Mathlib.Omega.{arith}
 use lib.ListN.{getD, set}
 use borrow.Author.Needs.{needs}
-use Rattle.expansion.specs.Kept.{lowered}
+use Rattle.expansion.specs.Inner.Holders.{lowered}
 use Rattle.expansion.proofs.holders.note_lows.Statement.{statement}
 use Rattle.expansion.proofs.holders.note_lows.Tie as tie
 

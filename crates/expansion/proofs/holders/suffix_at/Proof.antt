@@ -4,13 +4,14 @@ use mathlib.Core.Path.{_≡_, ap, sym, _∙_}
 use native.Mathlib.Nat.{mod-eq-of-lt}
 use native.Mathlib.Omega.{arith}
 use borrow.Author.Needs.{needs}
+use Rattle.numerals.specs.Limits.{mostBits, mostSuffixes}
 use Rattle.numerals.specs.Suffix.{place}
 use Rattle.numerals.proofs.Place.{place-read}
 use Rattle.numerals.proofs.Powers.{pow-few}
 use Rattle.expansion.proofs.holders.suffix_at.Statement.{statement}
 use Rattle.expansion.proofs.holders.suffix_at.Tie as tie
 
-few : (s : tie.Start) → s .args .at < 4096
+few : (s : tie.Start) → s .args .at < mostSuffixes
 few s = omega (arith, pow-few (s .args .k) (s .pre .0))
 
 mul-result : tie.Need-mul-result
@@ -32,9 +33,9 @@ returns : tie.Need-returns
 returns c =
     let s = c .before in
     let a = s .args in
-    ap (λ (x : ℕ). x / 2 ^ (12 - a .k))
-    (s .pre .1 .1 .at (a .at) (few s) ∙ ap (place 12) (sym (mod-eq-of-lt (s .pre .1 .0))))
-    ∙ place-read (a .k) 12 (a .at) (s .pre .0)
+    ap (λ (x : ℕ). x / 2 ^ (mostBits - a .k))
+    (s .pre .1 .1 .at (a .at) (few s) ∙ ap (place mostBits) (sym (mod-eq-of-lt (s .pre .1 .0))))
+    ∙ place-read (a .k) mostBits (a .at) (s .pre .0)
 
 pub suffix-at-spec : {M : Type 1} → statement M
 suffix-at-spec =

@@ -3,7 +3,7 @@ use Prim.Native.Nat.{_*_}
 use lib.IntN.{pos, _+ℤ_}
 use borrow.Author.Needs.{needs}
 use Rattle.numerals.specs.Limits.{unit}
-use Rattle.expansion.specs.Kept.{moreOf}
+use Rattle.expansion.specs.Inner.Ledger.{moreOf}
 use Rattle.expansion.proofs.Signed.{back, small-read, few-more, parts-read}
 use Rattle.expansion.proofs.ledger.more.Statement.{statement}
 use Rattle.expansion.proofs.ledger.more.Tie as tie

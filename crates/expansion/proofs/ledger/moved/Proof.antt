@@ -37,7 +37,8 @@ use denote.Triple.Clauses.{ensured, lasts}
 use denote.Triple.Table.{entered, cited}
 use denote.Triple.Walked.{says, Stays, stay-none, walkOf, goes-none, Walks, ends-at, walked, walk-meets}
 use denote.Exit.{yes}
-use Rattle.expansion.specs.Kept.{Small, entryAt, errorAt, Movable, movedOf}
+use Rattle.numerals.specs.Limits.{mostBackends, mostSuffixes}
+use Rattle.expansion.specs.Inner.Ledger.{Small, entryAt, errorAt, Movable, movedOf}
 use Rattle.expansion.specs.declared.ledger.Backend.{Backend}
 use Rattle.expansion.specs.declared.ledger.Ledger.{Ledger}
 use Rattle.expansion.proofs.ledger.Backend as B
@@ -61,8 +62,8 @@ abbrev Shift : {M : Type 1} (𝓤 : URA M) (H : Heap 𝓤) (A : Atoms 𝓤) (mem
 Shift 𝓤 H A mem run = tripleOf 𝓤 H A shift.signature (shift.spec 𝓤 H A mem run)
 
 -- what `moved` requires is what `shift` requires
-movable : (l : Ledger) (g r c : ℕ) → length (l .at) ≡ 32 → (g < 32) × ((r < 32) × (c ≤ 4096))
-    → (c ≤ entryAt l g .share) × (entryAt l r .share ≤ 4096) → Small (errorAt l g) × Small (errorAt l r) → Movable (l .at) g r c
+movable : (l : Ledger) (g r c : ℕ) → length (l .at) ≡ mostBackends → (g < mostBackends) × ((r < mostBackends) × (c ≤ mostSuffixes))
+    → (c ≤ entryAt l g .share) × (entryAt l r .share ≤ mostSuffixes) → Small (errorAt l g) × Small (errorAt l r) → Movable (l .at) g r c
 movable l g r c long within enough small = record {
   giver-in = subst (λ (n : ℕ). g < n) (sym long) (within .0);
   receiver-in = subst (λ (n : ℕ). r < n) (sym long) (within .1 .0);
@@ -93,8 +94,8 @@ module _ {M : Type 1} (𝓤 : URA M) (H : Heap 𝓤) (A : Atoms 𝓤) (W : Given
   fits : Fits es
   fits = of-ledger ledger _ is
 
-  typed : (xs : List Backend) → Fits xs → T (hasTy (tyArray B′.mir 32) (arr xs)) × WT (arr xs)
-  typed xs g = array-lawful 𝓤 H A W Entry (LL.lawful B.the-type B′.the-laws 𝓤 H A W) 32 .typed xs _ g .0
+  typed : (xs : List Backend) → Fits xs → T (hasTy (tyArray B′.mir mostBackends) (arr xs)) × WT (arr xs)
+  typed xs g = array-lawful 𝓤 H A W Entry (LL.lawful B.the-type B′.the-laws 𝓤 H A W) mostBackends .typed xs _ g .0
 
   -- the arguments and their machine values
   abbrev Arg : Type 0
@@ -127,16 +128,16 @@ module _ {M : Type 1} (𝓤 : URA M) (H : Heap 𝓤) (A : Atoms 𝓤) (W : Given
       (fullShare, tt),
       tt,
       (lent b 0 γ es, (giver, (receiver, (count, tt)))),
-      (sliceVal (b, 0) 32 ∷ [], (vint w64 giver ∷ [], (vint w64 receiver ∷ [], (vint w64 count ∷ [], tt)))),
+      (sliceVal (b, 0) mostBackends ∷ [], (vint w64 giver ∷ [], (vint w64 receiver ∷ [], (vint w64 count ∷ [], tt)))),
     ),
     tt,
   )
 
   goes : (b α : ℕ) (γ : GName)
-      → ent 𝓤 (sep 𝓤 (A .lft (α ∷ []) fullShare) (sem 𝓤 H A (MutSlice (named 0) (α ∷ []) Entry .own (lent b 0 γ es) (sliceVal (b, 0) 32 ∷ []))))
+      → ent 𝓤 (sep 𝓤 (A .lft (α ∷ []) fullShare) (sem 𝓤 H A (MutSlice (named 0) (α ∷ []) Entry .own (lent b 0 γ es) (sliceVal (b, 0) mostBackends ∷ []))))
       (Shift 𝓤 H A mem run .pre (to-shift b α γ))
   goes b α γ =
-      qed W (‵ (flft (α ∷ []) fullShare) ∷ ‵ (MutSlice (named 0) (α ∷ []) Entry .own (lent b 0 γ es) (sliceVal (b, 0) 32 ∷ [])) ∷ []) ∵ says ! m $
+      qed W (‵ (flft (α ∷ []) fullShare) ∷ ‵ (MutSlice (named 0) (α ∷ []) Entry .own (lent b 0 γ es) (sliceVal (b, 0) mostBackends ∷ [])) ∷ []) ∵ says ! m $
       nothing ! $ move ! (1 ∷ 0 ∷ []) $ join ! $ frame ! $
       nothing ! $ number ! count count-fits $ number ! receiver receiver-fits $ number ! giver giver-fits $ move ! (1 ∷ 0 ∷ []) $ fjoin ! $ done !
 

@@ -1,36 +1,26 @@
--- `ledger::opened`: the entries passed are those of the weights, and one backend has every suffix.
-use Prim.Native.Nat.{ℕ, _+_, _-_, _^_, _≤_, _<_}
-use mathlib.Core.Bool.{Bool, true, false}
+-- `ledger::opened`: the entries passed are those of the weights and the shares.
+use Prim.Native.Nat.{ℕ, _+_, _-_, _≤_, _<_}
 use mathlib.Core.List.{List}
-use mathlib.Core.Logic.{⊎-elim}
 use mathlib.Core.Path.{_≡_, refl, ap, sym, _∙_}
 use native.Mathlib.Decide.{ℕ-discrete}
 use native.Mathlib.Omega.{arith}
 use denote.Ref.{now}
-use lib.Dec.{eqb}
 use lib.ListN.{length, getD, set, length-set}
 use lib.Seq.{getD-set-same, getD-set-other}
-use borrow.Author.Tests.{eq-eqb, ne-eqb}
-use Rattle.numerals.specs.Pick.{pick}
-use Rattle.numerals.specs.Limits.{unit}
-use Rattle.expansion.specs.Kept.{noBackend, entryAt, entryOf}
+use Rattle.numerals.specs.Limits.{mostBackends, unit}
+use Rattle.expansion.specs.Inner.Ledger.{noBackend, entryAt, entryOf}
 use Rattle.expansion.specs.declared.ledger.Backend.{Backend}
-use Rattle.numerals.proofs.Powers.{pow-few, shifted}
 use Rattle.expansion.proofs.ledger.opened.Statement.{statement}
 use Rattle.expansion.proofs.ledger.opened.Tie as tie
 
-share-few : (k : ℕ) (t : Bool) → k ≤ 12 → pick t (2 ^ k) 0 ≤ 4096
-share-few k true h = pow-few k h
-share-few k false h = omega arith
-
 abbrev Inv-loop : tie.InvT-loop
-Inv-loop weights k first ledger₀ b₀ ledger b =
+Inv-loop weights shares k ledger₀ b₀ ledger b =
     (b ≤ length weights)
-    × ((length (ledger .at) ≡ 32)
-    × ((i : ℕ) → i < b → entryAt ledger i ≡ entryOf unit k (getD weights i 0) (pick (eqb i first) (2 ^ k) 0)))
+    × ((length (ledger .at) ≡ mostBackends)
+    × ((i : ℕ) → i < b → entryAt ledger i ≡ entryOf unit k (getD weights i 0) (getD shares i 0)))
 
 abbrev μ-loop : tie.MeasureT-loop
-μ-loop weights k first ledger₀ b₀ ledger b = length weights - b
+μ-loop weights shares k ledger₀ b₀ ledger b = length weights - b
 
 entry-requires : tie.Need-entry-requires Inv-loop μ-loop
 entry-requires c κs = omega arith
@@ -38,31 +28,24 @@ entry-requires c κs = omega arith
 loop-holds : tie.Need-loop-holds Inv-loop μ-loop
 loop-holds c = (omega arith, (refl, λ i l. absurd (omega arith)))
 
-shl-share : tie.Need-shl-share Inv-loop μ-loop
-shl-share c = omega arith
-
 mul-entry : tie.Need-mul-entry Inv-loop μ-loop
 mul-entry c = omega arith
 
 shared-slice-read-entry : tie.Need-shared-slice-read-entry Inv-loop μ-loop
 shared-slice-read-entry c = omega arith
 
-module _ (c : tie.Joined1 Inv-loop μ-loop) where
-  abbrev s : tie.Start Inv-loop μ-loop
-  s = c .before .before .before .before .before
+mul-entry-2 : tie.Need-mul-entry-2 Inv-loop μ-loop
+mul-entry-2 c = omega arith
 
-  share-is : c .if1 .share ≡ pick (eqb (c .before .before .loop .b) (s .args .first)) (2 ^ (s .args .k)) 0
-  share-is =
-      ⊎-elim
-      (λ w. w .1 ∙ rw (shifted (s .args .k) (omega arith), eq-eqb (c .before .before .loop .b) (s .args .first) (w .0 .taken)))
-      (λ w. w .1 ∙ rw (ne-eqb (c .before .before .loop .b) (s .args .first) (w .0 .left)))
-      (c .if1 .came)
+shared-slice-read-entry-2 : tie.Need-shared-slice-read-entry-2 Inv-loop μ-loop
+shared-slice-read-entry-2 c = omega arith
 
 entry-requires-2 : tie.Need-entry-requires-2 Inv-loop μ-loop
 entry-requires-2 c κs =
-    let s = c .before .before .before .before .before .before in
-    let b = c .before .before .before .loop .b in
-    (omega arith, (rw (share-is (c .before)) (share-few (s .args .k) (eqb b (s .args .first)) (omega arith)), s .pre .1 b (omega arith)))
+    let l = c .before .before .before in
+    let s = l .before .before .before .before in
+    let each = s .pre .1 (l .loop .b) (omega arith) in
+    (omega arith, (each .1, each .0))
 
 mul-t16 : tie.Need-mul-t16 Inv-loop μ-loop
 mul-t16 c = omega arith
@@ -82,22 +65,19 @@ module _ (c : tie.After-entry2 Inv-loop μ-loop) where
   l = c .before .before .before .before
 
   abbrev z : tie.Start Inv-loop μ-loop
-  z = l .before .before .before
+  z = l .before .before .before .before
 
   abbrev want : ℕ → Backend
-  want i = entryOf unit (z .args .k) (getD (now (z .args .weights)) i 0) (pick (eqb i (z .args .first)) (2 ^ (z .args .k)) 0)
+  want i = entryOf unit (z .args .k) (getD (now (z .args .weights)) i 0) (getD (now (z .args .shares)) i 0)
 
   abbrev after : List Backend
   after = set (l .loop .ledger .at) (l .loop .b) (c .entry2 .result)
-
-  this : c .entry2 .result ≡ want (l .loop .b)
-  this = c .entry2 .ensures ∙ ap (entryOf unit (z .args .k) (getD (now (z .args .weights)) (l .loop .b) 0)) (share-is (c .before .before))
 
   each : (i : ℕ) → i < l .loop .b + 1 → Dec (i ≡ l .loop .b) → getD after i noBackend ≡ want i
   each i h (yes e) =
       ap (λ (j : ℕ). getD after j noBackend) e
       ∙ getD-set-same (l .loop .ledger .at) (l .loop .b) (c .entry2 .result) noBackend (omega arith)
-      ∙ this
+      ∙ c .entry2 .ensures
       ∙ ap want (sym e)
   each i h (no d) =
       getD-set-other (l .loop .ledger .at) (l .loop .b) i (c .entry2 .result) noBackend d ∙ l .loop .inv .1 .1 i (omega arith)
@@ -122,9 +102,10 @@ opened-spec =
     μ-loop
     entry-requires
     loop-holds
-    shl-share
     mul-entry
     shared-slice-read-entry
+    mul-entry-2
+    shared-slice-read-entry-2
     entry-requires-2
     mul-t16
     element-set-from-ledger

@@ -7,7 +7,7 @@ use mir.Facts.{toZ-ofZ}
 use mir.Syntax.{w64}
 use mir.Val.{toZ, ofZ}
 use borrow.Author.Tests.{ltb-true, ltb-false}
-use Rattle.expansion.specs.Kept.{over}
+use Rattle.expansion.specs.Inner.Ledger.{over}
 use Rattle.expansion.proofs.Signed.{lt-over, back}
 use Rattle.expansion.proofs.ledger.raised.Statement.{statement}
 use Rattle.expansion.proofs.ledger.raised.Tie as tie

@@ -35,7 +35,8 @@ use denote.Triple.Table.{entered, cited}
 use denote.Triple.Walked.{says, needs, Stays, stay-slice, stay-none, walkOf, goes-slice, goes-none, Walks, ends-at, walked, walk-meets}
 use denote.Exit.{yes}
 use denote.Signature.{plain}
-use Rattle.expansion.specs.Kept.{Small, Movable, noBackend, lessOf, moreOf}
+use Rattle.numerals.specs.Limits.{mostSuffixes}
+use Rattle.expansion.specs.Inner.Ledger.{Small, Movable, noBackend, lessOf, moreOf}
 use Rattle.expansion.specs.declared.ledger.Backend.{Backend}
 use Rattle.expansion.proofs.ledger.Backend as B
 use Rattle.expansion.proofs.ledger.Backend.Laws as B′
@@ -55,10 +56,10 @@ use Rattle.expansion.proofs.ledger.shift.Code as code
 
 -- the contracts of `less` and `more`
 abbrev Less : {M : Type 1} (𝓤 : URA M) (H : Heap 𝓤) → Atoms 𝓤 → Contract 𝓤
-Less = Changes (λ e n. (n ≤ 4096) × ((n ≤ e .share) × Small (e .error))) lessOf
+Less = Changes (λ e n. (n ≤ mostSuffixes) × ((n ≤ e .share) × Small (e .error))) lessOf
 
 abbrev More : {M : Type 1} (𝓤 : URA M) (H : Heap 𝓤) → Atoms 𝓤 → Contract 𝓤
-More = Changes (λ e n. (n ≤ 4096) × ((e .share ≤ 4096) × Small (e .error))) moreOf
+More = Changes (λ e n. (n ≤ mostSuffixes) × ((e .share ≤ mostSuffixes) × Small (e .error))) moreOf
 
 -- at exit the ledger is still owned, and the numbers are as they were passed
 abbrev stayed : Stays (shift.ended .signature .params) (shift.ended .kept)

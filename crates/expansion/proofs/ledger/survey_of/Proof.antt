@@ -9,7 +9,7 @@ use lib.Signed.{mag, ltZ}
 use mir.Syntax.{w64}
 use mir.Val.{toZ, ofZ}
 use Rattle.numerals.specs.Sums.{sumTo}
-use Rattle.expansion.specs.Kept.{over, under, Small, errorAt}
+use Rattle.expansion.specs.Inner.Ledger.{over, under, Small, errorAt}
 use Rattle.expansion.specs.declared.ledger.Extreme.{Extreme}
 use Rattle.numerals.proofs.Sums.{sum-none, sum-next, sum-most}
 use Rattle.expansion.proofs.Signed.{over-mag, mag-neg, above, below-zero, back, small-read}

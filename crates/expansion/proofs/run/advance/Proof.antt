@@ -1,53 +1,80 @@
 -- `run::advance` meets its contract: the move that comes next can be made, and after it the state stands with its rule.
 use Prim.Native.Nat.{ℕ, _-_, _≤_, _<_}
-use mathlib.Core.List.{_∷_}
-use mathlib.Core.Path.{_≡_, refl, sym, _∙_}
+use mathlib.Core.List.{List, _∷_}
+use mathlib.Core.Path.{_≡_, sym, _∙_}
 use native.Mathlib.Omega.{arith}
-use lib.ListN.{length}
+use lib.ListN.{length, getD}
 use borrow.Author.Needs.{needs}
-use Rattle.numerals.specs.Limits.{unit}
-use Rattle.expansion.specs.Steps.{frame, newRule, after}
-use Rattle.expansion.specs.Kept.{Small, errorAt, nextFor}
+use Rattle.numerals.specs.Limits.{mostBits, mostBackends}
+use Rattle.expansion.specs.FirstMatch.{nobody}
+use Rattle.expansion.specs.Imbalance.{backends, label}
+use Rattle.expansion.specs.Steps.{Frame, newRule, after}
+use Rattle.expansion.specs.Inner.Ledger.{Small, errorAt}
+use Rattle.expansion.specs.Inner.Terms.{nextFor, nextOf}
+use Rattle.expansion.specs.Inner.Run.{framed, Fits, Stands}
+use Rattle.expansion.specs.declared.rule.Rule.{Rule}
 use Rattle.expansion.specs.declared.rule.Move.{Move}
 use Rattle.expansion.specs.declared.run.Next.the-variants.{Go}
 use Rattle.numerals.proofs.Powers.{pow-few, shifted}
-use Rattle.expansion.proofs.Ready.{Ready, movedBy, next-fewer}
+use Rattle.expansion.proofs.NextMove.{Ready, movedBy, next-fewer}
 use Rattle.expansion.proofs.Surveys.{surveyed-sized, surveyed-next}
-use Rattle.expansion.proofs.Standing.{small, ready-go, index-falls, adds-rule, stands-moved}
+use Rattle.expansion.proofs.Turning.{small, someone, ready-go, index-falls, adds-rule, stands-moved}
 use Rattle.expansion.proofs.run.advance.Statement.{statement}
 use Rattle.expansion.proofs.run.advance.Tie as tie
 
-ready : (s : tie.Start)
-    → let a = s .args in
-    Ready (a .k) (a .tolerance) (a .weights .now) (a .holder .now) (a .low .now)
-    (after (frame (a .k) unit (a .tolerance) (a .weights .now)) (a .state .count - 1)) (a .state .ledger) (a .m)
-ready s =
-    let a = s .args in
-    ready-go (a .k) (a .tolerance) (a .weights .now) (s .pre .0 .0) (a .holder .now) (a .low .now) (a .state) (s .pre .0 .1 .0) (a .m) (s .pre .1 .1)
+-- the frame of a cap and a start
+abbrev at : tie.Start → ℕ → List Rule → Frame
+at s cap start = framed (s .args .k) cap (s .args .tolerance) (s .args .labels .now) (s .args .weights .now) start
 
-smalls : (s : tie.Start) (b : ℕ) → b < length (s .args .weights .now) → Small (errorAt (s .args .state .ledger) b)
-smalls s =
-    let a = s .args in
-    small (a .k) (a .tolerance) (a .weights .now) (s .pre .0 .0)
-    (after (frame (a .k) unit (a .tolerance) (a .weights .now)) (a .state .count - 1)) (a .state .ledger) (s .pre .0 .1 .0 .keeps)
+-- the one that is known to be there
+module _ (s : tie.Start) where
+  abbrev F : Frame
+  F = at s (s .pre .0 .0) (s .pre .0 .2)
 
--- the term
-low : (s : tie.Start) → s .args .m .index ≤ 12
-low s = omega (arith, ready s .index, s .pre .0 .0 .few-bits)
+  abbrev x : ℕ
+  x = s .pre .0 .1
+
+  abbrev S : Stands F x (s .args .holder .now) (s .args .low .now) (s .args .state)
+  S = s .pre .0 .3
+
+  abbrev fits : Fits F
+  fits = S .fits
+
+  ready : Ready F (s .args .holder .now) (s .args .low .now) (after F x) (s .args .state .ledger) (s .args .m)
+  ready = ready-go F x (s .args .holder .now) (s .args .low .now) (s .args .state) S (s .args .m) (s .pre .1 .1)
+
+  some : 0 < length (s .args .weights .now)
+  unfolding backends
+  some = someone F fits
+
+  few : length (s .args .weights .now) ≤ mostBackends
+  unfolding backends
+  few = fits .few
+
+  -- the term
+  low : s .args .m .index ≤ mostBits
+  low = omega (arith, ready .index, fits .sound .below, fits .few-bits)
+
+mul-label : tie.Need-mul-label
+mul-label c = let s = c .before .before .before .before .before in omega (arith, ready s .receiver, fits s .few)
+
+shared-slice-read-label : tie.Need-shared-slice-read-label
+unfolding backends
+shared-slice-read-label c =
+    let s = c .before .before .before .before .before .before in omega (arith, ready s .receiver, fits s .labelled)
 
 hand-over-requires : tie.Need-hand-over-requires
 hand-over-requires c κs =
-    let s = c .before .before .before .before .before .before in
+    let s = c .before .before .before .before .before .before .before .before in
     let R = ready s in
-    let v = s .pre .0 .0 in
-    let S = s .pre .0 .1 .0 in (
-      (v .few-bits, (omega (arith, R .index), (omega (arith, R .giver, v .few), omega (arith, R .receiver, v .few)))),
-      ((S .long .0, (S .long .1, s .pre .0 .1 .1)), R .found),
+    let f = fits s in (
+      (f .few-bits, (omega (arith, R .index, f .sound .below), (omega (arith, R .giver, f .few), omega (arith, R .receiver, f .few)))),
+      ((S s .long .0, (S s .long .1, s .pre .1 .0)), R .found),
     )
 
 -- from the call of `moved` back to the start
 abbrev begun : tie.After-before2 → tie.Start
-begun c = c .before .before .before .before .before .before .before .before .before .before .before .before
+begun c = c .before .before .before .before .before .before .before .before .before .before .before .before .before .before
 
 shl-moved : tie.Need-shl-moved
 shl-moved c = omega (arith, low (begun c))
@@ -56,11 +83,12 @@ moved-requires : tie.Need-moved-requires
 moved-requires c κs =
     let s = begun c in
     let m = s .args .m in
-    let v = s .pre .0 .0 in
     let R = ready s in
+    let each : (b : ℕ) → b < backends (F s .targets) → Small (errorAt (s .args .state .ledger) b) =
+    small (F s) (fits s) (after (F s) (x s)) (s .args .state .ledger) (S s .keeps) in
     rw (shifted (m .index) (low s)) (
-      (omega (arith, R .giver, v .few), (omega (arith, R .receiver, v .few), pow-few (m .index) (low s))),
-      ((R .held, R .taken), (smalls s (m .giver) (R .giver), smalls s (m .receiver) (R .receiver))),
+      (omega (arith, R .giver, fits s .few), (omega (arith, R .receiver, fits s .few), pow-few (m .index) (low s))),
+      ((R .held, R .taken), (each (m .giver) (R .giver), each (m .receiver) (R .receiver))),
     )
 
 -- the ledger afterwards
@@ -68,32 +96,25 @@ moved-at : (c : tie.After-moved) → let a = begun (c .before) .args in c .moved
 moved-at c = let s = begun (c .before) in simp (shifted (s .args .m .index) (low s)) at (c .moved .ensures)
 
 moved-small : (c : tie.After-moved) (b : ℕ) → b < length (begun (c .before) .args .weights .now) → Small (errorAt (c .moved .result) b)
+unfolding backends
 moved-small c =
     let s = begun (c .before) in
-    let a = s .args in
-    let F = frame (a .k) unit (a .tolerance) (a .weights .now) in
-    let rs = after F (a .state .count - 1) in
-    small (a .k) (a .tolerance) (a .weights .now) (s .pre .0 .0) (newRule F rs ∷ rs) (c .moved .result) (ready s .moved (c .moved .result) (moved-at c))
+    let rs = after (F s) (x s) in
+    small (F s) (fits s) (newRule (F s) rs ∷ rs) (c .moved .result) (ready s .moved (c .moved .result) (moved-at c))
 
 survey-of-requires : tie.Need-survey-of-requires
-survey-of-requires c κs =
-    let v = begun (c .before) .pre .0 .0 in
-    ((v .someone, v .few), moved-small c)
+survey-of-requires c κs = let s = begun (c .before) in ((some s, few s), moved-small c)
 
-sub-t20 : tie.Need-sub-t20
-sub-t20 c = omega (arith, ready (begun (c .before .before .before)) .index)
-
-add-t22 : tie.Need-add-t22
-add-t22 c = omega (arith, begun (c .before .before .before .before) .pre .1 .0)
+sub-t17 : tie.Need-sub-t17
+sub-t17 c = let s = begun (c .before .before .before) in omega (arith, ready s .index, fits s .sound .below)
 
 decide-requires : tie.Need-decide-requires
 decide-requires c κs =
-    let w = c .before .before in
+    let w = c .before in
     let M = w .before in
-    let s = begun (M .before) in
-    let v = s .pre .0 .0 in (
-      (v .few-bits, (v .tolerable, low s)),
-      surveyed-sized (M .moved .result) (length (s .args .weights .now)) (w .survey-of .result) (w .survey-of .ensures) (v .someone) (moved-small M),
+    let s = begun (M .before) in (
+      (fits s .few-bits, (fits s .tolerable, low s)),
+      surveyed-sized (M .moved .result) (length (s .args .weights .now)) (w .survey-of .result) (w .survey-of .ensures) (some s) (moved-small M),
     )
 
 same-length : tie.Need-same-length
@@ -102,43 +123,59 @@ same-length c = search needs
 same-length-2 : tie.Need-same-length-2
 same-length-2 c = search needs
 
+-- in each frame that the state stands in
+module _ (c : tie.After-decide) (cap y : ℕ) (start : List Rule) where
+  abbrev M : tie.After-moved
+  M = c .before .before .before
+
+  abbrev z : tie.Start
+  z = begun (M .before)
+
+  abbrev E : Frame
+  E = at z cap start
+
+  module _ (T : Stands E y (z .args .holder .now) (z .args .low .now) (z .args .state)) where
+    next-is : c .decide .result ≡ nextOf (M .moved .result) (backends (E .targets)) (z .args .k) (z .args .tolerance) cap
+    unfolding backends
+    next-is =
+        let a = z .args in
+        let w = c .before .before in
+        let next = surveyed-next (M .moved .result) (length (a .weights .now)) (w .survey-of .result) (w .survey-of .ensures) (a .k) (a .tolerance) cap in
+        let falls : (o : Move) → nextFor (w .survey-of .result .give) (w .survey-of .result .take) (a .k) (a .tolerance) cap ≡ Go o → o .index ≤ a .m .index =
+        λ o h. index-falls E y (a .holder .now) (a .low .now) (a .state) T (a .m) (z .pre .1 .1) (M .moved .result) (moved-at M) o (sym next ∙ h) in
+        let less : a .m .index ≤ cap = ready-go E y (a .holder .now) (a .low .now) (a .state) T (a .m) (z .pre .1 .1) .index in
+        c .decide .ensures ∙ next-fewer (w .survey-of .result .give) (w .survey-of .result .take) (a .k) (a .tolerance) cap (a .m .index) less falls ∙ next
+
 returns : tie.Need-returns
+unfolding backends label
 returns c =
-    let w = c .before .before .before in
+    let w = c .before .before in
     let M = w .before in
     let s = begun (M .before) in
     let a = s .args in
-    let S = w .survey-of .ensures in
-    let next = surveyed-next (M .moved .result) (length (a .weights .now)) (w .survey-of .result) S (a .k) (a .tolerance) (a .k - 1) in
-    let falls : (x : Move) → nextFor (w .survey-of .result .give) (w .survey-of .result .take) (a .k) (a .tolerance) (a .k - 1) ≡ Go x → x .index ≤ a .m .index =
-    λ x h.
-    index-falls (a .k) (a .tolerance) (a .weights .now) (s .pre .0 .0) (a .holder .now) (a .low .now) (a .state) (s .pre .0 .1 .0) (a .m) (s .pre .1 .1)
-    (M .moved .result) (moved-at M) x (sym next ∙ h) in
     let g = M .before .before .before .before .before .before in
-    let H = g .hand-over .ensures in (
-      stands-moved (a .k) (a .tolerance) (a .weights .now) (s .pre .0 .0) (a .holder .now) (a .low .now) (a .state) (s .pre .0 .1 .0) (a .m) (s .pre .1 .1)
+    let H = g .hand-over .ensures in
+    λ cap y start T. (
+      stands-moved (at s cap start) y (a .holder .now) (a .low .now) (a .state) T (a .m) (s .pre .1 .1)
           (g .hand-over .result) (g .hand-over .last .0) (g .hand-over .last .1 .0) H
           (M .moved .result) (moved-at M)
-          (w .survey-of .result .imbalance) (S .imbalance)
-          (c .decide .result) (c .decide .ensures ∙ next-fewer (w .survey-of .result .give) (w .survey-of .result .take) (a .k) (a .tolerance) (a .k - 1) (a .m .index) (ready s .index) falls ∙ next)
-          (record { len = a .k - a .m .index; value = g .hand-over .result; backend = a .m .receiver }),
-      (
-        refl,
-        adds-rule (a .k) (a .tolerance) (a .weights .now) (s .pre .0 .0) (a .holder .now) (a .low .now) (a .state) (s .pre .0 .1 .0) (a .m) (s .pre .1 .1)
-            (g .hand-over .result) (H .is),
-      ),
+          (w .survey-of .result .imbalance) (w .survey-of .ensures .imbalance)
+          (c .decide .result) (next-is c cap y start T)
+          (record { len = a .k - a .m .index; value = g .hand-over .result; backend = getD (a .labels .now) (a .m .receiver) nobody }),
+      adds-rule (at s cap start) y (a .holder .now) (a .low .now) (a .state) T (a .m) (s .pre .1 .1) (g .hand-over .result) (H .is),
     )
 
 pub advance-spec : {M : Type 1} → statement M
 advance-spec =
     tie.close
     (tie.spec
+    mul-label
+    shared-slice-read-label
     hand-over-requires
     shl-moved
     moved-requires
     survey-of-requires
-    sub-t20
-    add-t22
+    sub-t17
     decide-requires
     same-length
     same-length-2

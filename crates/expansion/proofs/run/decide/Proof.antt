@@ -15,7 +15,8 @@ use Rattle.numerals.specs.Pick.{pick, both}
 use Rattle.numerals.specs.Limits.{unit}
 use Rattle.numerals.specs.Sums.{lastmax}
 use Rattle.expansion.specs.Steps.{reduction}
-use Rattle.expansion.specs.Kept.{over, Sized, Best, nextFor}
+use Rattle.expansion.specs.Inner.Ledger.{over, Sized}
+use Rattle.expansion.specs.Inner.Terms.{Best, nextFor}
 use Rattle.expansion.specs.declared.rule.Ended.the-variants.{Within, NoGain}
 use Rattle.expansion.specs.declared.ledger.Extreme.{Extreme}
 use Rattle.expansion.specs.declared.run.Next.{Next}

@@ -16,7 +16,8 @@ use borrow.Author.Needs.{needs}
 use borrow.Author.Tests.{leb-true, leb-false}
 use Rattle.numerals.specs.Limits.{unit}
 use Rattle.expansion.specs.Steps.{reduction}
-use Rattle.expansion.specs.Kept.{over, Best}
+use Rattle.expansion.specs.Inner.Ledger.{over}
+use Rattle.expansion.specs.Inner.Terms.{Best}
 use Rattle.numerals.proofs.Powers.{pow-few, shifted}
 use Rattle.expansion.proofs.Reduction.{reduction-term}
 use Rattle.numerals.proofs.Searches.{Led, led-start, led-higher, led-kept, led-end}

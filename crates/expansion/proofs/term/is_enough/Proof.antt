@@ -7,7 +7,7 @@ use lib.IntN.{ℤ, pos}
 use lib.Signed.{leZ}
 use mir.Facts.{toZ-ofZ}
 use borrow.Author.Tests.{leb-true}
-use Rattle.expansion.specs.Kept.{over}
+use Rattle.expansion.specs.Inner.Ledger.{over}
 use Rattle.expansion.proofs.Reduction.{reduction-enough}
 use Rattle.expansion.proofs.term.is_enough.Statement.{statement}
 use Rattle.expansion.proofs.term.is_enough.Tie as tie

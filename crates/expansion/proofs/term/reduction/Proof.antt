@@ -9,7 +9,7 @@ use mir.Facts.{toZ-ofZ}
 use mir.Val.{toZ, ofZ}
 use borrow.Author.Needs.{needs}
 use Rattle.expansion.specs.Steps.{reduction}
-use Rattle.expansion.specs.Kept.{over}
+use Rattle.expansion.specs.Inner.Ledger.{over}
 use Rattle.expansion.proofs.Signed.{over-mag, pos-less, mag-sub, mag-sides, over-sub, under-sub, over-twice, under-twice, negative, positive, back}
 use Rattle.expansion.proofs.term.reduction.Statement.{statement}
 use Rattle.expansion.proofs.term.reduction.Tie as tie

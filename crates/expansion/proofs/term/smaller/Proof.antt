@@ -7,7 +7,7 @@ use lib.IntN.{ℤ, pos, negsuc}
 use lib.Signed.{ltZ}
 use mir.Facts.{toZ-ofZ}
 use borrow.Author.Tests.{ltb-true, ltb-false}
-use Rattle.expansion.specs.Kept.{over}
+use Rattle.expansion.specs.Inner.Ledger.{over}
 use Rattle.expansion.proofs.term.smaller.Statement.{statement}
 use Rattle.expansion.proofs.term.smaller.Tie as tie
 

@@ -5,7 +5,7 @@ use native.Mathlib.Omega.{arith}
 use mathlib.Core.Path.{_≡_, sym, ap, _∙_}
 use mathlib.Core.List.{_∷_}
 use lib.Seq.{slice}
-use Rattle.numerals.specs.Digits.{readDigits}
+use Rattle.numerals.specs.Inner.Digits.{readDigits}
 use Rattle.numerals.proofs.Slice.{slice-more, slice-none}
 use Rattle.numerals.proofs.Base.{readFrom, read-start, read-none, read-low, read-high, read-over, read-next, over, within}
 use Rattle.numerals.proofs.digits.read_digits.Statement.{statement}

@@ -8,7 +8,8 @@ use lib.ListN.{length}
 use lib.Seq.{slice, length-slice}
 use borrow.Author.Needs.{needs}
 use Rattle.numerals.specs.Limits.{decimals}
-use Rattle.numerals.specs.Digits.{readDigits, onValue}
+use Rattle.numerals.specs.Digits.{onValue}
+use Rattle.numerals.specs.Inner.Digits.{readDigits}
 use Rattle.numerals.specs.Percentage.{fraction}
 use Rattle.numerals.specs.declared.digits.Number.the-variants.{Value}
 use Rattle.numerals.proofs.Slice.{slice-none}

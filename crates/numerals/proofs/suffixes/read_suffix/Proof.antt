@@ -6,7 +6,7 @@ use lib.ListN.{length}
 use lib.Seq.{slice}
 use borrow.Author.Needs.{needs}
 use Rattle.numerals.specs.Limits.{mostSuffixes}
-use Rattle.numerals.specs.Digits.{readDigits}
+use Rattle.numerals.specs.Inner.Digits.{readDigits}
 use Rattle.numerals.specs.Suffix.{suffix}
 use Rattle.numerals.proofs.Slice.{slice-more, slice-none, slice-length, slice-end}
 use Rattle.numerals.proofs.Suffix.{suffix-none, no-bits, many-bits, no-star, too-long, onBits, suffix-bits}

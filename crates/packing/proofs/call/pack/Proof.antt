@@ -1,12 +1,14 @@
 -- `call::pack` meets its contract: the checks, the lists, the grants, and what is written where there is room.
+use Prim.Native.Nat.{ℕ, _<_}
 use mathlib.Core.Path.{_≡_, refl, sym, _∙_}
 use native.Mathlib.Omega.{arith}
-use lib.ListN.{getD-replicate}
+use lib.ListN.{length, getD, replicate, getD-replicate}
+use Rattle.numerals.specs.Limits.{mostServices}
 use Rattle.expansion.specs.declared.call.Checked.the-variants.{Sound as Passed}
 use Rattle.packing.specs.Answer.{servicesOf, checkAll}
-use Rattle.packing.specs.Kept.{Listed}
+use Rattle.packing.specs.Inner.Lists.{Listed}
 use Rattle.packing.proofs.Checks.{Accepted, all-passed, sized}
-use Rattle.packing.proofs.Settled.{claimed, answer-refused, answer-passed, Settled, ready, settled}
+use Rattle.packing.proofs.PackAnswer.{claimed, answer-refused, answer-passed, Outcome, payable, started, ones-fit, outcome}
 use borrow.Author.Needs.{needs}
 use Rattle.packing.proofs.call.pack.Statement.{statement}
 use Rattle.packing.proofs.call.pack.Tie as tie
@@ -79,30 +81,45 @@ listed :
     (m .last .1 .1 .1 .1 .1 .1 .1 .0) (m .last .1 .1 .1 .1 .1 .1 .1 .1 .0) (m .last .1 .1 .1 .1 .1 .1 .1 .1 .1 .0)
 listed c = c .make-lists .ensures (c .before .before .before .before .before .before .before .before .before .before .before .before .before .before .before .args .volumes .now) (accepted (c .before .before .before .before .before .before .before) .same)
 
+-- each service is granted one rule
+ones : (s : ℕ) → s < mostServices → _≡_ {A = ℕ} (getD (replicate mostServices 1) s 0) 1
+ones s l = getD-replicate mostServices s 1 0 l
+
 grant-all-requires : tie.Need-grant-all-requires
 grant-all-requires c κs =
     let A = accepted (c .before .before .before .before .before .before .before .before .before .before .before .before .before .before .before .before) in
+    let L = listed (c .before .before .before .before .before .before .before .before .before) in
     let m = c .before .before .before .before .before .before .before .before .before .make-lists in (
-      ready _ _ _ _ _ _ _ _ _ _ _ _ A (listed (c .before .before .before .before .before .before .before .before .before)) (m .kept .1 .1 .1 .1 .1 .1 .1 .0) (m .kept .1 .1 .1 .1 .1 .1 .1 .1 .0),
+      payable _ _ _ _ _ _ _ _ _ _ _ _ A L (m .kept .1 .1 .1 .1 .1 .1 .1 .0) (m .kept .1 .1 .1 .1 .1 .1 .1 .1 .0),
       (
-        (omega (arith, A .some, A .same), (omega (arith, A .room, A .same), omega (arith, A .few, A .same))),
-        λ s l. getD-replicate 64 s 1 0 (omega (arith, A .few, A .same)),
+        started _ _ _ _ _ _ _ _ _ _ _ _ A L (replicate mostServices 1) refl (λ s l. ones s (omega (arith, A .few, A .same))),
+        (omega (arith, A .some, A .same), A .little-room, ones-fit _ _ _ _ _ _ _ _ _ _ _ _ A L (replicate mostServices 1) (λ s l. ones s (omega (arith, A .few, A .same)))),
       ),
     )
 
--- and so are the grants
+-- the grants are those of the definitions
 done :
     (c : tie.After-grant-all)
     → let a = c .before .before .before .before .before .before .before .before .before .before .before .before .before .before .before .before .before .before .before .before .before .before .before .before .before .args in
     let m = c .before .before .before .before .before .before .before .before .before .before .make-lists in
-    Settled (a .k) (a .tolerance) (a .capacity) (a .volumes .now) (a .sizes .now) (a .weights .now)
+    Outcome (a .k) (a .tolerance) (a .capacity) (a .volumes .now) (a .sizes .now) (a .weights .now)
     (m .last .1 .1 .1 .1 .0) (m .last .1 .1 .1 .1 .1 .0) (m .last .1 .1 .1 .1 .1 .1 .0)
     (m .last .1 .1 .1 .1 .1 .1 .1 .0) (m .last .1 .1 .1 .1 .1 .1 .1 .1 .0) (m .last .1 .1 .1 .1 .1 .1 .1 .1 .1 .0)
-    (c .grant-all .last .1 .1 .1 .1 .0) (c .grant-all .result)
+    (c .grant-all .last .1 .1 .1 .1 .0)
 done c =
+    let A = accepted (c .before .before .before .before .before .before .before .before .before .before .before .before .before .before .before .before .before) in
     let m = c .before .before .before .before .before .before .before .before .before .before .make-lists in
-    settled _ _ _ _ _ _ _ _ _ _ _ _ (accepted (c .before .before .before .before .before .before .before .before .before .before .before .before .before .before .before .before .before)) (listed (c .before .before .before .before .before .before .before .before .before .before)) _ _
+    outcome _ _ _ _ _ _ _ _ _ _ _ _ A (listed (c .before .before .before .before .before .before .before .before .before .before)) (replicate mostServices 1) _ _ (λ s l. ones s (omega (arith, A .few, A .same)))
     (m .kept .1 .1 .1 .1 .0) (m .kept .1 .1 .1 .1 .1 .0) (m .kept .1 .1 .1 .1 .1 .1 .0) (m .kept .1 .1 .1 .1 .1 .1 .1 .0) (m .kept .1 .1 .1 .1 .1 .1 .1 .1 .0) (m .kept .1 .1 .1 .1 .1 .1 .1 .1 .1 .0) (c .grant-all .kept .1 .1 .1 .1 .0) (c .grant-all .ensures)
+
+slice-aggregate-all-lines : tie.Need-slice-aggregate-all-lines
+slice-aggregate-all-lines c = search needs
+
+slice-aggregate-all-lines-2 : tie.Need-slice-aggregate-all-lines-2
+slice-aggregate-all-lines-2 c = search needs
+
+all-lines-requires : tie.Need-all-lines-requires
+all-lines-requires c κs = done (c .before .before .before) .counted
 
 slice-aggregate-total-cost : tie.Need-slice-aggregate-total-cost
 slice-aggregate-total-cost c = search needs
@@ -110,8 +127,11 @@ slice-aggregate-total-cost c = search needs
 slice-aggregate-total-cost-2 : tie.Need-slice-aggregate-total-cost-2
 slice-aggregate-total-cost-2 c = search needs
 
+slice-aggregate-total-cost-3 : tie.Need-slice-aggregate-total-cost-3
+slice-aggregate-total-cost-3 c = search needs
+
 total-cost-requires : tie.Need-total-cost-requires
-total-cost-requires c κs = done (c .before .before .before) .payable
+total-cost-requires c κs = let d = done (c .before .before .before .before .before .before .before) in (d .payable, d .counted .granted)
 
 slice-aggregate-write-out : tie.Need-slice-aggregate-write-out
 slice-aggregate-write-out c = search needs
@@ -132,7 +152,7 @@ slice-aggregate-write-out-6 : tie.Need-slice-aggregate-write-out-6
 slice-aggregate-write-out-6 c = search needs
 
 write-out-requires : tie.Need-write-out-requires
-write-out-requires c κs = done (c .before .before .before .before .before .before .before .before .before .before .before .before) .writable
+write-out-requires c κs = done (c .before .before .before .before .before .before .before .before .before .before .before .before .before .before .before .before) .writable _ (c .before .before .before .before .before .before .before .before .before .before .before .before .all-lines .ensures)
 
 same-length : tie.Need-same-length
 same-length c = search needs
@@ -144,9 +164,10 @@ returns-2 : tie.Need-returns-2
 returns-2 c =
     let w = c .before .before .before .before .write-out .ensures in
     let t = c .before .before .before .before .before .before .before .before .before .before .before .before .before .total-cost .ensures in
-    let g = c .before .before .before .before .before .before .before .before .before .before .before .before .before .before .before .before .before in
+    let r = c .before .before .before .before .before .before .before .before .before .before .before .before .before .before .before .before .before .all-lines .ensures in
+    let g = c .before .before .before .before .before .before .before .before .before .before .before .before .before .before .before .before .before .before .before .before .before in
     let d = done g in (
-      w .0 ∙ answer-passed _ _ _ _ _ _ _ _ (passed (g .before .before .before .before .before .before .before .before .before .before .before .before .before .before .before .before .before)) _ (d .made _ t),
+      w .0 ∙ answer-passed _ _ _ _ _ _ _ _ (passed (g .before .before .before .before .before .before .before .before .before .before .before .before .before .before .before .before .before)) _ (d .made _ _ r t),
       (
         rw (d .figures) at (w .1 .0),
         (
@@ -175,8 +196,12 @@ pack-spec =
     slice-aggregate-grant-all-2
     slice-aggregate-grant-all-3
     grant-all-requires
+    slice-aggregate-all-lines
+    slice-aggregate-all-lines-2
+    all-lines-requires
     slice-aggregate-total-cost
     slice-aggregate-total-cost-2
+    slice-aggregate-total-cost-3
     total-cost-requires
     slice-aggregate-write-out
     slice-aggregate-write-out-2

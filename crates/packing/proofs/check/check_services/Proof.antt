@@ -10,7 +10,7 @@ use borrow.Author.Tests.{lt-ltb, le-ltb, eq-eqb, ne-eqb}
 use Rattle.expansion.specs.Answer.{andThen, orElse}
 use Rattle.numerals.specs.declared.refusal.Refusal.the-variants.{Malformed, NoService}
 use Rattle.packing.specs.Answer.{checkService, checkFrom, checkServices}
-use Rattle.packing.proofs.Checks.{services-many, services-no-volume, services-no-size, services-turned, services-passed, services-end, service-passed}
+use Rattle.packing.proofs.Checks.{services-many, services-no-volume, services-no-size, services-failed, services-passed, services-end, service-passed}
 use Rattle.packing.proofs.check.check_services.Statement.{statement}
 use Rattle.packing.proofs.check.check_services.Tie as tie
 
@@ -94,7 +94,7 @@ returns-4 c =
     let d = c .before .before .before in
     let l = d .before .before .before .before .before .before .before .before .loop in
     sym
-    (services-turned _ _ _ (l .s) (l .at) (l .inv .3) (d .before .before .before .before .before .before .if1 .left) (d .before .before .before .before .before .if2 .left) (d .before .before .before .before .if3 .left) _
+    (services-failed _ _ _ (l .s) (l .at) (l .inv .3) (d .before .before .before .before .before .before .if1 .left) (d .before .before .before .before .before .if2 .left) (d .before .before .before .before .if3 .left) _
     (sym (one d) ∙ c .before .checked .given .1))
 
 enum-told : tie.Need-enum-told Inv-loop μ-loop

@@ -4,9 +4,10 @@ use Prim.Native.Nat.{ℕ, _^_, _<_}
 use mathlib.Core.Path.{_≡_}
 use mathlib.Core.List.{List}
 use native.Mathlib.Omega.{arith}
+use lib.ListN.{getD}
 use borrow.Author.Needs.{needs}
-use Rattle.packing.specs.Stored.{savings}
-use Rattle.packing.specs.Tournament.{Replaced}
+use Rattle.packing.specs.Inner.Stored.{savings}
+use Rattle.packing.specs.Inner.Tournament.{Replaced}
 use Rattle.packing.proofs.Payable.{saving-small}
 use Rattle.packing.proofs.grants.enter.Statement.{statement}
 use Rattle.packing.proofs.grants.enter.Tie as tie
@@ -40,7 +41,7 @@ small c =
     omega (
       arith,
       c .saving .ensures,
-      saving-small (a .pre .0 .each (a .args .s) (omega arith)) _ (a .pre .1 .0 .2),
+      saving-small (a .pre .0 .each (a .args .s) (omega arith)) (getD (a .args .grants .now) (a .args .s) 0),
     )
 
 mul-replace : tie.Need-mul-replace

@@ -4,8 +4,8 @@ use Prim.Native.Nat.{ℕ, _+_, _-_, _≤_, _<_}
 use mathlib.Core.Path.{_≡_, refl}
 use native.Mathlib.Omega.{arith}
 use lib.ListN.{length}
-use Rattle.packing.specs.Stored.{savings}
-use Rattle.packing.specs.Tournament.{Entered}
+use Rattle.packing.specs.Inner.Stored.{savings}
+use Rattle.packing.specs.Inner.Tournament.{Entered}
 use Rattle.packing.proofs.Winner.{entered-none, entered-one}
 use Rattle.packing.proofs.grants.enter_all.Statement.{statement}
 use Rattle.packing.proofs.grants.enter_all.Tie as tie
@@ -23,7 +23,7 @@ enter-requires : tie.Need-enter-requires Inv-loop μ-loop
 enter-requires c κs =
     let a = c .before .before .before .before .before .before .before in
     let l : c .before .before .loop .s < length (a .args .volumes .now) = omega arith in
-    (a .pre .0, ((l, omega (arith, a .pre .1 .room), a .pre .1 .one (c .before .before .loop .s) l), c .before .before .loop .inv .1 .tournament))
+    (a .pre .0, ((l, omega (arith, a .pre .1 .room), a .pre .1 .each (c .before .before .loop .s) l), c .before .before .loop .inv .1 .tournament))
 
 add-s : tie.Need-add-s Inv-loop μ-loop
 add-s c = omega arith

@@ -4,7 +4,9 @@ use Prim.Native.Nat.{_-_, _%_, _≤_, _<_}
 use mathlib.Core.Path.{_≡_, refl}
 use native.Mathlib.Omega.{arith}
 use lib.ListN.{length, getD, length-set}
-use Rattle.packing.proofs.Granting.{more-one, Turn, turn-first, turn-full, turn-greatest, found-known, found-low, turn-last, turn-more}
+use Rattle.packing.specs.Inner.Stored.{held}
+use Rattle.packing.specs.Inner.Tournament.{leaves}
+use Rattle.packing.proofs.Granting.{falls-more, Turn, turn-first, turn-full, turn-greatest, found-known, found-low, turn-last, turn-more}
 use Rattle.packing.proofs.grants.grant_all.Statement.{statement}
 use Rattle.packing.proofs.grants.grant_all.Tie as tie
 
@@ -12,7 +14,7 @@ abbrev Inv-loop : tie.InvT-loop
 Inv-loop capacity volumes stairs counts grants₀ tree₀ rules₀ grants tree rules =
     (rules ≤ capacity)
     × (length grants ≡ length grants₀)
-    × Turn capacity volumes stairs counts grants tree rules
+    × Turn (held grants₀) capacity volumes stairs counts grants tree rules
 
 abbrev μ-loop : tie.MeasureT-loop
 μ-loop capacity volumes stairs counts grants₀ tree₀ rules₀ grants tree rules = capacity - rules
@@ -20,12 +22,17 @@ abbrev μ-loop : tie.MeasureT-loop
 enter-all-requires : tie.Need-enter-all-requires Inv-loop μ-loop
 enter-all-requires c κs =
     let a = c .before .before .before .before .before in
-    (a .pre .0, record { room = omega arith; one = λ s l. omega (arith, a .pre .1 .1 s l) })
+    (a .pre .0, a .pre .1 .0)
+
+sum-of-requires : tie.Need-sum-of-requires Inv-loop μ-loop
+sum-of-requires c κs =
+    let a = c .before .before .before .before .before .before .before in
+    (a .pre .1 .0 .room, omega (arith, a .pre .1 .1))
 
 loop-holds : tie.Need-loop-holds Inv-loop μ-loop
 loop-holds c =
-    let a = c .before .before .before .before .before .before in
-    (omega arith, refl, turn-first (a .args .capacity) (a .args .volumes .now) (a .args .stairs .now) (a .args .counts .now) (a .args .grants .now) (c .enter-all .result) (a .pre .0) (a .pre .1 .0 .0) (a .pre .1 .1) (c .enter-all .ensures))
+    let a = c .before .before .before .before .before .before .before .before in
+    (omega (arith, c .sum-of .ensures), refl, turn-first (a .args .capacity) (a .args .volumes .now) (a .args .stairs .now) (a .args .counts .now) (a .args .grants .now) (c .before .before .enter-all .result) (c .sum-of .result) (a .pre .0) (a .pre .1 .0) (a .pre .1 .1 .0) (c .sum-of .ensures) (c .before .before .enter-all .ensures))
 
 array-read-if1 : tie.Need-array-read-if1 Inv-loop μ-loop
 array-read-if1 c = omega arith
@@ -44,11 +51,14 @@ array-read-s c = omega arith
 -- the service that the root names
 named :
     (c : tie.Else1 Inv-loop μ-loop)
-    → (63 - getD (c .before .before .loop .tree) 1 0 % 64 < length (c .before .before .before .before .before .before .before .before .before .args .volumes .now))
-    × (63 - getD (c .before .before .loop .tree) 1 0 % 64 < length (c .before .before .loop .grants))
+    → (leaves - 1 - getD (c .before .before .loop .tree) 1 0 % leaves < length (c .before .before .before .before .before .before .before .before .before .before .before .args .volumes .now))
+    × (leaves - 1 - getD (c .before .before .loop .tree) 1 0 % leaves < length (c .before .before .loop .grants))
 named c =
     let t = c .before .before .loop .inv .2 in
-    let l = found-known t (turn-greatest t) in (l, omega (arith, l))
+    let l = found-known t (turn-greatest t) in (l, omega (arith, l, t .started .room))
+
+rem-s : tie.Need-rem-s Inv-loop μ-loop
+rem-s c = omega arith
 
 sub-s : tie.Need-sub-s Inv-loop μ-loop
 sub-s c = omega arith
@@ -74,7 +84,7 @@ enter-requires : tie.Need-enter-requires Inv-loop μ-loop
 enter-requires c κs =
     let l = c .before .before .before .before .before .loop in
     let n = named (c .before .before .before) in
-    (l .inv .2 .payable, ((n .0, simp length-set (n .1), more-one (l .grants) _ (n .1)), l .inv .2 .entered .tournament))
+    (l .inv .2 .payable, ((n .0, simp length-set (n .1), falls-more _ _ _ (l .grants) _ (n .1) (l .inv .2 .started .each _ (n .0))), l .inv .2 .entered .tournament))
 
 add-rules : tie.Need-add-rules Inv-loop μ-loop
 add-rules c = omega arith
@@ -86,7 +96,7 @@ loop-again : tie.Need-loop-again Inv-loop μ-loop
 loop-again c =
     let l = c .before .before .before .before .before .before .loop in
     let t = l .inv .2 in
-    (omega arith, simp length-set (l .inv .1), turn-more t (turn-greatest t) (omega arith) (omega arith) (omega arith) _ (c .enter .ensures))
+    (omega arith, simp length-set (l .inv .1), turn-more t (turn-greatest t) (omega arith) (omega arith) _ (c .enter .ensures))
 
 same-length-2 : tie.Need-same-length-2 Inv-loop μ-loop
 same-length-2 c = c .before .loop .inv .1
@@ -101,11 +111,13 @@ grant-all-spec =
     Inv-loop
     μ-loop
     enter-all-requires
+    sum-of-requires
     loop-holds
     array-read-if1
     same-length
     returns
     array-read-s
+    rem-s
     sub-s
     mul-grants
     slice-read-grants

@@ -5,11 +5,12 @@ use native.Mathlib.Numerals.{add-one}
 use native.Mathlib.Omega.{arith}
 use lib.ListN.{length, getD, take, drop, length-set}
 use borrow.Author.Needs.{needs}
+use Rattle.numerals.specs.Limits.{mostRules}
 use Rattle.expansion.specs.Answer.{checkCall, recordMade}
 use Rattle.expansion.specs.declared.call.Checked.the-variants.{Sound as Passed}
 use Rattle.expansion.specs.declared.call.Expanded.the-variants.{Made}
 use Rattle.packing.specs.Table.{ruleBudget}
-use Rattle.packing.specs.Kept.{start}
+use Rattle.packing.specs.Inner.Lists.{stride, placeOf, start}
 use Rattle.packing.proofs.Checks.{start-zero, start-suc}
 use Rattle.packing.proofs.Listing.{part, Entries, entries-none, made, entries-more, listed}
 use Rattle.packing.proofs.lists.make_lists.Statement.{statement}
@@ -71,6 +72,9 @@ part-expand-end c = omega (arith, inside (c .before))
 mul-expand-2 : tie.Need-mul-expand-2 Inv-loop μ-loop
 mul-expand-2 c = omega arith
 
+add-expand-2 : tie.Need-add-expand-2 Inv-loop μ-loop
+add-expand-2 c = omega arith
+
 expand-requires : tie.Need-expand-requires Inv-loop μ-loop
 expand-requires c κs = search needs
 
@@ -97,17 +101,17 @@ own c =
 passed :
     (c : tie.After-expand Inv-loop μ-loop)
     → let a = c .before .before .before .before .before .before .before .before .before .before .before .before .before .before .before .before .before .args in
-    checkCall (a .k) (a .tolerance) 32 (part (a .sizes .now) (a .weights .now) (c .before .before .before .before .before .before .before .before .loop .s)) ≡ Passed
+    checkCall (a .k) (a .tolerance) mostRules (part (a .sizes .now) (a .weights .now) (c .before .before .before .before .before .before .before .before .loop .s)) ≡ Passed
 unfolding part ruleBudget
 passed c = c .before .before .before .before .before .before .before .before .before .before .before .before .before .before .before .before .before .pre .0 .sound (c .before .before .before .before .before .before .before .before .loop .s) (c .before .before .before .before .before .before .before .loop-test .taken)
 
-one-more : (s n room : ℕ) → s < n → 32 * n ≤ room → 32 * s + 32 ≤ room
+one-more : (s n room : ℕ) → s < n → stride * n ≤ room → placeOf s 1 + mostRules ≤ room
 one-more s n room l h = omega arith
 
 fits :
     (c : tie.After-expand Inv-loop μ-loop)
     → let l = c .before .before .before .before .before .before .before .before .loop in
-    32 * l .s + 32 ≤ min (min (length (l .lens)) (length (l .values))) (min (length (l .backends)) (length (l .stairs)))
+    placeOf (l .s) 1 + mostRules ≤ min (min (length (l .lens)) (length (l .values))) (min (length (l .backends)) (length (l .stairs)))
 fits c =
     let l = c .before .before .before .before .before .before .before .before .loop in
     rw (l .inv .2, l .inv .3, l .inv .4, l .inv .5) (one-more (l .s) _ _ (c .before .before .before .before .before .before .before .loop-test .taken) (c .before .before .before .before .before .before .before .before .before .before .before .before .before .before .before .before .before .pre .1 .0))
@@ -116,7 +120,7 @@ fits c =
 is-made :
     (c : tie.After-expand Inv-loop μ-loop)
     → let a = c .before .before .before .before .before .before .before .before .before .before .before .before .before .before .before .before .before .args in
-    c .expand .result ≡ Made (recordMade (a .k) (a .tolerance) 32 (part (a .sizes .now) (a .weights .now) (c .before .before .before .before .before .before .before .before .loop .s)))
+    c .expand .result ≡ Made (recordMade (a .k) (a .tolerance) mostRules (part (a .sizes .now) (a .weights .now) (c .before .before .before .before .before .before .before .before .loop .s)))
 is-made c =
     let l = c .before .before .before .before .before .before .before .before .loop in
     made _ _ _ _ (l .s) (l .lens) (l .values) (l .backends) (l .stairs) (passed c) (fits c) _ (own c) _ (c .expand .ensures .0)
@@ -141,6 +145,17 @@ same-length-6 c = c .before .before .before .before .before .before .before .bef
 
 returns : tie.Need-returns Inv-loop μ-loop
 returns c = let z : _≡_ {A = ℕ} 0 1 = cc (is-made (c .before .before .before .before .before .before .before .before .before .before), c .enum-told .given .1) in absurd (omega arith)
+
+mul-stairs : tie.Need-mul-stairs Inv-loop μ-loop
+mul-stairs c = omega arith
+
+mul-stairs-2 : tie.Need-mul-stairs-2 Inv-loop μ-loop
+mul-stairs-2 c = omega arith
+
+slice-write-stairs : tie.Need-slice-write-stairs Inv-loop μ-loop
+slice-write-stairs c =
+    let d = c .before .before .before .before .before .before .before .before .before .before .before in
+    omega (arith, d .expand .kept .1 .1 .1 .1 .1 .1 .1 .1 .0, fits d)
 
 mul-counts : tie.Need-mul-counts Inv-loop μ-loop
 mul-counts c = search needs
@@ -176,7 +191,7 @@ loop-again c =
       d .expand .kept .1 .1 .1 .1 .1 .0 ∙ l .inv .2,
       d .expand .kept .1 .1 .1 .1 .1 .1 .0 ∙ l .inv .3,
       d .expand .kept .1 .1 .1 .1 .1 .1 .1 .0 ∙ l .inv .4,
-      d .expand .kept .1 .1 .1 .1 .1 .1 .1 .1 .0 ∙ l .inv .5,
+      simp length-set (d .expand .kept .1 .1 .1 .1 .1 .1 .1 .1 .0 ∙ l .inv .5),
       simp length-set (l .inv .6),
       simp length-set (l .inv .7),
       rw (c .end-number .ensures)
@@ -226,6 +241,7 @@ make-lists-spec =
     part-expand-start
     part-expand-end
     mul-expand-2
+    add-expand-2
     expand-requires
     enum-known-made
     enum-told
@@ -236,6 +252,9 @@ make-lists-spec =
     same-length-5
     same-length-6
     returns
+    mul-stairs
+    mul-stairs-2
+    slice-write-stairs
     mul-counts
     slice-write-counts
     end-number-requires

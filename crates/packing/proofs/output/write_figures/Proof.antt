@@ -5,7 +5,7 @@ use mathlib.Core.Path.{_≡_, refl, ap, _∙_}
 use native.Mathlib.Omega.{arith}
 use lib.ListN.{length}
 use lib.Seq.{sets}
-use Rattle.packing.specs.Stored.{storedFigures}
+use Rattle.packing.specs.Inner.Stored.{storedFigures}
 use Rattle.packing.proofs.Stores.{figures-more}
 use Rattle.packing.proofs.output.write_figures.Statement.{statement}
 use Rattle.packing.proofs.output.write_figures.Tie as tie

@@ -40,8 +40,8 @@ returns-2 c = (table-short _ _ _ _ (omega arith) (omega arith), (refl, refl))
 write-figures-requires : tie.Need-write-figures-requires
 write-figures-requires c κs = search needs
 
-write-table-requires : tie.Need-write-table-requires
-write-table-requires c κs = c .before .before .before .before .before .before .before .before .before .before .before .before .before .before .before .before .pre .tabled _ (omega arith)
+write-lines-requires : tie.Need-write-lines-requires
+write-lines-requires c κs = c .before .before .before .before .before .before .before .before .before .before .before .before .before .before .before .before .pre .tabled _ (omega arith)
 
 same-length : tie.Need-same-length
 same-length c = search needs
@@ -50,7 +50,7 @@ same-length-2 : tie.Need-same-length-2
 same-length-2 c = search needs
 
 returns-3 : tie.Need-returns-3
-returns-3 c = (none-short _ _ _ _ (omega arith) (omega arith), (c .before .before .before .before .before .before .write-figures .ensures, c .before .before .write-table .ensures))
+returns-3 c = (none-short _ _ _ _ (omega arith) (omega arith), (c .before .before .before .before .before .before .write-figures .ensures, c .before .before .write-lines .ensures))
 
 pub write-out-spec : {M : Type 1} → statement M
 write-out-spec =
@@ -61,7 +61,7 @@ write-out-spec =
     mul-if2
     returns-2
     write-figures-requires
-    write-table-requires
+    write-lines-requires
     same-length
     same-length-2
     returns-3)

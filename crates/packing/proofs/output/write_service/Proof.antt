@@ -5,20 +5,20 @@ use mathlib.Core.Path.{_≡_, refl, sym, _∙_}
 use native.Mathlib.Omega.{arith}
 use lib.ListN.{length, length-set}
 use lib.Seq.{sets}
-use Rattle.packing.specs.Stored.{storedCells}
+use Rattle.packing.specs.Inner.Stored.{storedCells}
 use Rattle.packing.proofs.Stores.{line-more, none-left}
 use Rattle.packing.proofs.output.write_service.Statement.{statement}
 use Rattle.packing.proofs.output.write_service.Tie as tie
 
 abbrev Inv-loop : tie.InvT-loop
-Inv-loop table₀ at s grant lens values backends left₀ i₀ table left i =
-    (left ≤ grant)
-    × (i + 4 * left ≡ at + 4 * grant)
+Inv-loop table₀ at s lines lens values backends left₀ i₀ table left i =
+    (left ≤ lines)
+    × (i + 4 * left ≡ at + 4 * lines)
     × (length table ≡ length table₀)
-    × (sets table₀ at (storedCells lens values backends s grant) ≡ sets table i (storedCells lens values backends s left))
+    × (sets table₀ at (storedCells lens values backends s lines) ≡ sets table i (storedCells lens values backends s left))
 
 abbrev μ-loop : tie.MeasureT-loop
-μ-loop table₀ at s grant lens values backends left₀ i₀ table left i = left
+μ-loop table₀ at s lines lens values backends left₀ i₀ table left i = left
 
 loop-holds : tie.Need-loop-holds Inv-loop μ-loop
 loop-holds c = (omega arith, refl, refl, refl)
@@ -26,11 +26,11 @@ loop-holds c = (omega arith, refl, refl, refl)
 mul-from : tie.Need-mul-from Inv-loop μ-loop
 mul-from c = omega arith
 
-sub-from : tie.Need-sub-from Inv-loop μ-loop
-sub-from c = omega arith
-
 add-from : tie.Need-add-from Inv-loop μ-loop
 add-from c = omega arith
+
+add-table : tie.Need-add-table Inv-loop μ-loop
+add-table c = omega arith
 
 mul-table : tie.Need-mul-table Inv-loop μ-loop
 mul-table c = omega arith
@@ -101,8 +101,8 @@ write-service-spec =
     μ-loop
     loop-holds
     mul-from
-    sub-from
     add-from
+    add-table
     mul-table
     slice-write-table
     add-write-three

@@ -1,8 +1,13 @@
 -- `header::read` meets its contract: each walk ends where the next field starts.
+use Prim.Native.Nat.{ℕ}
+use mathlib.Core.Path.{_≡_, ap, _∙_}
+use mathlib.Core.List.{List}
+use lib.ListN.{getD}
 use borrow.Author.Needs.{needs}
+use Rattle.vectors.specs.Numbers.{numeral}
 use Rattle.vectors.specs.Header.{header}
 use Rattle.vectors.proofs.Parts.{walked-none, walked-next}
-use Rattle.vectors.proofs.HeaderLine.{header-number}
+use Rattle.vectors.proofs.HeaderLine.{header-field}
 use Rattle.vectors.proofs.header.read.Statement.{statement}
 use Rattle.vectors.proofs.header.read.Tie as tie
 
@@ -20,6 +25,15 @@ after-requires-3 c κs = search needs
 
 after-requires-4 : tie.Need-after-requires-4
 after-requires-4 c κs = search needs
+
+after-requires-5 : tie.Need-after-requires-5
+after-requires-5 c κs = search needs
+
+letter-requires : tie.Need-letter-requires
+letter-requires c κs = search needs
+
+letter-requires-2 : tie.Need-letter-requires-2
+letter-requires-2 c κs = search needs
 
 number-requires : tie.Need-number-requires
 number-requires c κs = search needs
@@ -39,22 +53,31 @@ returns c =
     let n3 = c .before in
     let n2 = n3 .before in
     let n1 = n2 .before in
-    let a4 = n1 .before in
+    let l2 = n1 .before in
+    let l1 = l2 .before in
+    let a5 = l1 .before in
+    let a4 = a5 .before in
     let a3 = a4 .before in
     let a2 = a3 .before in
     let a1 = a2 .before in
     let p = a1 .before in
     let s = p .before .before .args .s .now in
     let line = p .part .result .now in
-    let w1 = walked-next 32 line 0 0 (a1 .after .result) (walked-none 32 line) (a1 .after .ensures) in
+    let w0 = walked-none 32 line in
+    let w1 = walked-next 32 line 0 0 (a1 .after .result) w0 (a1 .after .ensures) in
     let w2 = walked-next 32 line 1 (a1 .after .result) (a2 .after2 .result) w1 (a2 .after2 .ensures) in
     let w3 = walked-next 32 line 2 (a2 .after2 .result) (a3 .after3 .result) w2 (a3 .after3 .ensures) in
     let w4 = walked-next 32 line 3 (a3 .after3 .result) (a4 .after4 .result) w3 (a4 .after4 .ensures) in
-    let e1 = header-number s line 1 (a1 .after .result) (n1 .number .result) (p .part .ensures) w1 (n1 .number .ensures) in
-    let e2 = header-number s line 2 (a2 .after2 .result) (n2 .number2 .result) (p .part .ensures) w2 (n2 .number2 .ensures) in
-    let e3 = header-number s line 3 (a3 .after3 .result) (n3 .number3 .result) (p .part .ensures) w3 (n3 .number3 .ensures) in
-    let e4 = header-number s line 4 (a4 .after4 .result) (c .number4 .result) (p .part .ensures) w4 (c .number4 .ensures) in
-    rw (e1, e2, e3, e4)
+    let w5 = walked-next 32 line 4 (a4 .after4 .result) (a5 .after5 .result) w4 (a5 .after5 .ensures) in
+    let field = header-field s line in
+    let whole = p .part .ensures in
+    let e0 = l1 .letter .ensures ∙ ap (λ (f : List ℕ). getD f 0 0) (field 0 0 whole w0) in
+    let e1 = l2 .letter2 .ensures ∙ ap (λ (f : List ℕ). getD f 0 0) (field 1 (a1 .after .result) whole w1) in
+    let e2 = n1 .number .ensures ∙ ap numeral (field 2 (a2 .after2 .result) whole w2) in
+    let e3 = n2 .number2 .ensures ∙ ap numeral (field 3 (a3 .after3 .result) whole w3) in
+    let e4 = n3 .number3 .ensures ∙ ap numeral (field 4 (a4 .after4 .result) whole w4) in
+    let e5 = c .number4 .ensures ∙ ap numeral (field 5 (a5 .after5 .result) whole w5) in
+    rw (e0, e1, e2, e3, e4, e5)
 
 pub read-spec : {M : Type 1} → statement M
 read-spec =
@@ -65,6 +88,9 @@ read-spec =
     after-requires-2
     after-requires-3
     after-requires-4
+    after-requires-5
+    letter-requires
+    letter-requires-2
     number-requires
     number-requires-2
     number-requires-3

@@ -1,0 +1,6 @@
+-- The contracts of inner functions: what the program keeps while it makes a list, and how that stands to the definitions.
+pub mod Ledger
+pub mod Terms
+pub mod Holders
+pub mod Lists
+pub mod Run

@@ -1,0 +1,96 @@
+-- The ledger that the program keeps: each share and error is that of the count by first match.
+use Prim.Native.Nat.{ℕ, suc, _+_, _-_, _*_, _^_, _≤_, _<_}
+use mathlib.Core.Path.{_≡_}
+use mathlib.Core.Bool.{Bool, true, false}
+use mathlib.Core.List.{List}
+use lib.IntN.{ℤ, pos, negsuc, subℕ, _+ℤ_, _-ℤ_}
+use lib.Signed.{mag}
+use lib.ListN.{length, getD, set}
+use Rattle.numerals.specs.Limits.{mostSuffixes, unit}
+use Rattle.numerals.specs.Sums.{sumTo, argmax}
+use Rattle.expansion.specs.FirstMatch.{share}
+use Rattle.expansion.specs.Imbalance.{Targets, backends, label, weight}
+use Rattle.expansion.specs.declared.rule.Rule.{Rule}
+use Rattle.expansion.specs.declared.ledger.Backend.{Backend}
+use Rattle.expansion.specs.declared.ledger.Ledger.{Ledger}
+use Rattle.expansion.specs.declared.ledger.Extreme.{Extreme}
+use Rattle.expansion.specs.declared.ledger.Survey.{Survey}
+
+-- the excess and the shortfall of an error
+abbrev pub over : ℤ → ℕ
+over (pos n) = n
+over (negsuc n) = 0
+
+abbrev pub under : ℤ → ℕ
+under (pos n) = 0
+under (negsuc n) = suc n
+
+-- the one or the other
+abbrev pub side : Bool → ℤ → ℕ
+side false z = over z
+side true z = under z
+
+-- an error so small that no sum of a few of them goes wrong: unit × 2^mostBits is far below
+pub record Small (z : ℤ) : Type 0 where
+  pub small : mag z < 2 ^ 50
+
+abbrev pub noBackend : Backend
+noBackend = record { weight = 0; share = 0; error = pos 0 }
+
+abbrev pub entryAt : Ledger → ℕ → Backend
+entryAt L b = getD (L .at) b noBackend
+
+abbrev pub errorAt : Ledger → ℕ → ℤ
+errorAt L b = (entryAt L b) .error
+
+-- the entry of a backend with this weight and share
+unfoldable pub entryOf : ℕ → ℕ → ℕ → ℕ → Backend
+entryOf unit k w a = record { weight = w; share = a; error = subℕ (a * unit) (w * 2 ^ k) }
+
+-- the ledger after the rules rs: at each backend its weight, its share by first match and its error
+pub record Keeps (T : Targets) (rs : List Rule) (L : Ledger) : Type 0 where
+  pub entries : (b : ℕ) → b < backends T → entryAt L b ≡ entryOf (T .unit) (T .k) (weight T b) (share (T .k) rs (label T b))
+
+-- a backend that gave c suffixes away, and one that was given them
+unfoldable pub lessOf : Backend → ℕ → Backend
+lessOf b c = record { weight = b .weight; share = b .share - c; error = b .error -ℤ pos (c * unit) }
+
+unfoldable pub moreOf : Backend → ℕ → Backend
+moreOf b c = record { weight = b .weight; share = b .share + c; error = b .error +ℤ pos (c * unit) }
+
+-- the entries after c suffixes went from the giver to the receiver
+abbrev pub movedOf : List Backend → ℕ → ℕ → ℕ → List Backend
+movedOf es giver receiver c =
+    set (set es giver (lessOf (getD es giver noBackend) c)) receiver (moreOf (getD es receiver noBackend) c)
+
+-- they can go: the giver has them, and no number gets large
+pub record Movable (es : List Backend) (giver receiver c : ℕ) : Type 0 where
+  pub giver-in : giver < length es
+  pub receiver-in : receiver < length es
+  pub few : c ≤ mostSuffixes
+  pub held : c ≤ getD es giver noBackend .share
+  pub bounded : getD es receiver noBackend .share ≤ mostSuffixes
+  pub giver-small : Small (getD es giver noBackend .error)
+  pub receiver-small : Small (getD es receiver noBackend .error)
+
+-- the backend of the largest excess or shortfall of the first n, and its size
+unfoldable pub largestOf : Ledger → ℕ → Bool → Extreme
+largestOf L n below =
+    let b = argmax (λ i. side below (errorAt L i)) n in
+    record { backend = b; size = pos (side below (errorAt L b)) }
+
+-- an extreme and one more backend: it takes over where its size is greater
+pub record Raised (best : Extreme) (b : ℕ) (size : ℤ) (r : Extreme) : Type 0 where
+  pub higher : over (best .size) < over size → r ≡ record { backend = b; size = size }
+  pub stays : over size ≤ over (best .size) → r ≡ best
+
+-- giver, receiver and imbalance of the first n
+pub record Surveyed (L : Ledger) (n : ℕ) (r : Survey) : Type 0 where
+  pub give : r .give ≡ largestOf L n false
+  pub take : r .take ≡ largestOf L n true
+  pub imbalance : r .imbalance ≡ sumTo n (λ b. over (errorAt L b))
+
+-- a size is no negative number, and no sum of a few of them goes wrong
+pub record Sized (e : Extreme) : Type 0 where
+  pub natural : e .size ≡ pos (over (e .size))
+  pub few : over (e .size) ≤ 2 ^ 50

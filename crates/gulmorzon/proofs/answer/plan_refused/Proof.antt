@@ -1,0 +1,13 @@
+-- `answer::plan_refused` meets its contract: the number is what `refusal_number` answers.
+use borrow.Author.Needs.{needs}
+use Rattle.gulmorzon.proofs.answer.plan_refused.Statement.{statement}
+use Rattle.gulmorzon.proofs.answer.plan_refused.Tie as tie
+
+refusal-number-requires : tie.Need-refusal-number-requires
+refusal-number-requires c κs = search needs
+
+returns : tie.Need-returns
+returns c = rw (c .refusal-number .ensures)
+
+pub plan-refused-spec : {M : Type 1} → statement M
+plan-refused-spec = tie.close (tie.spec refusal-number-requires returns)

@@ -1,0 +1,87 @@
+// The answers to vectors of the expansion.
+use expansion::Ended;
+use expansion::Expanded;
+use expansion::Record;
+use vectors::header::Header;
+use vectors::print;
+use vectors::walk;
+
+fn ending(list: Record) {
+    let ended = list.ended;
+    match ended {
+        Ended::Within => print::bytes(b"within"),
+        Ended::NoGain => print::bytes(b"nogain"),
+        Ended::Budget => print::bytes(b"budget"),
+    }
+    print::field(list.rules as u64);
+}
+
+// Rule i, and the stair after it.
+fn show_rule(
+    i: usize,
+    lens: &[usize; 32],
+    values: &[usize; 32],
+    backends: &[usize; 32],
+    stairs: &[u64; 32],
+) {
+    if i < 32 {
+        print::bytes(b" ");
+        print::suffix(lens[i], values[i]);
+        print::bytes(b">");
+        print::number(backends[i] as u64);
+        print::bytes(b":");
+        print::number(stairs[i]);
+    }
+}
+
+fn show_rules(
+    n: usize,
+    lens: &[usize; 32],
+    values: &[usize; 32],
+    backends: &[usize; 32],
+    stairs: &[u64; 32],
+) {
+    for i in 0..n {
+        show_rule(i, lens, values, backends, stairs);
+    }
+}
+
+fn expand(h: Header, text: &[u8]) {
+    let mut array = [0u64; 64];
+    let weights: &mut [u64] = &mut array;
+    let n = walk::numbers(text, weights);
+    expand_weights(h, walk::first_numbers(weights, n));
+}
+
+fn expand_weights(h: Header, weights: &[u64]) {
+    let mut lens = [0usize; 32];
+    let mut values = [0usize; 32];
+    let mut backends = [0usize; 32];
+    let mut stairs = [0u64; 32];
+    let made = expansion::expand(
+        h.first as usize,
+        h.second,
+        h.third as usize,
+        weights,
+        0,
+        &mut lens,
+        &mut values,
+        &mut backends,
+        &mut stairs,
+    );
+    match made {
+        Expanded::Made(list) => {
+            ending(list);
+            show_rules(list.rules, &lens, &values, &backends, &stairs);
+        }
+        Expanded::Refused(why) => print::refused(why),
+    }
+}
+
+pub fn answer(h: Header, text: &[u8]) {
+    let kind = h.kind;
+    match kind {
+        b'E' => expand(h, text),
+        _ => print::bytes(b"unknown vector"),
+    }
+}
