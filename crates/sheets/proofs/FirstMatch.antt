@@ -13,7 +13,7 @@ use Rattle.numerals.specs.Pick.{pick}
 use Rattle.numerals.specs.Limits.{mostBits, mostBackends}
 use Rattle.numerals.proofs.Choice.{both-right, by-less}
 use Rattle.numerals.specs.declared.refusal.Refusal.the-variants.{UnknownService}
-use Rattle.sheets.specs.FirstMatch.{matches, firstMatch}
+use Rattle.expansion.specs.FirstMatch.{matches, firstMatch}
 use Rattle.expansion.specs.declared.rule.Rule.{Rule}
 use Rattle.packing.specs.Count.{Line, ownRules}
 use Rattle.sheets.specs.RuleSheet.{Table, countOf, inOrder, closed}

@@ -22,7 +22,7 @@ use Rattle.numerals.specs.declared.refusal.Refusal.{Refusal}
 use Rattle.numerals.specs.Refusals.{no2, no4, no9, no11}
 use Rattle.expansion.specs.Answer.{inLimits}
 use Rattle.expansion.proofs.Checks.{limits as within}
-use Rattle.sheets.specs.FirstMatch.{isRule}
+use Rattle.expansion.specs.FirstMatch.{isRule}
 use Rattle.packing.specs.Count.{Line}
 use Rattle.sheets.specs.Reading.{Reading, got, refused, then, unless, onField}
 use Rattle.sheets.specs.FirstLine.{Opening, openingFields, openingLines, firstLine}

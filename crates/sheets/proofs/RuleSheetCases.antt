@@ -13,7 +13,7 @@ use Rattle.numerals.specs.Suffix.{suffix, suffixText}
 use Rattle.numerals.specs.Text.{onto, split}
 use Rattle.numerals.specs.Limits.{unit, textLimit, totalLimit}
 use Rattle.numerals.specs.Refusals.{no1, no2, no4, no5, no8, no9, no10, no11, no12}
-use Rattle.sheets.specs.FirstMatch.{isRule, matches, firstMatch}
+use Rattle.expansion.specs.FirstMatch.{isRule, matches, firstMatch}
 use Rattle.numerals.specs.Sums.{sumTo, countTo}
 use Rattle.packing.specs.Cases.{line}
 use Rattle.packing.specs.Count.{ownRules}

@@ -7,15 +7,15 @@ use native.Mathlib.Decide.{ℕ-discrete}
 use native.Mathlib.Numerals.{add-one}
 use native.Mathlib.Omega.{arith}
 use lib.Dec.{leb, ltb, eqb}
-use lib.ListN.{length, getD, set, take, replicate, length-set, length-replicate, getD-replicate}
-use lib.Seq.{take-suc, take-all, getD-set-same, getD-set-other}
+use lib.ListN.{length, getD, set, replicate, length-set, length-replicate, getD-replicate}
+use lib.Seq.{take-all, getD-set-same, getD-set-other}
 use borrow.Author.Tests.{ltb-true, eq-eqb, ne-eqb}
 use Rattle.numerals.specs.Pick.{pick}
 use Rattle.numerals.specs.Sums.{sumTo, countTo, listTo}
 use Rattle.numerals.specs.Limits.{mostBackends}
 use Rattle.numerals.specs.declared.refusal.Refusal.the-variants.{ShortLoan, UnknownService}
-use Rattle.numerals.proofs.Sums.{count-suc}
-use Rattle.sheets.specs.FirstMatch.{firstMatch, gives, share}
+use Rattle.numerals.proofs.Sums.{count-suc, list-taken}
+use Rattle.expansion.specs.FirstMatch.{firstMatch, gives, share}
 use Rattle.expansion.specs.Sound.{Complete}
 use Rattle.expansion.specs.declared.rule.Rule.{Rule}
 use Rattle.expansion.proofs.Count.{share-sum}
@@ -32,13 +32,7 @@ use Rattle.sheets.proofs.TableChecks.{Proper}
 use Rattle.sheets.proofs.FirstMatch.{first-few, has-match}
 use Rattle.sheets.proofs.HeldTables.{TableHeld}
 
--- counts that are f 0, f 1, ..
-list-taken : (f : ℕ → ℕ) (counts : List ℕ) → ((b : ℕ) → b < length counts → getD counts b 0 ≡ f b)
-    → (n : ℕ) → n ≤ length counts → take n counts ≡ listTo n f
-unfolding listTo
-list-taken f counts h zero l = refl
-list-taken f counts h (suc n) l = take-suc counts n 0 l ∙ rw (list-taken f counts h n (omega arith), h n l)
-
+-- the sum of a listing
 sum-list : (f : ℕ → ℕ) (n : ℕ) → sum (listTo n f) ≡ sumTo n f
 unfolding listTo sum sumTo
 sum-list f zero = refl

@@ -10,7 +10,7 @@ use borrow.Author.Tests.{lt-ltb, le-leb, lt-leb, ltb-true, leb-true, eqb-true}
 use Rattle.numerals.proofs.Choice.{both-false, both-left, both-right}
 use Rattle.expansion.specs.Answer.{inLimits}
 use Rattle.expansion.proofs.Checks.{limits as within}
-use Rattle.sheets.specs.FirstMatch.{isRule}
+use Rattle.expansion.specs.FirstMatch.{isRule}
 use Rattle.packing.specs.Count.{Line}
 use Rattle.sheets.specs.Reading.{got, then, unless}
 use Rattle.sheets.specs.RuleSheet.{Table, countOf, inOrder, placed, closed, isLine, checkLines, checkEnd, checkSheet, checkTable}

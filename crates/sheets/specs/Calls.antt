@@ -1,20 +1,20 @@
 -- What the public calls answer, and what they write, for every input.
-use Prim.Native.Nat.{ℕ, _+_, _*_, _^_}
+use Prim.Native.Nat.{ℕ, suc, _+_, _*_, _^_}
 use mathlib.Core.Bool.{Bool, true, false, not}
-use mathlib.Core.List.{List, [], _∷_, _++_}
+use mathlib.Core.List.{List, [], _∷_, _++_, map}
 use lib.Dec.{leb, ltb, eqb}
 use lib.ListN.{length}
 use lib.Seq.{sets}
 use Rattle.numerals.specs.Pick.{pick}
 use Rattle.numerals.specs.Decimal.{decimal}
-use Rattle.numerals.specs.Sums.{countTo}
+use Rattle.numerals.specs.Sums.{listTo, countTo}
 use Rattle.numerals.specs.Limits.{unit, textLimit}
 use Rattle.numerals.specs.declared.refusal.Refusal.{Refusal}
 use Rattle.numerals.specs.Refusals.{no7, no8, no11, no12}
-use Rattle.sheets.specs.FirstMatch.{firstMatch}
+use Rattle.expansion.specs.FirstMatch.{firstMatch}
 use Rattle.packing.specs.Grants.{total}
 use Rattle.packing.specs.Count.{Line, Services, ownRules}
-use Rattle.packing.specs.Table.{problem, granted}
+use Rattle.packing.specs.Table.{problem, granted, oneEach}
 use Rattle.packing.specs.Answer.{linesMade, figuresMade, cells, noBuffer, figuresBuffer, tableBuffer}
 use Rattle.sheets.specs.Reading.{Reading, got, refused, unless}
 use Rattle.sheets.specs.PercentageSheet.{Sheet, readSheet}
@@ -61,16 +61,23 @@ abbrev pub isTable : TableRead → Bool
 isTable (table-read.Made r) = true
 isTable (table-read.Refused r) = false
 
--- the services of a sheet, as the count is fed them
+-- the services of a sheet, as the count is fed them; backends are labelled by their number from 1
 unfoldable pub servicesIn : Sheet → Services
-servicesIn S = record { k = S .k; unit = unit; volumes = S .volumes; weights = S .weights }
+servicesIn S =
+    record {
+      k = S .k;
+      unit = unit;
+      volumes = S .volumes;
+      labels = map (λ (own : List ℕ). listTo (length own) suc) (S .weights);
+      weights = S .weights;
+    }
 
 -- the table of a sheet
 unfoldable pub tableFor : Sheet → Table
 tableFor S =
     record {
       k = S .k;
-      total = total (problem (servicesIn S) (S .tolerance) (S .capacity)) (granted (servicesIn S) (S .tolerance) (S .capacity));
+      total = total (problem (servicesIn S) (S .tolerance) oneEach (S .capacity)) (granted (servicesIn S) (S .tolerance) oneEach (S .capacity));
       lines = linesMade (servicesIn S) (S .tolerance) (S .capacity);
     }
 

@@ -11,7 +11,7 @@ use Rattle.numerals.specs.Text.{split}
 use Rattle.numerals.specs.declared.suffixes.SuffixRead.{SuffixRead}
 use Rattle.numerals.specs.declared.suffixes.SuffixRead.the-variants.{Suffix, Bad}
 use Rattle.expansion.specs.Answer.{inLimits}
-use Rattle.sheets.specs.FirstMatch.{isRule}
+use Rattle.expansion.specs.FirstMatch.{isRule}
 use Rattle.numerals.specs.Refusals.{no1, no2, no4, no5, no9, no10}
 use Rattle.packing.specs.Count.{Line, ownRules}
 use Rattle.sheets.specs.Reading.{Reading, got, refused, then, unless, onField, same, field}

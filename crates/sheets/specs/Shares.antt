@@ -6,7 +6,7 @@ use Rattle.numerals.specs.Pick.{pick}
 use Rattle.numerals.specs.Sums.{listTo}
 use Rattle.numerals.specs.Limits.{mostBackends}
 use Rattle.numerals.specs.Refusals.{no7, no8}
-use Rattle.sheets.specs.FirstMatch.{share}
+use Rattle.expansion.specs.FirstMatch.{share}
 use Rattle.packing.specs.Count.{Line, ownRules}
 use Rattle.sheets.specs.RuleSheet.{Table, readTable}
 use Rattle.sheets.specs.Calls.{refusedAt, answered, hasService}

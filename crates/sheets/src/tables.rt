@@ -13,7 +13,7 @@ ghost use Prim.Native.Nat.{_≤_};
 ghost use lib.ListN.{length, take};
 ghost use lib.Seq.{sets};
 ghost use Rattle.numerals.specs.Limits.{mostBits};
-ghost use Rattle.sheets.specs.FirstMatch.{firstMatch};
+ghost use Rattle.expansion.specs.FirstMatch.{firstMatch};
 ghost use Rattle.packing.specs.Count.{ownRules};
 ghost use Rattle.packing.specs.Answer.{cells};
 ghost use Rattle.sheets.specs.RuleSheet.{readTable};

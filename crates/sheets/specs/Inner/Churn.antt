@@ -4,7 +4,7 @@ use mathlib.Core.List.{List}
 use lib.Dec.{ltb, eqb}
 use Rattle.numerals.specs.Pick.{pick}
 use Rattle.numerals.specs.Refusals.{no8, no12}
-use Rattle.sheets.specs.FirstMatch.{firstMatch}
+use Rattle.expansion.specs.FirstMatch.{firstMatch}
 use Rattle.packing.specs.Count.{Line, ownRules}
 use Rattle.sheets.specs.Calls.{about, refusedAt, moved}
 use Rattle.sheets.specs.declared.answer.Answer.{Answer}

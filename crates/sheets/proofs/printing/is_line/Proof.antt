@@ -7,7 +7,7 @@ use borrow.Author.Tests.{lt-ltb, le-ltb, le-leb, lt-leb}
 use Rattle.numerals.specs.Limits.{mostServices}
 use Rattle.numerals.proofs.Powers.{shifted}
 use Rattle.expansion.specs.Answer.{inLimits}
-use Rattle.sheets.specs.FirstMatch.{isRule}
+use Rattle.expansion.specs.FirstMatch.{isRule}
 use Rattle.sheets.specs.RuleSheet.{isLine}
 use Rattle.sheets.proofs.TableChecks.{is-within}
 use Rattle.sheets.proofs.printing.is_line.Statement.{statement}

@@ -6,7 +6,7 @@ use native.Mathlib.Omega.{arith}
 use Rattle.numerals.specs.Limits.{mostBackends}
 use Rattle.numerals.proofs.Sums.{count-le}
 use Rattle.numerals.proofs.Powers.{shifted}
-use Rattle.sheets.specs.FirstMatch.{gives}
+use Rattle.expansion.specs.FirstMatch.{gives}
 use Rattle.packing.specs.Count.{ownRules}
 use Rattle.sheets.specs.Inner.TableNumbers.{linesIn}
 use Rattle.sheets.proofs.FirstMatch.{lines-few}

@@ -9,7 +9,7 @@ use native.Mathlib.Omega.{arith}
 use lib.Dec.{eqb}
 use borrow.Author.Tests.{eq-eqb, ne-eqb}
 use Rattle.numerals.specs.Sums.{countTo}
-use Rattle.sheets.specs.FirstMatch.{firstMatch}
+use Rattle.expansion.specs.FirstMatch.{firstMatch}
 use Rattle.packing.specs.Count.{ownRules}
 use Rattle.numerals.proofs.Powers.{shifted}
 use Rattle.numerals.proofs.Sums.{sum-none, count-suc, count-le}

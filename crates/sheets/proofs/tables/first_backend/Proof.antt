@@ -9,7 +9,7 @@ use lib.Pow.{pow-pos}
 use lib.Seq.{slice}
 use Rattle.numerals.proofs.Powers.{shifted}
 use Rattle.numerals.specs.Limits.{mostBits}
-use Rattle.sheets.specs.FirstMatch.{firstMatch}
+use Rattle.expansion.specs.FirstMatch.{firstMatch}
 use Rattle.packing.specs.Count.{Line, ownRules}
 use Rattle.sheets.specs.Calls.{linesFrom}
 use Rattle.sheets.specs.Inner.TableNumbers.{lineAt, linesIn}

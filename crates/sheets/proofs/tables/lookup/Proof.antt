@@ -7,7 +7,7 @@ use lib.Dec.{ltb}
 use borrow.Author.Tests.{lt-ltb}
 use Rattle.numerals.specs.Pick.{pick}
 use Rattle.numerals.specs.declared.refusal.Refusal.the-variants.{UnknownService}
-use Rattle.sheets.specs.FirstMatch.{firstMatch}
+use Rattle.expansion.specs.FirstMatch.{firstMatch}
 use Rattle.packing.specs.Count.{Line, ownRules}
 use Rattle.sheets.specs.Reading.{Reading}
 use Rattle.sheets.specs.RuleSheet.{Table}

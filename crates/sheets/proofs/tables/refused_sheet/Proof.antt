@@ -21,7 +21,7 @@ returns c =
     λ w e.
     let h = c .before .before .read .given .1 in
     let same : c .before .before .read .given .0 .0 ≡ w = cc in
-    ap Refused (c .about .ensures) ∙ ap (λ (v : Why). Refused (about _ (v .why) (v .line))) same
+    ap Refused (c .about .ensures) ∙ ap (λ (v : Why). Refused (about (c .before .before .before .before .args .of) (v .why) (v .line))) same
 
 returns-2 : tie.Need-returns-2
 returns-2 c = λ w e. let h = c .enum-told .given .1 in cc
