@@ -10,9 +10,9 @@ use Rattle.sheets.specs.RuleSheet.{Table, tableText, readTable}
 use Rattle.sheets.specs.Calls.{linesFrom, tableHanded}
 use Rattle.sheets.proofs.Readings.{unless-got}
 use Rattle.sheets.proofs.TableChecks.{check-same}
-use Rattle.sheets.proofs.Handed.{count-lines, count-broken}
+use Rattle.sheets.proofs.NumbersText.{count-lines, count-broken}
 use Rattle.sheets.proofs.TableHanded.{accepted}
-use Rattle.sheets.proofs.Standing.{read-checked}
+use Rattle.sheets.proofs.OrderedLines.{read-checked}
 use Rattle.sheets.proofs.RoundTrip.{numbers, back, only}
 
 -- whole lines are all the numbers

@@ -10,12 +10,13 @@ use lib.ListN.{length, getD, set, length-set}
 use lib.Seq.{getD-set-same, getD-set-other}
 use borrow.Author.Tests.{eqb-true, eqb-false, eq-eqb, ne-eqb, le-ltb, lt-ltb}
 use Rattle.numerals.specs.Pick.{pick, both}
-use Rattle.packing.specs.Count.{Line}
+use Rattle.packing.specs.Count.{Line, ownRules}
+use Rattle.numerals.specs.Limits.{mostServices, mostRules}
 use Rattle.numerals.specs.declared.refusal.Refusal.{Refusal}
 use Rattle.numerals.specs.declared.refusal.Refusal.the-variants.{TooMany, Order}
-use Rattle.sheets.specs.Reading.{Reading, got, turned, unless}
+use Rattle.sheets.specs.Reading.{Reading, got, refused, unless}
 use Rattle.sheets.specs.RuleSheet.{countOf, inOrder, placed}
-use Rattle.sheets.specs.Behind.{lastOf, Behind, placing}
+use Rattle.sheets.specs.Inner.Order.{lastOf, Behind, placing}
 use Rattle.sheets.specs.declared.order.Last.{Last}
 
 -- the order by what is kept of the lines before
@@ -31,11 +32,11 @@ order-last (p ∷ ps) l = rw (eqb·suc-zero (length ps))
 
 -- one line more of a service
 pub count-same : (l : Line) (ls : List Line) → countOf (l .service) (l ∷ ls) ≡ suc (countOf (l .service) ls)
-unfolding countOf
+unfolding countOf ownRules
 count-same l ls = rw (eq-eqb (l .service) (l .service) refl)
 
 pub count-other : (s : ℕ) (l : Line) (ls : List Line) → (l .service ≡ s → ⊥) → countOf s (l ∷ ls) ≡ countOf s ls
-unfolding countOf
+unfolding countOf ownRules
 count-other s l ls n = rw (ne-eqb (l .service) s n)
 
 -- a service is the line's, or another
@@ -52,7 +53,7 @@ last-count [] = refl
 last-count (l ∷ ls) = refl
 
 -- what is kept once the line is tallied
-module _ (before : List Line) (l : Line) (last : Last) (tally : List ℕ) (kept : Behind before last tally) (small : l .service < 64) where
+module _ (before : List Line) (l : Line) (last : Last) (tally : List ℕ) (kept : Behind before last tally) (small : l .service ≤ mostServices) where
   pub behind-next :
       Behind (l ∷ before) (record { count = last .count + 1; service = l .service; len = l .rule .len })
       (set tally (l .service) (getD tally (l .service) 0 + 1))
@@ -68,7 +69,7 @@ module _ (before : List Line) (l : Line) (last : Last) (tally : List ℕ) (kept 
           → _≡_ {A = Last} (record { count = n; service = l .service; len = l .rule .len }) (lastOf (l ∷ before))
       count n e = rw e
 
-      tallied : (s : ℕ) → s < 64 → getD (set tally (l .service) (getD tally (l .service) 0 + 1)) s 0 ≡ countOf s (l ∷ before)
+      tallied : (s : ℕ) → s ≤ mostServices → getD (set tally (l .service) (getD tally (l .service) 0 + 1)) s 0 ≡ countOf s (l ∷ before)
       tallied s h =
           by-service s l
           (λ e. rw (← e) (getD-set-same tally (l .service) (getD tally (l .service) 0 + 1) 0 (omega (arith, kept .places))
@@ -81,32 +82,32 @@ module _ (before : List Line) (l : Line) (last : Last) (tally : List ℕ) (kept 
 
 -- the two tests of a line
 module _ (before : List Line) (l : Line) where
-  pub too-many : 32 ≤ countOf (l .service) before → placing before l ≡ turned TooMany 0
+  pub too-many : mostRules ≤ countOf (l .service) before → placing before l ≡ refused TooMany 0
   unfolding placing placed unless
-  too-many h = rw (le-ltb (countOf (l .service) before) 32 h)
+  too-many h = rw (le-ltb (countOf (l .service) before) mostRules h)
 
-  pub by-order : countOf (l .service) before < 32 → placing before l ≡ unless (inOrder before l) Order 0 (got tt)
+  pub by-order : countOf (l .service) before < mostRules → placing before l ≡ unless (inOrder before l) Order 0 (got tt)
   unfolding placing placed unless
-  by-order h = rw (lt-ltb (countOf (l .service) before) 32 h)
+  by-order h = rw (lt-ltb (countOf (l .service) before) mostRules h)
 
 -- whether a line may stand behind others doesn't depend on what comes next
 module _ {A : Type 0} (before : List Line) (l : Line) (at : ℕ) (next : Reading A) where
   pub placed-next : placing before l ≡ got tt → placed before l at next ≡ next
   unfolding placing placed unless
-  placed-next h = go (ltb (countOf (l .service) before) 32) (inOrder before l) h
+  placed-next h = go (ltb (countOf (l .service) before) mostRules) (inOrder before l) h
     where
       go : (s t : Bool) → unless {A = Unit {0}} s TooMany 0 (unless t Order 0 (got tt)) ≡ got tt → unless s TooMany at (unless t Order at next) ≡ next
       go true true h = refl
       go true false h = cc
       go false t h = cc
 
-  pub placed-turned : (why : Refusal) → placing before l ≡ turned why 0 → placed before l at next ≡ turned why at
+  pub placed-refused : (why : Refusal) → placing before l ≡ refused why 0 → placed before l at next ≡ refused why at
   unfolding placing placed unless
-  placed-turned why h = go (ltb (countOf (l .service) before) 32) (inOrder before l) h
+  placed-refused why h = go (ltb (countOf (l .service) before) mostRules) (inOrder before l) h
     where
       go :
-          (s t : Bool) → unless {A = Unit {0}} s TooMany 0 (unless t Order 0 (got tt)) ≡ turned why 0
-          → unless s TooMany at (unless t Order at next) ≡ turned why at
+          (s t : Bool) → unless {A = Unit {0}} s TooMany 0 (unless t Order 0 (got tt)) ≡ refused why 0
+          → unless s TooMany at (unless t Order at next) ≡ refused why at
       go true true h = cc
       go true false h = cc
       go false t h = cc

@@ -1,12 +1,12 @@
 -- A table handed in numbers is checked as its sheet would be: the check answers what the reader answers on the text that the numbers make, but for the line.
-use Prim.Native.Nat.{ℕ, _+_, _-_, _^_, _≤_, _<_}
+use Prim.Native.Nat.{ℕ, _+_, _^_, _≤_, _<_}
 use mathlib.Core.Path.{_≡_, refl, sym, ap, _∙_}
 use mathlib.Core.Bool.{Bool, true, false}
 use mathlib.Core.List.{List, [], _∷_, _++_, reverse, reverseAux, reverse-reverse, append-assoc}
 use native.Mathlib.Omega.{arith}
 use lib.Dec.{leb, ltb, eqb·suc-zero}
 use lib.ListN.{length, length-reverse}
-use borrow.Author.Tests.{eq-eqb, lt-ltb, le-ltb, le-leb, lt-leb, leb-true}
+use borrow.Author.Tests.{eq-eqb, lt-ltb, le-leb, lt-leb}
 use Rattle.numerals.specs.Pick.{pick, both}
 use Rattle.numerals.specs.Decimal.{isNumeral, number, decimal}
 use Rattle.numerals.specs.Suffix.{suffix, suffixText}
@@ -14,21 +14,35 @@ use Rattle.numerals.specs.Text.{split}
 use Rattle.numerals.specs.declared.digits.Number.the-variants.{Value, Bad}
 use Rattle.numerals.specs.declared.suffixes.SuffixRead.{SuffixRead}
 use Rattle.numerals.specs.declared.suffixes.SuffixRead.the-variants.{Suffix, Bad as NoSuffix}
-use Rattle.numerals.proofs.Choice.{by-less, both-left, both-right}
+use Rattle.numerals.proofs.Choice.{by-less}
 use Rattle.numerals.proofs.Decimal.{first-digit, all-decimal, value-decimal, decimal-free}
 use Rattle.numerals.proofs.Fields.{free-split, free-whole}
 use Rattle.numerals.proofs.Suffix.{suffix-only, suffix-back, length-suffix}
 use Rattle.numerals.specs.declared.refusal.Refusal.{Refusal}
 use Rattle.numerals.specs.Refusals.{no2, no4, no9, no11}
+use Rattle.expansion.specs.Answer.{inLimits}
+use Rattle.expansion.proofs.Checks.{limits as within}
+use Rattle.expansion.specs.FirstMatch.{isRule}
 use Rattle.packing.specs.Count.{Line}
-use Rattle.sheets.specs.Reading.{Reading, got, atNoLine, then, unless, onField}
-use Rattle.numerals.specs.Limits.{textLimit, totalLimit}
-use Rattle.sheets.specs.RuleSheet.{Table, TableHead, tableWord, lineText, linesText, tableFields, onSuffix, countOf, inOrder, placed, ruleFields, ruleLines, closed, wholeTable, tableLines, readTable, isLine, checkLines, checkEnd, checkSheet}
-use Rattle.sheets.specs.Behind.{line}
-use Rattle.sheets.specs.Calls.{linesFrom, brokenFrom, brokenText, linesHanded, handedText, tableHanded, ValuesFit}
+use Rattle.sheets.specs.Reading.{Reading, got, refused, then, unless, onField}
+use Rattle.sheets.specs.FirstLine.{Opening, openingFields, openingLines, firstLine}
+use Rattle.numerals.specs.Limits.{mostBits, mostBackends, mostServices, mostRules, mostCapacity, textLimit, totalLimit}
+use Rattle.sheets.specs.RuleSheet.{Table, tableWord, lineText, linesText, onSuffix, countOf, inOrder, placed, ruleFields, ruleLines, closed, wholeTable, tableLine, readTable, isLine, checkLines, checkEnd, checkSheet}
+use Rattle.sheets.specs.Calls.{linesFrom, brokenFrom, brokenText, linesHanded, handedText, tableHanded}
 use Rattle.sheets.proofs.Words.{same-refl}
+use Rattle.sheets.proofs.OpeningLine.{lines-more}
 use Rattle.sheets.proofs.Joins.{join, join-free}
 use Rattle.sheets.proofs.TableTexts.{headRow, lineRow, line-joined, head-free, line-free, head-split, line-split}
+
+-- what was read, as a call without a text answers it: with line 0
+unfoldable pub atNoLine : {A : Type 0} → Reading A → Reading A
+atNoLine (got a) = got a
+atNoLine (refused why line) = refused why 0
+
+-- every suffix's value has the bits that its length says, so that the text says the same line
+unfoldable pub ValuesFit : List Line → Type 0
+ValuesFit [] = Unit {0}
+ValuesFit (l ∷ ls) = (l .rule .value < 2 ^ (l .rule .len)) × ValuesFit ls
 
 -- The text as its lines.
 
@@ -40,7 +54,7 @@ rowsBefore (l ∷ ls) rest = join 32 (lineRow l) ∷ rowsBefore ls rest
 -- a broken line, and the empty one behind the last LF
 unfoldable brokenRows : List ℕ → List (List ℕ)
 brokenRows [] = [] ∷ []
-brokenRows (s ∷ ss) = decimal (s + 1) ∷ brokenRows ss
+brokenRows (s ∷ ss) = decimal s ∷ brokenRows ss
 
 broken-some : (ss : List ℕ) → 1 ≤ length (brokenRows ss)
 unfolding brokenRows
@@ -64,8 +78,8 @@ broken-split : (ss : List ℕ) → split 10 (brokenText ss) ≡ brokenRows ss
 unfolding brokenText brokenRows split
 broken-split [] = refl
 broken-split (s ∷ ss) =
-    free-split 10 (decimal (s + 1)) (brokenText ss) (decimal-free 10 (s + 1) (omega arith))
-    ∙ ap (λ (r : List (List ℕ)). decimal (s + 1) ∷ r) (broken-split ss)
+    free-split 10 (decimal s) (brokenText ss) (decimal-free 10 s (omega arith))
+    ∙ ap (λ (r : List (List ℕ)). decimal s ∷ r) (broken-split ss)
 
 handed-split :
     (k total : ℕ) (cs : List ℕ)
@@ -90,24 +104,16 @@ module _ {A : Type 0} where
 
   number-read :
       (least most n at : ℕ) (f : ℕ → Reading A)
-      → onField (number least most (decimal n)) at f ≡ unless (both (leb least n) (leb n most)) no2 at (f n)
-  unfolding number isNumeral onField unless
+      → onField (number least most (decimal n)) at f ≡ unless (inLimits least most n) no2 at (f n)
+  unfolding number isNumeral onField unless inLimits
   number-read least most n at f = rw (first-digit n, all-decimal n, value-decimal n) (go (both (leb least n) (leb n most)))
     where
       go : (t : Bool) → onField (pick t (Value n) Bad) at f ≡ unless t no2 at (f n)
       go true = refl
       go false = refl
 
-  -- counted from 0, written from 1
-  place-read : (most n at : ℕ) (f : ℕ → Reading A) → onField (number 1 most (decimal (n + 1))) at f ≡ unless (ltb n most) no2 at (f (n + 1))
-  place-read most n at f =
-      number-read 1 most (n + 1) at f
-      ∙ by-less n most
-      (λ h. rw (le-leb 1 (n + 1) (omega arith), le-leb (n + 1) most (omega arith), lt-ltb n most h))
-      (λ h. rw (le-leb 1 (n + 1) (omega arith), lt-leb (n + 1) most (omega arith), le-ltb n most h))
-
   suffix-read :
-      (k l v at : ℕ) (f : ℕ → ℕ → Reading A) → 1 ≤ k → k ≤ 12 → v < 2 ^ l
+      (k l v at : ℕ) (f : ℕ → ℕ → Reading A) → 1 ≤ k → k ≤ mostBits → v < 2 ^ l
       → onSuffix (suffix k (suffixText l v)) at f ≡ unless (leb l k) no2 at (f l v)
   unfolding onSuffix unless
   suffix-read k l v at f some few small =
@@ -123,21 +129,25 @@ module _ {A : Type 0} where
 
 -- Line 1.
 
+from-none : (most x : ℕ) → inLimits 0 most x ≡ leb x most
+unfolding inLimits
+from-none most x = rw (le-leb 0 x (omega arith))
+
 head-read :
-    (k n total : ℕ)
-    → tableFields (headRow k n total)
-    ≡ unless (both (leb 1 k) (leb k 12)) no2 1
-    (unless (both (leb 1 n) (leb n 2048)) no2 1
+    (k n total : ℕ) (behind : List (List ℕ))
+    → openingFields tableWord (number 1 mostCapacity) (number 0 totalLimit) (headRow k n total) behind
+    ≡ unless (inLimits 1 mostBits k) no2 1
+    (unless (inLimits 1 mostCapacity n) no2 1
     (unless (leb total totalLimit) no2 1
-    (got (record { k = k; n = n; total = total }))))
-unfolding tableFields unless
-head-read k n total =
+    (got (record { k = k; second = n; third = total; behind = behind }))))
+unfolding openingFields unless
+head-read k n total behind =
     rw (same-refl tableWord)
-    (number-read 1 12 k 1 _
-    ∙ ap (unless (both (leb 1 k) (leb k 12)) no2 1)
-    (number-read 1 2048 n 1 _
-    ∙ ap (unless (both (leb 1 n) (leb n 2048)) no2 1)
-    (number-read 0 totalLimit total 1 _ ∙ rw (le-leb 0 total (omega arith)))))
+    (number-read 1 mostBits k 1 _
+    ∙ ap (unless (inLimits 1 mostBits k) no2 1)
+    (number-read 1 mostCapacity n 1 _
+    ∙ ap (unless (inLimits 1 mostCapacity n) no2 1)
+    (number-read 0 totalLimit total 1 _ ∙ rw (from-none totalLimit total))))
 
 -- A rule line.
 
@@ -149,23 +159,19 @@ merged true true b at end = refl
 merged true false b at end = refl
 merged false m b at end = refl
 
-module _ (k : ℕ) (some : 1 ≤ k) (few : k ≤ 12) where
+module _ (k : ℕ) (some : 1 ≤ k) (few : k ≤ mostBits) where
   line-read :
       (before : List Line) (at : ℕ) (l : Line) → l .rule .value < 2 ^ (l .rule .len)
       → ruleFields k before at (lineRow l) ≡ unless (isLine k l) no2 at (placed before l at (got l))
-  unfolding ruleFields isLine unless
+  unfolding ruleFields isLine isRule unless
   line-read before at l small =
-      let s = ltb (l .service) 64 in
+      let s = inLimits 1 mostServices (l .service) in
       let m = leb (l .rule .len) k in
-      let b = ltb (l .rule .backend) 32 in
-      let service : l .service + 1 - 1 ≡ l .service = omega arith in
-      let backend : l .rule .backend + 1 - 1 ≡ l .rule .backend = omega arith in
-      let end : Line → Reading Line = λ m. placed before m at (got m) in
-      let same : end (line (l .service + 1 - 1) (l .rule .len) (l .rule .value) (l .rule .backend + 1 - 1)) ≡ end l = rw (service, backend) in
-      place-read 64 (l .service) at _
+      let b = inLimits 1 mostBackends (l .rule .backend) in
+      number-read 1 mostServices (l .service) at _
       ∙ ap (unless s no2 at)
       (suffix-read k (l .rule .len) (l .rule .value) at _ some few small
-      ∙ ap (unless m no2 at) (place-read 32 (l .rule .backend) at _ ∙ ap (unless b no2 at) same))
+      ∙ ap (unless m no2 at) (number-read 1 mostBackends (l .rule .backend) at _))
       ∙ rw (lt-ltb (l .rule .value) (2 ^ (l .rule .len)) small) (sym (merged s m b at (placed before l at (got l))))
 
   rule-more :
@@ -182,7 +188,7 @@ module _ (k : ℕ) (some : 1 ≤ k) (few : k ≤ 12) where
       → atNoLine (then (then (unless (isLine k l) no2 at (placed before l at (got l))) rest) f)
       ≡ then (unless (isLine k l) no2 0 (placed before l 0 next)) g
   unfolding placed unless then atNoLine
-  line-more {A} before l at rest next f g h = go (isLine k l) (ltb (countOf (l .service) before) 32) (inOrder before l)
+  line-more {A} before l at rest next f g h = go (isLine k l) (ltb (countOf (l .service) before) mostRules) (inOrder before l)
     where
       go :
           (x y z : Bool)
@@ -201,8 +207,8 @@ module _ (k : ℕ) (some : 1 ≤ k) (few : k ≤ 12) where
   unfolding rowsBefore brokenRows ruleLines ruleFields checkLines checkEnd then unless atNoLine ValuesFit
   lines-read before [] [] f a fit end = end refl
   lines-read before [] (s ∷ ss) f a fit end =
-      let one : split 32 (decimal (s + 1)) ≡ decimal (s + 1) ∷ [] = free-whole 32 (decimal (s + 1)) (decimal-free 32 (s + 1) (omega arith)) in
-      rw (rule-more before (decimal (s + 1)) (brokenRows ss) (broken-some ss), one, eqb·suc-zero (length ss))
+      let one : split 32 (decimal s) ≡ decimal s ∷ [] = free-whole 32 (decimal s) (decimal-free 32 s (omega arith)) in
+      rw (rule-more before (decimal s) (brokenRows ss) (broken-some ss), one, eqb·suc-zero (length ss))
   lines-read before (l ∷ ls) ss f a fit end =
       rw (
         rule-more before (join 32 (lineRow l)) (rowsBefore ls (brokenRows ss)) (rows-some ls (brokenRows ss) (broken-some ss)),
@@ -213,17 +219,10 @@ module _ (k : ℕ) (some : 1 ≤ k) (few : k ≤ 12) where
 
 -- The whole sheet.
 
-table-more :
-    (l : List ℕ) (ms : List (List ℕ)) → 1 ≤ length ms
-    → tableLines (l ∷ ms) ≡ then (tableFields (split 32 l)) (λ h. then (ruleLines (h .k) [] ms) (wholeTable h))
-unfolding tableLines
-table-more l [] h = absurd (omega arith)
-table-more l (m ∷ ms) h = refl
-
 -- after the lines: their number is n, and there is one
 whole-end :
     (k n total : ℕ) (ls : List Line) → length ls ≡ n → 1 ≤ n
-    → atNoLine (wholeTable (record { k = k; n = n; total = total }) (reverse ls))
+    → atNoLine (wholeTable k n total (reverse ls))
     ≡ unless (closed (reverse ls)) no9 0 (got (record { k = k; total = total; lines = ls }))
 unfolding wholeTable unless atNoLine
 whole-end k n total ls e some =
@@ -232,7 +231,7 @@ whole-end k n total ls e some =
 
 -- line 1 passes, and the lines behind it decide
 head-more :
-    {A : Type 0} (s t u : Bool) (h : TableHead) (f : TableHead → Reading A) (g : Reading A)
+    {A : Type 0} (s t u : Bool) (h : Opening) (f : Opening → Reading A) (g : Reading A)
     → (s ≡ true → t ≡ true → atNoLine (f h) ≡ g)
     → atNoLine (then (unless s no2 1 (unless t no2 1 (unless u no2 1 (got h)))) f) ≡ unless s no2 0 (unless t no2 0 (unless u no2 0 g))
 unfolding then unless atNoLine
@@ -241,24 +240,35 @@ head-more true true false h f g e = refl
 head-more true false u h f g e = refl
 head-more false t u h f g e = refl
 
+-- the length of the text comes before all
+length-first :
+    {A B : Type 0} (t : Bool) (x : Reading A) (f : A → Reading B) → atNoLine (then (unless t no11 0 x) f) ≡ unless t no11 0 (atNoLine (then x f))
+unfolding then unless atNoLine
+length-first true x f = refl
+length-first false x f = refl
+
 -- the check of a table in numbers answers what the reader answers on its text, but for the line
 pub as-its-sheet : (k total : ℕ) (cs : List ℕ) → ValuesFit (linesFrom cs) → atNoLine (readTable (handedText k total cs)) ≡ tableHanded k total cs
-unfolding readTable tableHanded checkSheet linesHanded
+unfolding readTable tableLine firstLine tableHanded checkSheet linesHanded
 as-its-sheet k total cs fit =
     let ls = linesFrom cs in
     let ss = brokenFrom cs in
     let n = length ls + length ss in
     let ms = rowsBefore ls (brokenRows ss) in
     let t : Table = record { k = k; total = total; lines = ls } in
-    let read : tableLines (split 10 (handedText k total cs)) ≡ then (tableFields (headRow k n total)) (λ h. then (ruleLines (h .k) [] ms) (wholeTable h)) =
-    ap tableLines (handed-split k total cs)
-    ∙ table-more (join 32 (headRow k n total)) ms (rows-some ls (brokenRows ss) (broken-some ss))
+    let second = number 1 mostCapacity in
+    let third = number 0 totalLimit in
+    let short = leb (length (handedText k total cs)) textLimit in
+    let read : openingLines tableWord second third (split 10 (handedText k total cs)) ≡ openingFields tableWord second third (headRow k n total) ms =
+    ap (openingLines tableWord second third) (handed-split k total cs)
+    ∙ lines-more tableWord second third (join 32 (headRow k n total)) ms (rows-some ls (brokenRows ss) (broken-some ss))
     ∙ rw (head-split k n total) in
-    unless-none (leb (length (handedText k total cs)) textLimit) no11 0 _
-    ∙ ap (unless (leb (length (handedText k total cs)) textLimit) no11 0)
-    (rw (read, head-read k n total)
-    (head-more (both (leb 1 k) (leb k 12)) (both (leb 1 n) (leb n 2048)) (leb total totalLimit) (record { k = k; n = n; total = total }) _
+    length-first short _ _
+    ∙ ap (unless short no11 0)
+    (rw (read, head-read k n total ms)
+    (head-more (inLimits 1 mostBits k) (inLimits 1 mostCapacity n) (leb total totalLimit) (record { k = k; second = n; third = total; behind = ms }) _
     (then (checkLines k [] ls) (checkEnd (length ss) t))
     (λ bits lines.
-    lines-read k (leb-true 1 k (both-left (leb 1 k) (leb k 12) bits)) (leb-true k 12 (both-right (leb 1 k) (leb k 12) bits)) [] ls ss (wholeTable (record { k = k; n = n; total = total })) t fit
-    (λ none. whole-end k n total ls (omega arith) (leb-true 1 n (both-left (leb 1 n) (leb n 2048) lines))))))
+    let few = within 1 mostBits k bits in
+    lines-read k (few .0) (few .1) [] ls ss (wholeTable k n total) t fit
+    (λ none. whole-end k n total ls (omega arith) (within 1 mostCapacity n lines .0)))))

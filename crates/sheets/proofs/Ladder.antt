@@ -7,15 +7,17 @@ use native.Mathlib.Nat.{le-refl}
 use native.Mathlib.Omega.{arith}
 use lib.ListN.{length}
 use borrow.Author.Tests.{eq-eqb, ne-eqb, lt-ltb, le-leb}
-use Rattle.expansion.specs.Inner.Sound.{Formed, AllFormed, Lengths, Falling, NoStar}
+use Rattle.numerals.specs.Limits.{mostBackends, mostServices, mostRules}
+use Rattle.expansion.specs.FirstMatch.{isRule}
+use Rattle.expansion.specs.Inner.Sound.{AllFormed, Lengths, Falling, NoStar}
 use Rattle.expansion.specs.Steps.{oldest}
 use Rattle.expansion.specs.declared.rule.Rule.{Rule}
-use Rattle.packing.specs.Count.{Line}
+use Rattle.packing.specs.Count.{Line, ownRules}
 use Rattle.packing.specs.Grants.{Grants}
 use Rattle.packing.specs.Table.{linesOf, tableOf}
 use Rattle.sheets.specs.RuleSheet.{countOf, inOrder, closed, isLine}
 use Rattle.sheets.proofs.Following.{count-same, count-other}
-use Rattle.sheets.proofs.TableChecks.{is-formed, InOrder}
+use Rattle.sheets.proofs.TableChecks.{is-within, InOrder}
 
 abbrev pub Ladder : List Rule → Type 0
 Ladder [] = ⊥
@@ -42,42 +44,66 @@ pub record Ready (s : ℕ) (before : List Line) : Type 0 where
   pub next : (t : ℕ) → s ≤ t → (r : Rule) → inOrder before (lineOf t r) ≡ true
   pub shut : closed before ≡ true
 
-ready-first : Ready 0 []
-unfolding countOf inOrder closed
-ready-first = record { none = λ t h. refl; next = λ t h r. refl; shut = refl }
+ready-first : (s : ℕ) → Ready s []
+unfolding countOf ownRules inOrder closed
+ready-first s = record { none = λ t h. refl; next = λ t h r. refl; shut = refl }
 
-module _ (k s : ℕ) (known : s < 64) where
-  formed-line : (r : Rule) → Formed k 32 r → isLine k (lineOf s r) ≡ true
-  formed-line r f =
-      is-formed k (lineOf s r) (record { service = known; short = f .short; bits = f .bits; backend = f .known })
+-- each rule is well-formed, and its label is one of 32
+pub record Labelled (k : ℕ) (r : Rule) : Type 0 where
+  pub rule : isRule k r ≡ true
+  pub some : 1 ≤ r .backend
+  pub few : r .backend ≤ mostBackends
+
+unfoldable pub AllLabelled : ℕ → List Rule → Type 0
+AllLabelled k [] = Unit {0}
+AllLabelled k (r ∷ rs) = Labelled k r × AllLabelled k rs
+
+-- rules of the first n backends are so, where their labels are
+pub all-labelled :
+    (k : ℕ) (labelled : ℕ → ℕ) (n : ℕ) (rs : List Rule) → ((b : ℕ) → b < n → (1 ≤ labelled b) × (labelled b ≤ mostBackends))
+    → AllFormed k labelled n rs → AllLabelled k rs
+unfolding AllFormed AllLabelled
+all-labelled k labelled n [] h a = tt
+all-labelled k labelled n (r ∷ rs) h a =
+    let f = a .0 in
+    let l = h (f .known .0) (f .known .1) in (
+      record { rule = f .rule; some = omega (arith, l .0, f .known .2); few = omega (arith, l .1, f .known .2) },
+      all-labelled k labelled n rs h (a .1),
+    )
+
+module _ (k s : ℕ) (numbered : 1 ≤ s) (known : s ≤ mostServices) where
+  labelled-line : (r : Rule) → Labelled k r → isLine k (lineOf s r) ≡ true
+  unfolding isLine
+  labelled-line r f =
+      rw (is-within 1 mostServices s numbered known, f .rule, is-within 1 mostBackends (r .backend) (f .some) (f .few))
 
   -- a ladder's lines, where its first may follow
   ladder-lines :
-      (before : List Line) (r : Rule) (rs : List Rule) → Ladder (r ∷ rs) → AllFormed k 32 (r ∷ rs)
-      → countOf s before + length (r ∷ rs) ≤ 32 → inOrder before (lineOf s r) ≡ true → InOrder k before (linesOf s (r ∷ rs))
-  unfolding AllFormed InOrder linesOf inOrder
+      (before : List Line) (r : Rule) (rs : List Rule) → Ladder (r ∷ rs) → AllLabelled k (r ∷ rs)
+      → countOf s before + length (r ∷ rs) ≤ mostRules → inOrder before (lineOf s r) ≡ true → InOrder k before (linesOf s (r ∷ rs))
+  unfolding AllLabelled InOrder linesOf inOrder
   ladder-lines before r [] h f few first =
-      (record { form = formed-line r (f .0); few = lt-ltb (countOf s before) 32 (omega arith); sorted = first }, tt)
+      (record { form = labelled-line r (f .0); few = lt-ltb (countOf s before) mostRules (omega arith); sorted = first }, tt)
   ladder-lines before r (q ∷ rs) h f few first = (
-    record { form = formed-line r (f .0); few = lt-ltb (countOf s before) 32 (omega arith); sorted = first },
+    record { form = labelled-line r (f .0); few = lt-ltb (countOf s before) mostRules (omega arith); sorted = first },
     ladder-lines (lineOf s r ∷ before) q rs (h .2) (f .1) (omega (arith, count-same (lineOf s r) before))
         (rw (eq-eqb s s refl, lt-ltb 0 (r .len) (h .0), le-leb (q .len) (r .len) (h .1))),
   )
 
-  -- and behind a ladder's lines the next service may begin
-  ladder-ready :
-      (before : List Line) (rs : List Rule) → Ladder rs → ((t : ℕ) → s < t → countOf t before ≡ 0)
-      → Ready (suc s) (reverseAux (linesOf s rs) before)
-  unfolding linesOf inOrder closed
-  ladder-ready before [] h none = absurd h
-  ladder-ready before (r ∷ []) h none =
-      record {
-        none = λ t l. count-other t (lineOf s r) before (λ e. omega arith) ∙ none t l;
-        next = λ t l q. rw (ne-eqb s t (λ e. omega arith), lt-ltb s t l, eq-eqb (r .len) 0 h);
-        shut = eq-eqb (r .len) 0 h;
-      }
-  ladder-ready before (r ∷ q ∷ rs) h none =
-      ladder-ready (lineOf s r ∷ before) (q ∷ rs) (h .2) (λ t l. count-other t (lineOf s r) before (λ e. omega arith) ∙ none t l)
+-- and behind a ladder's lines the next service may begin
+ladder-ready :
+    (s : ℕ) (before : List Line) (rs : List Rule) → Ladder rs → ((t : ℕ) → s < t → countOf t before ≡ 0)
+    → Ready (suc s) (reverseAux (linesOf s rs) before)
+unfolding linesOf inOrder closed
+ladder-ready s before [] h none = absurd h
+ladder-ready s before (r ∷ []) h none =
+    record {
+      none = λ t l. count-other t (lineOf s r) before (λ e. omega arith) ∙ none t l;
+      next = λ t l q. rw (ne-eqb s t (λ e. omega arith), lt-ltb s t l, eq-eqb (r .len) 0 h);
+      shut = eq-eqb (r .len) 0 h;
+    }
+ladder-ready s before (r ∷ q ∷ rs) h none =
+    ladder-ready s (lineOf s r ∷ before) (q ∷ rs) (h .2) (λ t l. count-other t (lineOf s r) before (λ e. omega arith) ∙ none t l)
 
 in-order-append :
     (k : ℕ) (before xs ys : List Line) → InOrder k before xs → InOrder k (reverseAux xs before) ys → InOrder k before (xs ++ ys)
@@ -88,26 +114,27 @@ in-order-append k before (x ∷ xs) ys h g = (h .0, in-order-append k (x ∷ bef
 -- what is granted of a list
 pub record Granted (k : ℕ) (rs : List Rule) : Type 0 where
   pub steps : Ladder rs
-  pub formed : AllFormed k 32 rs
-  pub few : length rs ≤ 32
+  pub labelled : AllLabelled k rs
+  pub few : length rs ≤ mostRules
 
-granted-lines : (k s : ℕ) → s < 64 → (before : List Line) (rs : List Rule) → Granted k rs → Ready s before → InOrder k before (linesOf s rs)
-granted-lines k s l before [] G R = absurd (G .steps)
-granted-lines k s l before (r ∷ rs) G R =
-    ladder-lines k s l before r rs (G .steps) (G .formed) (omega (arith, R .none s (le-refl s), G .few)) (R .next s (le-refl s) r)
+granted-lines :
+    (k s : ℕ) → 1 ≤ s → s ≤ mostServices → (before : List Line) (rs : List Rule) → Granted k rs → Ready s before → InOrder k before (linesOf s rs)
+granted-lines k s one l before [] G R = absurd (G .steps)
+granted-lines k s one l before (r ∷ rs) G R =
+    ladder-lines k s one l before r rs (G .steps) (G .labelled) (omega (arith, R .none s (le-refl s), G .few)) (R .next s (le-refl s) r)
 
--- the table of ladders
+-- the table of ladders: that of service s has the number s + 1
 pub table-sorted :
-    (k n : ℕ) (lists : ℕ → List Rule) (g : Grants) → n ≤ 64 → ((s : ℕ) → s < n → Granted k (oldest (g s) (lists s)))
-    → InOrder k [] (tableOf n lists g) × Ready n (reverse (tableOf n lists g))
+    (k n : ℕ) (lists : ℕ → List Rule) (g : Grants) → n ≤ mostServices → ((s : ℕ) → s < n → Granted k (oldest (g s) (lists s)))
+    → InOrder k [] (tableOf n lists g) × Ready (suc n) (reverse (tableOf n lists g))
 unfolding tableOf InOrder
-table-sorted k zero lists g few all = (tt, ready-first)
+table-sorted k zero lists g few all = (tt, ready-first 1)
 table-sorted k (suc n) lists g few all =
     let before = tableOf n lists g in
     let rs = oldest (g n) (lists n) in
     let ih = table-sorted k n lists g (omega arith) (λ s l. all s (omega arith)) in
     let G = all n (omega arith) in (
-      in-order-append k [] before (linesOf n rs) (ih .0) (granted-lines k n (omega arith) (reverse before) rs G (ih .1)),
-      rw (reverseAux-append before (linesOf n rs) [])
-          (ladder-ready k n (omega arith) (reverse before) rs (G .steps) (λ t l. ih .1 .none t (omega arith))),
+      in-order-append k [] before (linesOf (suc n) rs) (ih .0) (granted-lines k (suc n) (omega arith) few (reverse before) rs G (ih .1)),
+      rw (reverseAux-append before (linesOf (suc n) rs) [])
+          (ladder-ready (suc n) (reverse before) rs (G .steps) (λ t l. ih .1 .none t (omega arith))),
     )

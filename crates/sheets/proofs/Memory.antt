@@ -10,7 +10,7 @@ use lib.ListN.{length, take, set, length-append}
 use lib.Seq.{take-suc-set}
 use Rattle.sheets.specs.Reading.{unless}
 use Rattle.sheets.specs.PercentageSheet.{Service, volumesOf, weightsOf, whole}
-use Rattle.sheets.specs.Kept.{headOf, Stored, sizesOf, rowOf, Holds, SheetOf, finished}
+use Rattle.sheets.specs.Inner.SheetReader.{sheetOf, Stored, sizesOf, rowOf, Holds, SheetOf, finished}
 use Rattle.sheets.specs.declared.percentage_sheet.Head.{Head}
 
 pub volumes-more : (ss : List Service) (s : Service) → volumesOf (ss ++ s ∷ []) ≡ volumesOf ss ++ s .volume ∷ []
@@ -60,15 +60,15 @@ holds-more {volumes} {weights} {zs = zs} {i = i} {n = n} {s = s} h k room =
 pub kept-whole :
     (head : Head) (ss : List Service) {vs zs ws : List ℕ} {n row : ℕ} → length ss ≡ n
     → Holds (volumesOf ss) (weightsOf ss) vs zs ws n row
-    → SheetOf (finished head n row) (whole (headOf head) ss) vs zs ws
+    → SheetOf (finished head n row) (sheetOf head ss) vs zs ws
 unfolding finished whole unless
 kept-whole head ss {vs} {zs} {ws} {n} {row} count h = go (ltb 0 n) (leb n (head .capacity)) refl refl
   where
     go :
         (t u : Bool) → ltb 0 n ≡ t → leb n (head .capacity) ≡ u
-        → SheetOf (finished head n row) (whole (headOf head) ss) vs zs ws
-    go false u e f = simp (count, e) refl
-    go true false e f = simp (count, e, f) refl
+        → SheetOf (finished head n row) (sheetOf head ss) vs zs ws
+    go false u e f = simp (count, e) (refl, refl)
+    go true false e f = simp (count, e, f) (refl, refl)
     go true true e f =
         simp (count, e, f)
         (record {

@@ -9,8 +9,8 @@ use lib.ListN.{length, getD, take, length-append}
 use lib.Seq.{take-append-seam, drop-append-seam}
 use borrow.Author.Tests.{lt-ltb, le-leb, eq-eqb}
 use Rattle.numerals.specs.Pick.{pick}
-use Rattle.expansion.specs.Answer.{inLimits, checkWeights}
-use Rattle.numerals.specs.Limits.{unit}
+use Rattle.expansion.specs.Answer.{checkWeights}
+use Rattle.numerals.specs.Limits.{mostBits, mostBackends, mostServices, mostCapacity, mostVolume, unit}
 use Rattle.numerals.specs.declared.refusal.Refusal.the-variants.{ShortLoan}
 use Rattle.expansion.specs.declared.call.Checked.the-variants.{Sound as Passed}
 use Rattle.expansion.proofs.Checks.{weights-sum}
@@ -21,12 +21,12 @@ use Rattle.packing.specs.declared.answer.Packed.{Packed}
 use Rattle.packing.specs.declared.answer.Packing.{Packing}
 use Rattle.packing.specs.declared.answer.Packing.the-variants.{Made, Refused}
 use Rattle.sheets.specs.PercentageSheet.{Sheet, readSheet}
-use Rattle.sheets.specs.Calls.{refusedAt, servicesIn, tableFor, planOf, planAnswer, fromSheet, planFilled, figuresFor, cellsFor}
-use Rattle.sheets.specs.FromPacking.{planFrom}
-use Rattle.sheets.specs.Kept.{sizesOf, rowOf, SheetKept}
+use Rattle.sheets.specs.Calls.{about, servicesIn, tableFor, planOf, planAnswer, valuesOf, afterwards, isPlan, figuresFor, cellsFor}
+use Rattle.sheets.specs.Inner.Planning.{planFrom}
+use Rattle.sheets.specs.Inner.SheetReader.{sizesOf, rowOf, SheetHeld}
 use Rattle.sheets.specs.declared.percentage_sheet.Head.{Head}
-use Rattle.sheets.specs.declared.answer.Planned.{Planned}
-use Rattle.sheets.specs.declared.answer.Planned.the-variants as planned-variants
+use Rattle.sheets.specs.declared.answer.Planned.the-variants as planned
+use Rattle.sheets.proofs.TableChecks.{is-within}
 use Rattle.sheets.proofs.SheetLimits.{Row, Limits, sum-places, limits}
 
 -- a row of weights is taken apart by the sizes that it was made with
@@ -41,7 +41,7 @@ unfolding servicesOf servicesIn
 same-services S = rw (chunks-row (S .weights))
 
 -- one service, and the services from s on
-service-passes : (v : ℕ) (ws rest : List ℕ) → v ≤ 10000 → Row ws → checkService v (length ws) (ws ++ rest) ≡ Passed
+service-passes : (v : ℕ) (ws rest : List ℕ) → v ≤ mostVolume → Row ws → checkService v (length ws) (ws ++ rest) ≡ Passed
 unfolding checkService
 service-passes v ws rest h r =
     let some : 0 < length ws = omega (arith, r .some) in
@@ -50,16 +50,16 @@ service-passes v ws rest h r =
     ∙ simp (eq-eqb _ unit (sum-places ws ∙ r .balanced)) in
     simp (
       lt-ltb 0 (length ws) some,
-      le-leb (length ws) 32 (r .few),
+      le-leb (length ws) mostBackends (r .few),
       le-leb (length ws) (length (ws ++ rest)) (omega (arith, length-append ws rest)),
-      le-leb v 10000 h,
+      le-leb v mostVolume h,
       take-append-seam ws rest,
       weighs,
     )
 
 from-passes :
-    (s : ℕ) (volumes : List ℕ) (wss : List (List ℕ)) → length volumes ≡ length wss → s + length wss ≤ 64
-    → ((i : ℕ) → i < length wss → getD volumes i 0 ≤ 10000)
+    (s : ℕ) (volumes : List ℕ) (wss : List (List ℕ)) → length volumes ≡ length wss → s + length wss ≤ mostServices
+    → ((i : ℕ) → i < length wss → getD volumes i 0 ≤ mostVolume)
     → ((i : ℕ) → i < length wss → Row (getD wss i []))
     → checkFrom s volumes (sizesOf wss) (rowOf wss) ≡ Passed
 unfolding checkFrom sizesOf rowOf
@@ -68,7 +68,7 @@ from-passes s [] (ws ∷ wss) same few small rows = absurd (omega arith)
 from-passes s (v ∷ volumes) [] same few small rows = absurd (omega arith)
 from-passes s (v ∷ volumes) (ws ∷ wss) same few small rows =
     simp (
-      lt-ltb s 64 (omega arith),
+      lt-ltb s mostServices (omega arith),
       service-passes v ws (rowOf wss) (small 0 (omega arith)) (rows 0 (omega arith)),
       drop-append-seam ws (rowOf wss),
       from-passes (suc s) volumes wss (omega arith) (omega arith) (λ i l. small (suc i) (omega arith)) (λ i l. rows (suc i) (omega arith)),
@@ -77,14 +77,12 @@ from-passes s (v ∷ volumes) (ws ∷ wss) same few small rows =
 pub all-pass :
     (S : Sheet) → Limits S
     → checkAll (S .k) (S .tolerance) (S .capacity) (S .volumes) (sizesOf (S .weights)) (rowOf (S .weights)) ≡ Passed
-unfolding checkAll checkHead checkServices inLimits
+unfolding checkAll checkHead checkServices
 all-pass S l =
     simp (
-      le-leb 1 (S .k) (l .bits),
-      le-leb (S .k) 12 (l .few-bits),
+      is-within 1 mostBits (S .k) (l .bits) (l .few-bits),
       le-leb (S .tolerance) unit (l .tolerant),
-      le-leb 1 (S .capacity) (omega (arith, l .some, l .room)),
-      le-leb (S .capacity) 2048 (l .small),
+      is-within 1 mostCapacity (S .capacity) (omega (arith, l .some, l .room)) (l .small),
       from-passes 0 (S .volumes) (S .weights) (omega (arith, l .rows)) (omega (arith, l .rows, l .few)) (λ i h. l .volume i (omega (arith, l .rows))) (λ i h. l .row i (omega (arith, l .rows))),
       lt-ltb 0 (length (S .volumes)) (omega (arith, l .some)),
       le-leb (length (S .volumes)) (S .capacity) (l .room),
@@ -95,9 +93,9 @@ plan-picks :
     (k n : ℕ) (t u : Bool) (p : Packed)
     → planFrom k n (pick t (pick u (Made p) (Refused ShortLoan tableBuffer)) (Refused ShortLoan figuresBuffer))
     ≡ pick t
-    (pick u (planned-variants.Made (record { k = k; services = n; rules = p .rules; total = p .total }))
-    (planned-variants.Refused (refusedAt ShortLoan 0) tableBuffer))
-    (planned-variants.Refused (refusedAt ShortLoan 0) figuresBuffer)
+    (pick u (planned.Made (record { k = k; services = n; rules = p .rules; total = p .total }))
+    (planned.Refused (about tableBuffer ShortLoan 0)))
+    (planned.Refused (about figuresBuffer ShortLoan 0))
 plan-picks k n true true p = refl
 plan-picks k n true false p = refl
 plan-picks k n false u p = refl
@@ -110,24 +108,24 @@ unfolding answer written planOf packedOf tableFor services servicesIn
 plan-answer S limits a b = rw (all-pass S limits, same-services S)
     (plan-picks (S .k) (length (S .volumes)) (leb (3 * length (S .volumes)) a) (leb (4 * length (linesMade (servicesIn S) (S .tolerance) (S .capacity))) b) (packedOf (servicesIn S) (S .tolerance) (S .capacity)))
 
-fill-same : (k n : ℕ) (p : Packing) (out vs : List ℕ) → filled p out vs ≡ planFilled (planFrom k n p) out vs
+fill-same : (k n : ℕ) (p : Packing) (out vs : List ℕ) → filled p out vs ≡ afterwards (isPlan (planFrom k n p)) out vs
 fill-same k n (Made p) out vs = refl
 fill-same k n (Refused why buffer) out vs = refl
 
 -- the numbers that the memory holds, packed: the answer and the buffers of the one call
-module _ (text : List ℕ) {vs zs ws : List ℕ} {head : Head} {n row : ℕ} (kept : SheetKept (readSheet text) vs zs ws head n row) where
-  held-services : servicesOf (head .k) (take n vs) (take n zs) (take row ws) ≡ servicesIn (kept .sheet)
-  held-services = cc (same-services (kept .sheet))
+module _ (text : List ℕ) {vs zs ws : List ℕ} {head : Head} {n row : ℕ} (held : SheetHeld (readSheet text) vs zs ws head n row) where
+  held-services : servicesOf (head .k) (take n vs) (take n zs) (take row ws) ≡ servicesIn (held .sheet)
+  held-services = cc (same-services (held .sheet))
 
   pub held-figures :
       figuresMade (servicesOf (head .k) (take n vs) (take n zs) (take row ws)) (head .tolerance) (head .capacity)
-      ≡ figuresFor (kept .sheet)
+      ≡ figuresFor (held .sheet)
   unfolding figuresFor
   held-figures = cc held-services
 
   pub held-cells :
       cells (linesMade (servicesOf (head .k) (take n vs) (take n zs) (take row ws)) (head .tolerance) (head .capacity))
-      ≡ cellsFor (kept .sheet)
+      ≡ cellsFor (held .sheet)
   unfolding cellsFor tableFor
   held-cells = cc held-services
 
@@ -137,10 +135,10 @@ module _ (text : List ℕ) {vs zs ws : List ℕ} {head : Head} {n row : ℕ} (ke
         → planFrom (head .k) n p ≡ planAnswer text a b
     unfolding planAnswer
     plan-made a b is =
-        let same : planFrom (head .k) n p ≡ planOf (kept .sheet) a b = cc (plan-answer (kept .sheet) (limits text (kept .sheet) (kept .read)) a b) in
-        rw (kept .read) same
+        let same : planFrom (head .k) n p ≡ planOf (held .sheet) a b = cc (plan-answer (held .sheet) (limits text (held .sheet) (held .read)) a b) in
+        rw (held .read) same
 
     pub plan-buffer :
-        (f : Sheet → List ℕ) (made out out′ : List ℕ) → made ≡ f (kept .sheet) → out′ ≡ filled p out made
-        → out′ ≡ planFilled (planFrom (head .k) n p) out (fromSheet (readSheet text) f)
-    plan-buffer f made out out′ same is = rw (kept .read, ← same) (is ∙ fill-same (head .k) n p out made)
+        (f : Sheet → List ℕ) (made out out′ : List ℕ) → made ≡ f (held .sheet) → out′ ≡ filled p out made
+        → out′ ≡ afterwards (isPlan (planFrom (head .k) n p)) out (valuesOf (readSheet text) f)
+    plan-buffer f made out out′ same is = rw (held .read, ← same) (is ∙ fill-same (head .k) n p out made)

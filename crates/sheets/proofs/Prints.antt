@@ -6,16 +6,21 @@ use native.Mathlib.Omega.{arith}
 use lib.ListN.{length}
 use borrow.Author.Tests.{le-leb, lt-leb}
 use Rattle.numerals.specs.declared.refusal.Refusal.the-variants.{ShortLoan}
-use Rattle.sheets.specs.Calls.{refusedAt, printText, printFilled}
-use Rattle.sheets.specs.Writing.{Wrote}
-use Rattle.sheets.specs.declared.answer.Printed.the-variants.{End, Refused}
+use Rattle.sheets.specs.Calls.{refusedAt, printText, afterwards, isValue}
+use Rattle.sheets.specs.Inner.Writing.{Wrote}
+use Rattle.sheets.specs.declared.answer.Answer.{Answer}
+use Rattle.sheets.specs.declared.answer.Answer.the-variants.{Value, Refused}
+
+-- the answer and the buffer afterwards
+abbrev pub PrintedAs : List ℕ → List ℕ → Answer → List ℕ → Type 0
+PrintedAs bytes out r after = (r ≡ printText bytes (length out)) × (after ≡ afterwards (isValue r) out bytes)
 
 module _ (bytes out : List ℕ) where
-  pub no-room : length out < length bytes → (Refused (refusedAt ShortLoan 0) ≡ printText bytes (length out)) × (out ≡ printFilled (Refused (refusedAt ShortLoan 0)) out bytes)
+  pub no-room : length out < length bytes → PrintedAs bytes out (Refused (refusedAt ShortLoan 0)) out
   unfolding printText
   no-room h = (rw (lt-leb (length bytes) (length out) h), refl)
 
-  pub printed : (after : List ℕ) (end : ℕ) → length bytes ≤ length out → Wrote out after 0 end bytes → (End end ≡ printText bytes (length out)) × (after ≡ printFilled (End end) out bytes)
+  pub printed : (after : List ℕ) (end : ℕ) → length bytes ≤ length out → Wrote out after 0 end bytes → PrintedAs bytes out (Value end) after
   unfolding printText
   printed after end h w =
       let all : end ≡ length bytes = omega (arith, w .ends) in

@@ -1,73 +1,86 @@
 -- The table of a percentage sheet is proper: its lines are in order and in their limits, and its total is in its limit.
-use Prim.Native.Nat.{ℕ, _-_, _*_, _^_, _≤_, _<_, min}
+use Prim.Native.Nat.{ℕ, suc, _-_, _*_, _^_, _≤_, _<_, min}
 use mathlib.Core.Path.{_≡_, refl, sym, _∙_, subst}
-use mathlib.Core.List.{List, [], _∷_, reverse}
+use mathlib.Core.List.{List, [], reverse, map}
 use native.Mathlib.Nat.{le-trans, mul-le-mul}
 use native.Mathlib.Omega.{arith}
-use lib.ListN.{length, getD}
+use lib.ListN.{length, getD, List·getD-map}
 use lib.Pow.{pow-mono}
-use Rattle.numerals.specs.Limits.{unit, totalLimit}
-use Rattle.numerals.specs.Sums.{sumTo}
-use Rattle.expansion.specs.Imbalance.{backends, imbalance}
-use Rattle.expansion.specs.Steps.{firstRule, frame, after, listOf, oldest, stair, Frame}
-use Rattle.expansion.specs.Inner.Sound.{AllFormed, Sound}
+use Rattle.numerals.specs.Limits.{mostBits, mostBackends, mostRules, mostCapacity, unit, totalLimit}
+use Rattle.numerals.specs.Sums.{sumTo, listTo}
+use Rattle.expansion.specs.FirstMatch.{nobody}
+use Rattle.expansion.specs.Imbalance.{backends, label, weight, imbalance}
+use Rattle.expansion.specs.Steps.{Frame, firstRule, frame, after, listOf, oldest, stair}
+use Rattle.expansion.specs.Inner.Sound.{Distinct, Sound}
 use Rattle.expansion.specs.declared.rule.Rule.{Rule}
-use Rattle.expansion.proofs.Base.{base-sound, base-formed, base-falling}
+use Rattle.expansion.proofs.Base.{numbers-distinct, base-sound, base-formed, base-falling}
 use Rattle.expansion.proofs.Bounds.{imbalance-bound}
 use Rattle.expansion.proofs.Shape.{falling-after, front-after}
-use Rattle.numerals.proofs.Sums.{sum-le, sum-most, sum-at}
+use Rattle.numerals.proofs.Sums.{sum-le, sum-most, sum-at, list-at}
 use Rattle.expansion.proofs.Turns.{good-after, formed-after, length-le, length-oldest, oldest-after}
-use Rattle.packing.specs.Count.{Services, services, volume, weightsOf}
-use Rattle.packing.specs.Demand.{Balanced, Fitting}
+use Rattle.packing.specs.Count.{Services, services, volume, targetsOf}
+use Rattle.packing.specs.Demand.{Fitting}
 use Rattle.packing.specs.Grants.{Grants, total}
-use Rattle.packing.specs.Table.{ruleBudget, frameOf, listFor, table, problem, granted}
+use Rattle.packing.specs.Table.{ruleBudget, frameOf, listFor, table, problem, granted, oneEach}
 use Rattle.packing.specs.Answer.{linesMade}
-use Rattle.packing.proofs.Demand.{granted-fitting}
+use Rattle.packing.specs.Inner.Premises.{Balanced}
+use Rattle.packing.proofs.Checks.{numbers-labelled}
+use Rattle.packing.proofs.Demand.{granted-fitting, one-fits}
 use Rattle.packing.proofs.Tables.{length-table}
 use Rattle.sheets.specs.Reading.{got}
 use Rattle.sheets.specs.PercentageSheet.{Sheet, readSheet}
 use Rattle.sheets.specs.RuleSheet.{checkTable}
 use Rattle.sheets.specs.Calls.{servicesIn, tableFor}
-use Rattle.sheets.proofs.Ladder.{Ladder, ladder, ladder-some, Granted, Ready, table-sorted}
+use Rattle.sheets.proofs.Ladder.{Ladder, ladder, ladder-some, all-labelled, Granted, Ready, table-sorted}
 use Rattle.sheets.proofs.SheetLimits.{Limits, limits, sum-places}
 use Rattle.sheets.proofs.TableChecks.{InOrder, Proper, checked}
 
-formed-mono : (k m n : ℕ) (rs : List Rule) → m ≤ n → AllFormed k m rs → AllFormed k n rs
-unfolding AllFormed
-formed-mono k m n [] h a = tt
-formed-mono k m n (r ∷ rs) h a =
-    (record { short = a .0 .short; bits = a .0 .bits; known = omega (arith, a .0 .known) }, formed-mono k m n rs h (a .1))
+-- 1,000,000 × 2^12, and 10,000 times that
+abbrev mostImbalance : ℕ
+mostImbalance = 4096000000
+
+abbrev mostCost : ℕ
+mostCost = 40960000000000
 
 -- a list of the expansion is a ladder
-module _ (k tolerance : ℕ) (ws : List ℕ) (one : 1 ≤ k) (few : length ws ≤ 32)
-    (balanced : sumTo (length ws) (λ b. getD ws b 0) ≡ unit) where
+module _ (k tolerance : ℕ) (labels ws : List ℕ) (one : 1 ≤ k) (few : length ws ≤ mostBackends)
+    (balanced : sumTo (length ws) (λ b. getD ws b 0) ≡ unit) (numbered : labels ≡ listTo (length ws) suc) where
   abbrev F : Frame
-  F = frame k unit tolerance ws
+  F = frame k unit tolerance labels ws
+
+  distinct : Distinct (λ b. getD labels b nobody) (length ws)
+  distinct = rw numbered (numbers-distinct (length ws))
+
+  -- the labels are the numbers from 1
+  label-limits : (b : ℕ) → b < length ws → (1 ≤ getD labels b nobody) × (getD labels b nobody ≤ mostBackends)
+  label-limits b l =
+      let is : getD labels b nobody ≡ suc b = rw numbered (list-at (length ws) suc b nobody l) in
+      (omega arith, omega arith)
 
   sound : Sound F
   unfolding unit
-  sound = base-sound k unit tolerance ws one (omega arith) balanced
+  sound = base-sound k unit tolerance labels ws one (omega arith) balanced distinct
 
   list-ladder : (x : ℕ) → Ladder (after F x)
   unfolding frame firstRule
   list-ladder x =
       let front = front-after F sound x in
       subst Ladder (sym (front .1))
-      (ladder (front .0) _ refl (front .2) (rw (front .1) at (falling-after F sound (base-falling ws) x)))
+      (ladder (front .0) _ refl (front .2) (rw (front .1) at (falling-after F sound (base-falling labels ws) x)))
 
-  list-granted : (x : ℕ) → x < 32 → Granted k (after F x)
-  unfolding frame firstRule backends unit
+  list-granted : (x : ℕ) → x < mostRules → Granted k (after F x)
+  unfolding frame firstRule backends label unit
   list-granted x h =
       record {
         steps = list-ladder x;
-        formed = formed-mono k (length ws) 32 (after F x) few (formed-after F sound (base-formed k unit tolerance ws one (omega arith) balanced) x);
+        labelled = all-labelled k (λ b. getD labels b nobody) (length ws) (after F x) label-limits (formed-after F sound (base-formed k unit tolerance labels ws one (omega arith) balanced distinct) x);
         few = omega (arith, length-le F x);
       }
 
-  list-imbalance : (x : ℕ) → k ≤ 12 → imbalance F (after F x) ≤ 4096000000
-  unfolding frame backends unit
+  list-imbalance : (x : ℕ) → k ≤ mostBits → imbalance (F .targets) (after F x) ≤ mostImbalance
+  unfolding frame unit
   list-imbalance x h =
-      omega (arith, imbalance-bound F (after F x) (good-after F sound x .complete), pow-mono {i = k} {j = 12} h)
+      omega (arith, imbalance-bound F sound (after F x) (good-after F sound x .complete), pow-mono {i = k} {j = 12} h)
 
   oldest-list : (c : ℕ) → 1 ≤ c → oldest c (listOf F ruleBudget) ≡ after F (min (c - 1) 31)
   unfolding listOf ruleBudget frame firstRule
@@ -79,7 +92,7 @@ module _ (S : Sheet) (L : Limits S) where
   T = servicesIn S
 
   abbrev g : Grants
-  g = granted T (S .tolerance) (S .capacity)
+  g = granted T (S .tolerance) oneEach (S .capacity)
 
   count : services T ≡ length (S .volumes)
   unfolding services servicesIn
@@ -88,52 +101,66 @@ module _ (S : Sheet) (L : Limits S) where
   weigh : (s : ℕ) → s < length (S .volumes) → sumTo (length (getD (S .weights) s [])) (λ b. getD (getD (S .weights) s []) b 0) ≡ unit
   weigh s l = sum-places (getD (S .weights) s []) ∙ L .row s l .balanced
 
-  pub balanced : Balanced T
-  unfolding servicesIn services weightsOf unit
-  balanced = record { bits = L .bits; positive = omega arith; weigh = weigh }
+  -- a service's labels are the numbers from 1
+  numbers : (s : ℕ) → getD (T .labels) s [] ≡ listTo (length (getD (S .weights) s [])) suc
+  unfolding servicesIn listTo
+  numbers s = List·getD-map (λ (own : List ℕ). listTo (length own) suc) (S .weights) s []
 
-  pub fitting : Fitting T (S .capacity) g
-  unfolding servicesIn services
-  fitting = granted-fitting T (S .tolerance) (S .capacity) (L .room)
+  pub balanced : Balanced T
+  unfolding servicesIn services targetsOf backends weight label unit
+  balanced =
+      record {
+        bits = L .bits;
+        positive = omega arith;
+        weigh = weigh;
+        distinct = λ s l. rw (numbers s) (numbers-distinct (length (getD (S .weights) s [])));
+        labelled = λ s l b m. rw (numbers s) (numbers-labelled (length (getD (S .weights) s [])) b m);
+      }
+
+  pub enough-room : sumTo (services T) oneEach ≤ S .capacity
+  enough-room = one-fits T (S .capacity) (omega (arith, count, L .room))
+
+  pub fitting : Fitting T oneEach (S .capacity) g
+  fitting = granted-fitting T (S .tolerance) oneEach (S .capacity) enough-room
 
   granted-oldest :
       (s : ℕ) → s < length (S .volumes)
-      → (x : ℕ) × (x < 32) × (oldest (g s) (listFor T (S .tolerance) s) ≡ after (frame (S .k) unit (S .tolerance) (getD (S .weights) s [])) x)
-  unfolding listFor frameOf servicesIn services weightsOf
+      → (x : ℕ) × (x < mostRules) × (oldest (g s) (listFor T (S .tolerance) s) ≡ after (frameOf T (S .tolerance) s) x)
+  unfolding listFor frameOf servicesIn services targetsOf
   granted-oldest s l = (
     min (g s - 1) 31,
     omega arith,
-    oldest-list (S .k) (S .tolerance) (getD (S .weights) s []) (L .bits) (L .row s l .few) (weigh s l) (g s) (fitting .one s l),
+    oldest-list (S .k) (S .tolerance) (getD (T .labels) s []) (getD (S .weights) s []) (L .bits) (L .row s l .few) (weigh s l) (numbers s) (g s) (fitting .enough s l),
   )
 
   all-granted : (s : ℕ) → s < length (S .volumes) → Granted (S .k) (oldest (g s) (listFor T (S .tolerance) s))
+  unfolding frameOf servicesIn targetsOf
   all-granted s l =
       let o = granted-oldest s l in
-      rw (o .2) (list-granted (S .k) (S .tolerance) (getD (S .weights) s []) (L .bits) (L .row s l .few) (weigh s l) (o .0) (o .1))
+      rw (o .2) (list-granted (S .k) (S .tolerance) (getD (T .labels) s []) (getD (S .weights) s []) (L .bits) (L .row s l .few) (weigh s l) (numbers s) (o .0) (o .1))
 
-  imbalance-most : (s : ℕ) → s < length (S .volumes) → imbalance (frameOf T (S .tolerance) s) (oldest (g s) (listFor T (S .tolerance) s)) ≤ 4096000000
-  unfolding frameOf servicesIn weightsOf
+  imbalance-most : (s : ℕ) → s < length (S .volumes) → imbalance (frameOf T (S .tolerance) s .targets) (oldest (g s) (listFor T (S .tolerance) s)) ≤ mostImbalance
+  unfolding frameOf servicesIn targetsOf
   imbalance-most s l =
       let o = granted-oldest s l in
-      rw (o .2) (list-imbalance (S .k) (S .tolerance) (getD (S .weights) s []) (L .bits) (L .row s l .few) (weigh s l) (o .0) (L .few-bits))
+      rw (o .2) (list-imbalance (S .k) (S .tolerance) (getD (T .labels) s []) (getD (S .weights) s []) (L .bits) (L .row s l .few) (weigh s l) (numbers s) (o .0) (L .few-bits))
 
-  -- 10,000 × 1,000,000 × 2^12
   cost-most :
       (s : ℕ) → s < length (S .volumes)
-      → volume T s * stair (frameOf T (S .tolerance) s) (g s) (listFor T (S .tolerance) s) ≤ 40960000000000
+      → volume T s * stair (frameOf T (S .tolerance) s) (g s) (listFor T (S .tolerance) s) ≤ mostCost
   unfolding stair volume servicesIn
   cost-most s l =
       let F : Frame = frameOf T (S .tolerance) s in
-      let least : imbalance F (oldest (g s) (listFor T (S .tolerance) s)) ≤ 4096000000 = imbalance-most s l in
+      let least : imbalance (F .targets) (oldest (g s) (listFor T (S .tolerance) s)) ≤ mostImbalance = imbalance-most s l in
       le-trans (mul-le-mul (L .volume s l) least) (omega arith)
 
-  total-most : total (problem T (S .tolerance) (S .capacity)) g ≤ totalLimit
+  total-most : total (problem T (S .tolerance) oneEach (S .capacity)) g ≤ totalLimit
   unfolding total problem totalLimit
   total-most =
       let n = services T in
-      omega (arith, sum-most n _ 40960000000000 (λ s l. cost-most s (omega (arith, count))), count, L .few)
+      omega (arith, sum-most n _ mostCost (λ s l. cost-most s (omega (arith, count))), count, L .few)
 
-  lines-room : length (linesMade T (S .tolerance) (S .capacity)) ≤ 2048
+  lines-room : length (linesMade T (S .tolerance) (S .capacity)) ≤ mostCapacity
   unfolding linesMade table
   lines-room =
       let n = services T in
@@ -160,7 +187,7 @@ module _ (S : Sheet) (L : Limits S) where
         ladder-some (oldest (g 0) (lists 0)) (all-granted 0 first .steps),
       )
 
-  sorted : InOrder (S .k) [] (linesMade T (S .tolerance) (S .capacity)) × Ready (services T) (reverse (linesMade T (S .tolerance) (S .capacity)))
+  sorted : InOrder (S .k) [] (linesMade T (S .tolerance) (S .capacity)) × Ready (suc (services T)) (reverse (linesMade T (S .tolerance) (S .capacity)))
   unfolding linesMade table
   sorted =
       table-sorted (S .k) (services T) (listFor T (S .tolerance)) g (omega (arith, count, L .few)) (λ s l. all-granted s (omega (arith, count)))

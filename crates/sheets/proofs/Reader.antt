@@ -7,36 +7,38 @@ use native.Mathlib.Nat.{le-refl}
 use native.Mathlib.Omega.{arith}
 use lib.Dec.{ltb, eqb, eqb·suc-zero}
 use lib.ListN.{length, take, drop, replicate, length-replicate, getD-replicate, length-reverse, length-append}
-use lib.Seq.{slice, take-length, sets, sets-eq, length-sets, take-at, length-take-le}
-use borrow.Author.Tests.{le-leb, lt-leb}
-use Rattle.packing.specs.Count.{Line}
+use lib.Seq.{slice, sets, sets-eq, length-sets, take-at, length-take-le}
+use Rattle.packing.specs.Count.{Line, ownRules}
 use Rattle.packing.specs.Answer.{cells}
 use Rattle.numerals.specs.declared.refusal.Refusal.{Refusal}
-use Rattle.numerals.specs.declared.refusal.Refusal.the-variants.{Malformed, NoService, Order, Miscount, TooLong}
+use Rattle.numerals.specs.declared.refusal.Refusal.the-variants.{Malformed, NoService, Order, Miscount}
 use Rattle.numerals.specs.Text.{split, indexOf}
 use Rattle.numerals.proofs.Slice.{slice-none, slice-length}
 use Rattle.numerals.proofs.Fields.{cut, cut-last, split-some}
-use Rattle.sheets.specs.Reading.{Reading, got, turned, then, unless}
-use Rattle.numerals.specs.Limits.{textLimit}
-use Rattle.sheets.specs.RuleSheet.{Table, TableHead, tableFields, tableLines, readTable, countOf, placed, ruleFields, ruleLines, closed, wholeTable, isLine, checkLines}
-use Rattle.sheets.specs.Behind.{lastOf, Behind, placing}
-use Rattle.sheets.specs.Calls.{refusedAt}
-use Rattle.sheets.specs.Rows.{Passed, Filled, sheetAnswer, tableFrom}
+use Rattle.sheets.specs.Reading.{Reading, got, refused, then, unless}
+use Rattle.numerals.specs.Limits.{mostServices, mostCapacity}
+use Rattle.sheets.specs.RuleSheet.{Table, countOf, placed, ruleFields, ruleLines, closed, wholeTable, isLine, checkLines}
+use Rattle.sheets.specs.Inner.Order.{lastOf, Behind, placing}
+use Rattle.sheets.specs.Calls.{about, refusedAt}
+use Rattle.sheets.specs.declared.answer.Refused.{Refused as Why}
+use Rattle.sheets.specs.Inner.TableReader.{Passed, Filled, sheetAnswer, tableOf, tableFrom}
+use Rattle.sheets.specs.Inner.Fields.{linesAt, fieldsAt}
+use Rattle.sheets.specs.declared.rule_sheet.TableHead.{TableHead}
 use Rattle.sheets.specs.declared.order.Last.{Last}
 use Rattle.sheets.specs.declared.rule_sheet.SheetLines.the-variants.{Refused}
 use Rattle.sheets.proofs.Readings.{not-got, unless-got}
 use Rattle.sheets.proofs.TableChecks.{Follows, in-order, check-lines}
 use Rattle.sheets.proofs.Following.{last-count}
-use Rattle.sheets.proofs.Standing.{Standing, standing-none, standing-next, standing-sorted, sorted-standing, few-lines}
-use Rattle.sheets.proofs.Rows.{length-cells, cells-append}
+use Rattle.sheets.proofs.OrderedLines.{Ordered, ordered-none, ordered-next, ordered-sorted, sorted-ordered, few-lines}
+use Rattle.sheets.proofs.TableNumbers.{length-cells, cells-append}
 
--- lines that pass the checks are standing
-checked-standing : (k : ℕ) (ls : List Line) → checkLines k [] (reverse ls) ≡ got ls → Standing k ls
-checked-standing k ls h = rw (reverse-reverse ls) at (sorted-standing k [] (reverse ls) (standing-none k) (in-order k [] (reverse ls) h))
+-- lines that pass the checks are in order
+checked-ordered : (k : ℕ) (ls : List Line) → checkLines k [] (reverse ls) ≡ got ls → Ordered k ls
+checked-ordered k ls h = rw (reverse-reverse ls) at (sorted-ordered k [] (reverse ls) (ordered-none k) (in-order k [] (reverse ls) h))
 
-standing-checked : (k : ℕ) (ls : List Line) → Standing k ls → checkLines k [] (reverse ls) ≡ got ls
-standing-checked k ls h =
-    check-lines k [] (reverse ls) (standing-sorted k [] (reverse ls) (rw (reverse-reverse ls) h)) ∙ ap got (reverse-reverse ls)
+ordered-checked : (k : ℕ) (ls : List Line) → Ordered k ls → checkLines k [] (reverse ls) ≡ got ls
+ordered-checked k ls h =
+    check-lines k [] (reverse ls) (ordered-sorted k [] (reverse ls) (rw (reverse-reverse ls) h)) ∙ ap got (reverse-reverse ls)
 
 follows : (k : ℕ) (before : List Line) (l : Line) → isLine k l ≡ true → placing before l ≡ got tt → Follows k before l
 unfolding placing placed
@@ -49,8 +51,8 @@ module _ (k : ℕ) (before : List Line) (last : Last) (tally table : List ℕ) (
   pub passed-count : last .count ≡ length before
   passed-count = ap (λ (q : Last). q .count) (passed .behind .is) ∙ last-count before
 
-  pub passed-few : last .count ≤ 2048
-  passed-few = omega (arith, passed-count, few-lines k before (checked-standing k before (passed .checked)))
+  pub passed-few : last .count ≤ mostCapacity
+  passed-few = omega (arith, passed-count, few-lines k before (checked-ordered k before (passed .checked)))
 
 -- a line that was placed has room, and is stored
 module _
@@ -63,8 +65,8 @@ module _
     (form : isLine k l ≡ true)
     (may : placing before l ≡ got tt)
   where
-    stands : Standing k (l ∷ before)
-    stands = standing-next (follows k before l form may) (checked-standing k before (passed .checked))
+    stands : Ordered k (l ∷ before)
+    stands = ordered-next (follows k before l form may) (checked-ordered k before (passed .checked))
 
     pub passed-room : 4 * last .count + 4 ≤ length table
     passed-room = omega (arith, few-lines k (l ∷ before) stands, passed .room, passed-count k before last tally table passed)
@@ -75,7 +77,7 @@ module _
     passed-next last′ tally′ table′ behind e =
         record {
           behind = behind;
-          checked = standing-checked k (l ∷ before) stands;
+          checked = ordered-checked k (l ∷ before) stands;
           room = ap length e ∙ length-sets table (4 * last .count) (cells (l ∷ [])) ∙ passed .room;
           stored = stored;
         }
@@ -107,15 +109,15 @@ module _
 then-then : {A B C : Type 0} (r : Reading A) (f : A → Reading B) (g : B → Reading C) → then (then r f) g ≡ then r (λ a. then (f a) g)
 unfolding then
 then-then (got a) f g = refl
-then-then (turned why line) f g = refl
+then-then (refused why line) f g = refl
 
 -- the lines from a position on: none left, one more, or one without LF
 module _ (h : TableHead) (before : List Line) where
-  pub from-none : (l : List ℕ) → length l ≡ 0 → tableFrom h before (l ∷ []) ≡ wholeTable h before
+  pub from-none : (l : List ℕ) → length l ≡ 0 → tableFrom h before (l ∷ []) ≡ tableOf h before
   unfolding tableFrom ruleLines then unless
   from-none l e = rw e
 
-  pub from-cut : (l : List ℕ) → 0 < length l → tableFrom h before (l ∷ []) ≡ turned Malformed (length before + 2)
+  pub from-cut : (l : List ℕ) → 0 < length l → tableFrom h before (l ∷ []) ≡ refused Malformed (length before + 2)
   unfolding tableFrom ruleLines then unless
   from-cut [] e = absurd (omega arith)
   from-cut (b ∷ l) e = rw (eqb·suc-zero (length l))
@@ -125,12 +127,12 @@ module _ (h : TableHead) (before : List Line) where
       → tableFrom h before (l ∷ ms) ≡ then (ruleFields (h .k) before (length before + 2) (split 32 l)) (λ line. tableFrom h (line ∷ before) ms)
   unfolding tableFrom ruleLines then
   from-more l [] e = absurd (omega arith)
-  from-more l (m ∷ ms) e = then-then (ruleFields (h .k) before (length before + 2) (split 32 l)) (λ line. ruleLines (h .k) (line ∷ before) (m ∷ ms)) (wholeTable h)
+  from-more l (m ∷ ms) e = then-then (ruleFields (h .k) before (length before + 2) (split 32 l)) (λ line. ruleLines (h .k) (line ∷ before) (m ∷ ms)) (tableOf h)
 
 -- after the lines, by what is kept of them
 pub whole-by :
     (h : TableHead) (all : List Line) (last : Last) → last ≡ lastOf all
-    → wholeTable h all
+    → tableOf h all
     ≡ unless (ltb 0 (last .count)) NoService 1
     (unless (eqb (last .count) (h .n)) Miscount 1
     (unless (eqb (last .len) 0) Order (last .count + 1)
@@ -139,7 +141,7 @@ unfolding wholeTable closed lastOf
 whole-by h [] last e = rw e
 whole-by h (l ∷ ls) last e = rw e
 
-pub whole-filled : (h : TableHead) (all : List Line) (table : List ℕ) → take (4 * length all) table ≡ cells (reverse all) → Filled (wholeTable h all) table
+pub whole-filled : (h : TableHead) (all : List Line) (table : List ℕ) → take (4 * length all) table ≡ cells (reverse all) → Filled (tableOf h all) table
 unfolding wholeTable unless
 whole-filled h all table e = go (ltb 0 (length all)) (eqb (length all) (h .n)) (closed all)
   where
@@ -156,17 +158,21 @@ whole-filled h all table e = go (ltb 0 (length all)) (eqb (length all) (h .n)) (
     go true false u = tt
     go false t u = tt
 
--- a sheet that is turned back
-pub turned-back :
-    (r : Reading Table) (why : Refusal) (line : ℕ) (table : List ℕ) → r ≡ turned why line → (Refused (refusedAt why line) ≡ sheetAnswer r) × Filled r table
+-- a refusal that is about neither of two
+pub about-none : (r : Why) → r .of ≡ 0 → refusedAt (r .why) (r .line) ≡ r
+about-none r e = ap (λ (o : ℕ). about o (r .why) (r .line)) (sym e)
+
+-- a sheet that is refused
+pub refused-by :
+    (r : Reading Table) (why : Refusal) (line : ℕ) (table : List ℕ) → r ≡ refused why line → (Refused (refusedAt why line) ≡ sheetAnswer r) × Filled r table
 unfolding sheetAnswer
-turned-back (got t) why line table e = absurd (not-got (sym e))
-turned-back (turned w l) why line table e = (cc, tt)
+refused-by (got t) why line table e = absurd (not-got (sym e))
+refused-by (refused w l) why line table e = (cc, tt)
 
 -- none is left at the end of the text
 pub next-none :
     (h : TableHead) (text : List ℕ) (before : List Line) (start : ℕ) → length text ≤ start
-    → tableFrom h before (split 10 (slice start (length text) text)) ≡ wholeTable h before
+    → tableFrom h before (linesAt text start) ≡ tableOf h before
 unfolding split
 next-none h text before start e = rw (slice-none start (length text) text (omega arith)) (from-none h before [] refl)
 
@@ -179,76 +185,38 @@ module _
     (is : end ≡ start + indexOf 10 (slice start (length text) text))
   where
     pub next-cut :
-        start < length text → length text ≤ end → tableFrom h before (split 10 (slice start (length text) text)) ≡ turned Malformed (length before + 2)
+        start < length text → length text ≤ end → tableFrom h before (linesAt text start) ≡ refused Malformed (length before + 2)
     next-cut e f =
         ap (tableFrom h before) (cut-last 10 start (length text) end text (le-refl (length text)) is f)
         ∙ from-cut h before (slice start (length text) text) (omega (arith, slice-length start (length text) text))
 
     next-line :
         end < length text
-        → tableFrom h before (split 10 (slice start (length text) text))
-        ≡ then (ruleFields (h .k) before (length before + 2) (split 32 (slice start end text)))
-        (λ l. tableFrom h (l ∷ before) (split 10 (slice (end + 1) (length text) text)))
+        → tableFrom h before (linesAt text start)
+        ≡ then (ruleFields (h .k) before (length before + 2) (fieldsAt text start end))
+        (λ l. tableFrom h (l ∷ before) (linesAt text (end + 1)))
     next-line e =
         ap (tableFrom h before) (cut 10 start (length text) end text (le-refl (length text)) is e)
-        ∙ from-more h before (slice start end text) (split 10 (slice (end + 1) (length text) text)) (split-some 10 (slice (end + 1) (length text) text))
+        ∙ from-more h before (slice start end text) (linesAt text (end + 1)) (split-some 10 (slice (end + 1) (length text) text))
 
-    pub next-turned :
-        end < length text → (why : Refusal) → ruleFields (h .k) before (length before + 2) (split 32 (slice start end text)) ≡ turned why (length before + 2)
-        → tableFrom h before (split 10 (slice start (length text) text)) ≡ turned why (length before + 2)
+    pub next-refused :
+        end < length text → (why : Refusal) → ruleFields (h .k) before (length before + 2) (fieldsAt text start end) ≡ refused why (length before + 2)
+        → tableFrom h before (linesAt text start) ≡ refused why (length before + 2)
     unfolding then
-    next-turned e why f = next-line e ∙ rw f
+    next-refused e why f = next-line e ∙ rw f
 
     pub next-got :
-        end < length text → (l : Line) → ruleFields (h .k) before (length before + 2) (split 32 (slice start end text)) ≡ got l
-        → tableFrom h before (split 10 (slice start (length text) text)) ≡ tableFrom h (l ∷ before) (split 10 (slice (end + 1) (length text) text))
+        end < length text → (l : Line) → ruleFields (h .k) before (length before + 2) (fieldsAt text start end) ≡ got l
+        → tableFrom h before (linesAt text start) ≡ tableFrom h (l ∷ before) (linesAt text (end + 1))
     unfolding then
     next-got e l f = next-line e ∙ rw f
 
--- line 1
-lines-more : (l : List ℕ) (ms : List (List ℕ)) → 1 ≤ length ms → tableLines (l ∷ ms) ≡ then (tableFields (split 32 l)) (λ h. tableFrom h [] ms)
-unfolding tableLines tableFrom
-lines-more l [] e = absurd (omega arith)
-lines-more l (m ∷ ms) e = refl
-
-module _ (text : List ℕ) where
-  pub read-long : textLimit < length text → readTable text ≡ turned TooLong 0
-  unfolding readTable unless
-  read-long h = rw (lt-leb (length text) textLimit h)
-
-  module _ (short : length text ≤ textLimit) (end : ℕ) (is : end ≡ 0 + indexOf 10 (slice 0 (length text) text)) where
-    whole : readTable text ≡ tableLines (split 10 (slice 0 (length text) text))
-    unfolding readTable unless
-    whole = rw (le-leb (length text) textLimit short) (ap (λ (l : List ℕ). tableLines (split 10 l)) (sym (take-length text)))
-
-    pub read-cut : length text ≤ end → readTable text ≡ turned Malformed 1
-    unfolding tableLines
-    read-cut e = whole ∙ ap tableLines (cut-last 10 0 (length text) end text (le-refl (length text)) is e)
-
-    first :
-        end < length text
-        → readTable text ≡ then (tableFields (split 32 (slice 0 end text))) (λ h. tableFrom h [] (split 10 (slice (end + 1) (length text) text)))
-    first e =
-        whole
-        ∙ ap tableLines (cut 10 0 (length text) end text (le-refl (length text)) is e)
-        ∙ lines-more (slice 0 end text) (split 10 (slice (end + 1) (length text) text)) (split-some 10 (slice (end + 1) (length text) text))
-
-    pub read-turned : end < length text → (why : Refusal) → tableFields (split 32 (slice 0 end text)) ≡ turned why 1 → readTable text ≡ turned why 1
-    unfolding then
-    read-turned e why f = first e ∙ rw f
-
-    pub read-got :
-        end < length text → (h : TableHead) → tableFields (split 32 (slice 0 end text)) ≡ got h
-        → readTable text ≡ tableFrom h [] (split 10 (slice (end + 1) (length text) text))
-    unfolding then
-    read-got e h f = first e ∙ rw f
-
 -- before the first line
-pub passed-none : (k : ℕ) (table : List ℕ) → length table ≡ 8192 → Passed k [] (record { count = 0; service = 0; len = 0 }) (replicate 64 0) table
-unfolding lastOf countOf checkLines cells
+pub passed-none : (k : ℕ) (table : List ℕ) → length table ≡ 4 * mostCapacity → Passed k [] (record { count = 0; service = 0; len = 0 }) (replicate (1 + mostServices) 0) table
+unfolding lastOf countOf ownRules checkLines cells
 passed-none k table e =
     record {
-      behind = record { is = refl; places = length-replicate {A = ℕ} 64 0; tallied = λ s h. getD-replicate {A = ℕ} 64 s 0 0 h };
+      behind = record { is = refl; places = length-replicate {A = ℕ} (1 + mostServices) 0; tallied = λ s h. getD-replicate {A = ℕ} (1 + mostServices) s 0 0 (omega arith) };
       checked = refl;
       room = e;
       stored = refl;

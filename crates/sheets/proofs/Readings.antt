@@ -12,11 +12,11 @@ use Rattle.numerals.specs.declared.suffixes.SuffixRead.{SuffixRead}
 use Rattle.numerals.specs.declared.suffixes.SuffixRead.the-variants.{Suffix, Bad as NoSuffix}
 use Rattle.numerals.proofs.Choice.{both-left, both-right}
 use Rattle.numerals.specs.declared.refusal.Refusal.{Refusal}
-use Rattle.sheets.specs.Reading.{Reading, got, turned, then, unless, onField, same}
+use Rattle.sheets.specs.Reading.{Reading, got, refused, then, unless, onField, same}
 use Rattle.sheets.specs.RuleSheet.{onSuffix}
 
 -- a refusal is nothing that was read
-pub not-got : {A : Type 0} {why : Refusal} {line : ℕ} {a : A} → turned why line ≡ got a → ⊥
+pub not-got : {A : Type 0} {why : Refusal} {line : ℕ} {a : A} → refused why line ≡ got a → ⊥
 not-got h = let z : _≡_ {A = ℕ} 0 1 = cc in omega arith
 
 pub got-same : {A : Type 0} {a b : A} → got a ≡ got b → a ≡ b
@@ -43,7 +43,7 @@ module _ {A : Type 0} where
   pub then-got : {B : Type 0} (r : Reading A) (f : A → Reading B) {b : B} → then r f ≡ got b → (a : A) × (r ≡ got a) × (f a ≡ got b)
   unfolding then
   then-got (got a) f h = (a, refl, h)
-  then-got (turned why line) f h = absurd (not-got h)
+  then-got (refused why line) f h = absurd (not-got h)
 
 -- two texts that pass the test are one
 pub same-true : (bs cs : List ℕ) → same bs cs ≡ true → bs ≡ cs

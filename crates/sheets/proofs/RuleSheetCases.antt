@@ -13,21 +13,22 @@ use Rattle.numerals.specs.Suffix.{suffix, suffixText}
 use Rattle.numerals.specs.Text.{onto, split}
 use Rattle.numerals.specs.Limits.{unit, textLimit, totalLimit}
 use Rattle.numerals.specs.Refusals.{no1, no2, no4, no5, no8, no9, no10, no11, no12}
-use Rattle.expansion.specs.FirstMatch.{matches}
+use Rattle.expansion.specs.FirstMatch.{isRule, matches, firstMatch}
 use Rattle.numerals.specs.Sums.{sumTo, countTo}
 use Rattle.packing.specs.Cases.{line}
-use Rattle.packing.specs.Count.{matchesLine}
-use Rattle.sheets.specs.Reading.{Reading, got, turned, then, unless, onField, same}
-use Rattle.sheets.specs.PercentageSheet.{headFields, weightFields, sum, serviceFields, serviceLines, whole, sheetLines, readSheet}
-use Rattle.sheets.specs.RuleSheet.{Table, lineText, linesText, tableFields, onSuffix, countOf, inOrder, placed, ruleFields, ruleLines, closed, wholeTable, tableLines, readTable, isLine, checkLines, checkEnd, checkSheet}
-use Rattle.sheets.specs.Calls.{refusedAt, linesFrom, brokenFrom, brokenText, linesHanded, handedText, tableHanded, firstBackend, hasService, lookupIn, lookupAnswer, moved, churnOf, churnAnswer}
+use Rattle.packing.specs.Count.{ownRules}
+use Rattle.expansion.specs.Answer.{inLimits}
+use Rattle.sheets.specs.Reading.{Reading, got, refused, then, unless, onField, same}
+use Rattle.sheets.specs.PercentageSheet.{weightFields, sum, serviceFields, serviceLines, whole, sheetLine, readSheet}
+use Rattle.sheets.specs.FirstLine.{openingFields, openingLines, firstLine}
+use Rattle.sheets.specs.RuleSheet.{Table, lineText, linesText, onSuffix, countOf, inOrder, placed, ruleFields, ruleLines, closed, wholeTable, tableLine, readTable, isLine, checkLines, checkEnd, checkSheet}
+use Rattle.sheets.specs.Calls.{about, refusedAt, linesFrom, brokenFrom, brokenText, linesHanded, handedText, tableHanded, hasService, lookupIn, lookupAnswer, moved, churnOf, churnAnswer}
 use Rattle.sheets.specs.Cases.{bytes}
 use Rattle.sheets.proofs.TableTexts.{linesWidth}
-use Rattle.sheets.proofs.Handed.{handedWidth, length-handed}
+use Rattle.sheets.proofs.NumbersText.{handedWidth, length-handed}
 use Rattle.sheets.proofs.TableHanded.{handed-long}
-use Rattle.sheets.specs.declared.answer.Looked.the-variants as looked
-use Rattle.sheets.specs.declared.answer.Churned.{Churned}
-use Rattle.sheets.specs.declared.answer.Churned.the-variants as churned
+use Rattle.sheets.specs.declared.answer.Answer.{Answer}
+use Rattle.sheets.specs.declared.answer.Answer.the-variants.{Value, Refused}
 
 -- a text n times
 abbrev times : ℕ → List ℕ → List ℕ
@@ -47,39 +48,39 @@ accepted k ls = got (record { k = k; total = 0; lines = linesFrom ls })
 abbrev cases : List Case
 cases =
     -- gaps between services, an equal suffix twice
-    reads "TABLE 2 4 0\n1 * 1\n64 *0 2\n64 *0 3\n64 * 32\n" (accepted 2 (0 ∷ 0 ∷ 0 ∷ 0 ∷ 63 ∷ 1 ∷ 0 ∷ 1 ∷ 63 ∷ 1 ∷ 0 ∷ 2 ∷ 63 ∷ 0 ∷ 0 ∷ 31 ∷ []))
+    reads "TABLE 2 4 0\n1 * 1\n64 *0 2\n64 *0 3\n64 * 32\n" (accepted 2 (1 ∷ 0 ∷ 0 ∷ 1 ∷ 64 ∷ 1 ∷ 0 ∷ 2 ∷ 64 ∷ 1 ∷ 0 ∷ 3 ∷ 64 ∷ 0 ∷ 0 ∷ 32 ∷ []))
     -- 1: nothing, LF missing, keyword, too few and too many fields, a blank line
-    ∷ reads "" (turned no1 1)
-    ∷ reads "TABLE 1 1 0" (turned no1 1)
-    ∷ reads "TABLE 1 1 0\n1 * 1" (turned no1 2)
-    ∷ reads "SHEET 1 1 0\n1 * 1\n" (turned no1 1)
-    ∷ reads "TABLE 1 1\n1 * 1\n" (turned no1 1)
-    ∷ reads "TABLE 1 1 0\n1 * 1 1\n" (turned no1 2)
-    ∷ reads "TABLE 1 1 0\n1 * 1\n\n" (turned no1 3)
+    ∷ reads "" (refused no1 1)
+    ∷ reads "TABLE 1 1 0" (refused no1 1)
+    ∷ reads "TABLE 1 1 0\n1 * 1" (refused no1 2)
+    ∷ reads "SHEET 1 1 0\n1 * 1\n" (refused no1 1)
+    ∷ reads "TABLE 1 1\n1 * 1\n" (refused no1 1)
+    ∷ reads "TABLE 1 1 0\n1 * 1 1\n" (refused no1 2)
+    ∷ reads "TABLE 1 1 0\n1 * 1\n\n" (refused no1 3)
     -- 2: k, n and the total out of their limits, CR, service, a suffix longer than k, backend, an empty field
-    ∷ reads "TABLE 13 1 0\n1 * 1\n" (turned no2 1)
-    ∷ reads "TABLE 1 0 0\n1 * 1\n" (turned no2 1)
-    ∷ reads "TABLE 1 2049 0\n1 * 1\n" (turned no2 1)
-    ∷ reads "TABLE 1 1 2621440000000001\n1 * 1\n" (turned no2 1)
-    ∷ reads "TABLE 1 1 0\r\n1 * 1\n" (turned no2 1)
-    ∷ reads "TABLE 1 1 0\n65 * 1\n" (turned no2 2)
-    ∷ reads "TABLE 1 1 0\n1 *00 1\n" (turned no2 2)
-    ∷ reads "TABLE 1 1 0\n1 * 33\n" (turned no2 2)
-    ∷ reads "TABLE 1 1 0\n1  1\n" (turned no2 2)
+    ∷ reads "TABLE 13 1 0\n1 * 1\n" (refused no2 1)
+    ∷ reads "TABLE 1 0 0\n1 * 1\n" (refused no2 1)
+    ∷ reads "TABLE 1 2049 0\n1 * 1\n" (refused no2 1)
+    ∷ reads "TABLE 1 1 2621440000000001\n1 * 1\n" (refused no2 1)
+    ∷ reads "TABLE 1 1 0\r\n1 * 1\n" (refused no2 1)
+    ∷ reads "TABLE 1 1 0\n65 * 1\n" (refused no2 2)
+    ∷ reads "TABLE 1 1 0\n1 *00 1\n" (refused no2 2)
+    ∷ reads "TABLE 1 1 0\n1 * 33\n" (refused no2 2)
+    ∷ reads "TABLE 1 1 0\n1  1\n" (refused no2 2)
     -- 5: only line 1
-    ∷ reads "TABLE 1 1 0\n" (turned no5 1)
+    ∷ reads "TABLE 1 1 0\n" (refused no5 1)
     -- 9: services fall, a second `*`, a service begun while the one before has no `*`, a longer suffix, a last line without `*`
-    ∷ reads "TABLE 1 2 0\n2 * 1\n1 * 1\n" (turned no9 3)
-    ∷ reads "TABLE 1 2 0\n1 * 1\n1 * 1\n" (turned no9 3)
-    ∷ reads "TABLE 1 2 0\n1 *0 1\n2 * 1\n" (turned no9 3)
-    ∷ reads "TABLE 2 3 0\n1 *0 1\n1 *00 1\n1 * 1\n" (turned no9 3)
-    ∷ reads "TABLE 1 1 0\n1 *0 1\n" (turned no9 2)
+    ∷ reads "TABLE 1 2 0\n2 * 1\n1 * 1\n" (refused no9 3)
+    ∷ reads "TABLE 1 2 0\n1 * 1\n1 * 1\n" (refused no9 3)
+    ∷ reads "TABLE 1 2 0\n1 *0 1\n2 * 1\n" (refused no9 3)
+    ∷ reads "TABLE 2 3 0\n1 *0 1\n1 *00 1\n1 * 1\n" (refused no9 3)
+    ∷ reads "TABLE 1 1 0\n1 *0 1\n" (refused no9 2)
     -- 10, and before 9
-    ∷ reads "TABLE 1 2 0\n1 * 1\n" (turned no10 1)
-    ∷ reads "TABLE 1 2 0\n1 *0 1\n" (turned no10 1)
+    ∷ reads "TABLE 1 2 0\n1 * 1\n" (refused no10 1)
+    ∷ reads "TABLE 1 2 0\n1 *0 1\n" (refused no10 1)
     -- 4: a 33rd rule, which comes before 9
-    ∷ record { text = bytes "TABLE 1 33 0\n" ++ times 33 (bytes "1 *0 1\n"); is = turned no4 34 }
-    ∷ record { text = bytes "TABLE 1 34 0\n" ++ times 31 (bytes "1 *0 1\n") ++ bytes "1 * 1\n2 * 1\n1 * 1\n"; is = turned no4 35 }
+    ∷ record { text = bytes "TABLE 1 33 0\n" ++ times 33 (bytes "1 *0 1\n"); is = refused no4 34 }
+    ∷ record { text = bytes "TABLE 1 34 0\n" ++ times 31 (bytes "1 *0 1\n") ++ bytes "1 * 1\n2 * 1\n1 * 1\n"; is = refused no4 35 }
     ∷ []
 
 abbrev AllRight : List Case → Type 0
@@ -87,7 +88,7 @@ AllRight [] = Unit {0}
 AllRight (c ∷ cs) = (readTable (c .text) ≡ c .is) × AllRight cs
 
 pub right : AllRight cases
-unfolding bytes linesFrom readTable textLimit tableLines wholeTable closed ruleLines ruleFields placed inOrder countOf onSuffix tableFields totalLimit same onField unless then number isNumeral noLeadingZero allDigits isDigit value valueFrom suffix split onto
+unfolding bytes linesFrom readTable textLimit tableLine firstLine openingLines openingFields wholeTable closed ruleLines ruleFields placed inOrder countOf ownRules onSuffix totalLimit same onField unless then number isNumeral noLeadingZero allDigits isDigit value valueFrom suffix split onto
 right = (refl, (refl, (refl, (refl, (refl, (refl, (refl, (refl, (refl, (refl, (refl, (refl, (refl, (refl, (refl, (refl, (refl, (refl, (refl, (refl, (refl, (refl, (refl, (refl, (refl, (refl, (refl, tt)))))))))))))))))))))))))))
 
 -- Lookup on the sample's rule sheet: the first match, the `*` line, an address of 32 bits, and services that aren't there.
@@ -96,60 +97,69 @@ abbrev tableBytes : List ℕ
 tableBytes = bytes "TABLE 5 5 293333920\n1 *0 2\n1 * 3\n2 *00 2\n2 *0 1\n2 * 3\n"
 
 pub record Lookups : Type 0 where
-  pub matching : lookupAnswer tableBytes 1 0 ≡ looked.Backend 2
-  pub star : lookupAnswer tableBytes 1 1 ≡ looked.Backend 3
-  pub second : lookupAnswer tableBytes 2 4294967294 ≡ looked.Backend 1
-  pub zeroth : lookupAnswer tableBytes 0 0 ≡ looked.Refused (refusedAt no8 0)
-  pub unknown : lookupAnswer tableBytes 3 0 ≡ looked.Refused (refusedAt no8 0)
-  pub malformed : lookupAnswer (bytes "TABLE 5 5 293333920") 3 0 ≡ looked.Refused (refusedAt no1 1)
+  pub matching : lookupAnswer tableBytes 1 0 ≡ Value 2
+  pub star : lookupAnswer tableBytes 1 1 ≡ Value 3
+  pub second : lookupAnswer tableBytes 2 4294967294 ≡ Value 1
+  pub zeroth : lookupAnswer tableBytes 0 0 ≡ Refused (refusedAt no8 0)
+  pub unknown : lookupAnswer tableBytes 3 0 ≡ Refused (refusedAt no8 0)
+  pub malformed : lookupAnswer (bytes "TABLE 5 5 293333920") 3 0 ≡ Refused (refusedAt no1 1)
 
 pub lookups : Lookups
-unfolding lookupAnswer lookupIn hasService firstBackend matchesLine matches bytes readTable textLimit tableLines wholeTable closed ruleLines ruleFields placed inOrder countOf onSuffix tableFields totalLimit same onField unless then number isNumeral noLeadingZero allDigits isDigit value valueFrom suffix split onto
+unfolding lookupAnswer lookupIn hasService firstMatch matches bytes readTable textLimit tableLine firstLine openingLines openingFields wholeTable closed ruleLines ruleFields placed inOrder countOf ownRules onSuffix totalLimit same onField unless then number isNumeral noLeadingZero allDigits isDigit value valueFrom suffix split onto
 lookups = record { matching = refl; star = refl; second = refl; zeroth = refl; unknown = refl; malformed = refl }
 
 -- Churn: suffixes that moved, and which sheet a refusal names.
 
-abbrev churns : string.String → string.String → ℕ → Churned
+abbrev churns : string.String → string.String → ℕ → Answer
 churns old new n = churnAnswer (bytes old) (bytes new) n
 
 pub record Churns : Type 0 where
-  pub all : churns "TABLE 1 1 0\n1 * 1\n" "TABLE 1 1 0\n1 * 2\n" 1 ≡ churned.Moved 2
-  pub half : churns "TABLE 1 1 0\n1 * 1\n" "TABLE 1 2 0\n1 *1 2\n1 * 1\n" 1 ≡ churned.Moved 1
-  pub first : churns "TABLE 1 1 0\n2 * 1\n" "TABLE 2 1 0\n3 * 2\n" 1 ≡ churned.Refused (refusedAt no8 0) 1
-  pub second : churns "TABLE 1 1 0\n1 * 1\n" "TABLE 2 1 0\n2 * 2\n" 1 ≡ churned.Refused (refusedAt no8 0) 2
-  pub neither : churns "TABLE 1 1 0\n1 * 1\n" "TABLE 2 1 0\n1 * 1\n" 1 ≡ churned.Refused (refusedAt no12 0) 0
-  pub old : churns "TABLE 1 1 0\n1 * 1" "TABLE 1 1 0" 1 ≡ churned.Refused (refusedAt no1 2) 1
-  pub new : churns "TABLE 1 1 0\n2 * 1\n" "TABLE 1 1 0" 1 ≡ churned.Refused (refusedAt no1 1) 2
+  pub all : churns "TABLE 1 1 0\n1 * 1\n" "TABLE 1 1 0\n1 * 2\n" 1 ≡ Value 2
+  pub half : churns "TABLE 1 1 0\n1 * 1\n" "TABLE 1 2 0\n1 *1 2\n1 * 1\n" 1 ≡ Value 1
+  pub first : churns "TABLE 1 1 0\n2 * 1\n" "TABLE 2 1 0\n3 * 2\n" 1 ≡ Refused (about 1 no8 0)
+  pub second : churns "TABLE 1 1 0\n1 * 1\n" "TABLE 2 1 0\n2 * 2\n" 1 ≡ Refused (about 2 no8 0)
+  pub neither : churns "TABLE 1 1 0\n1 * 1\n" "TABLE 2 1 0\n1 * 1\n" 1 ≡ Refused (about 0 no12 0)
+  pub old : churns "TABLE 1 1 0\n1 * 1" "TABLE 1 1 0" 1 ≡ Refused (about 1 no1 2)
+  pub new : churns "TABLE 1 1 0\n2 * 1\n" "TABLE 1 1 0" 1 ≡ Refused (about 2 no1 1)
 
 pub all-churns : Churns
-unfolding churnAnswer churnOf moved sumTo countTo hasService firstBackend matchesLine matches bytes readTable textLimit tableLines wholeTable closed ruleLines ruleFields placed inOrder countOf onSuffix tableFields totalLimit same onField unless then number isNumeral noLeadingZero allDigits isDigit value valueFrom suffix split onto
+unfolding churnAnswer churnOf moved sumTo countTo hasService firstMatch matches bytes readTable textLimit tableLine firstLine openingLines openingFields wholeTable closed ruleLines ruleFields placed inOrder countOf ownRules onSuffix totalLimit same onField unless then number isNumeral noLeadingZero allDigits isDigit value valueFrom suffix split onto
 all-churns = record { all = refl; half = refl; first = refl; second = refl; neither = refl; old = refl; new = refl }
 
 -- Tables in numbers.
 
 pub record Handed : Type 0 where
-  pub accepted : tableHanded 1 0 (0 ∷ 1 ∷ 0 ∷ 1 ∷ 0 ∷ 0 ∷ 0 ∷ 0 ∷ []) ≡ got (record { k = 1; total = 0; lines = line 0 1 0 1 ∷ line 0 0 0 0 ∷ [] })
-  pub none : tableHanded 1 0 [] ≡ turned no2 0
-  pub bits : tableHanded 13 0 (0 ∷ 0 ∷ 0 ∷ 0 ∷ []) ≡ turned no2 0
-  pub amount : tableHanded 1 2621440000000001 (0 ∷ 0 ∷ 0 ∷ 0 ∷ []) ≡ turned no2 0
-  pub wide : tableHanded 1 0 (0 ∷ 1 ∷ 2 ∷ 0 ∷ []) ≡ turned no2 0
-  pub star : tableHanded 1 0 (0 ∷ 1 ∷ 0 ∷ 0 ∷ []) ≡ turned no9 0
+  pub accepted : tableHanded 1 0 (1 ∷ 1 ∷ 0 ∷ 2 ∷ 1 ∷ 0 ∷ 0 ∷ 1 ∷ []) ≡ got (record { k = 1; total = 0; lines = line 1 1 0 2 ∷ line 1 0 0 1 ∷ [] })
+  pub none : tableHanded 1 0 [] ≡ refused no2 0
+  pub bits : tableHanded 13 0 (1 ∷ 0 ∷ 0 ∷ 1 ∷ []) ≡ refused no2 0
+  pub amount : tableHanded 1 2621440000000001 (1 ∷ 0 ∷ 0 ∷ 1 ∷ []) ≡ refused no2 0
+  -- a service and a backend by their place from 0, past their limits, and a value of too many bits
+  pub no-service : tableHanded 1 0 (0 ∷ 0 ∷ 0 ∷ 1 ∷ []) ≡ refused no2 0
+  pub past-service : tableHanded 1 0 (65 ∷ 0 ∷ 0 ∷ 1 ∷ []) ≡ refused no2 0
+  pub no-backend : tableHanded 1 0 (1 ∷ 0 ∷ 0 ∷ 0 ∷ []) ≡ refused no2 0
+  pub past-backend : tableHanded 1 0 (1 ∷ 0 ∷ 0 ∷ 33 ∷ []) ≡ refused no2 0
+  pub wide : tableHanded 1 0 (1 ∷ 1 ∷ 2 ∷ 1 ∷ []) ≡ refused no2 0
+  pub star : tableHanded 1 0 (1 ∷ 1 ∷ 0 ∷ 1 ∷ []) ≡ refused no9 0
   -- numbers left over: 1 at their turn, behind line 1 and the whole lines, and before the end
-  pub ragged : tableHanded 1 0 (0 ∷ 0 ∷ 0 ∷ 0 ∷ 1 ∷ []) ≡ turned no1 0
-  pub alone : tableHanded 1 0 (0 ∷ 0 ∷ 0 ∷ []) ≡ turned no1 0
-  pub bits-first : tableHanded 13 0 (0 ∷ 0 ∷ 0 ∷ 0 ∷ 1 ∷ []) ≡ turned no2 0
-  pub line-first : tableHanded 1 0 (64 ∷ 0 ∷ 0 ∷ 0 ∷ 1 ∷ []) ≡ turned no2 0
-  pub order-first : tableHanded 1 0 (1 ∷ 0 ∷ 0 ∷ 0 ∷ 0 ∷ 0 ∷ 0 ∷ 0 ∷ 1 ∷ []) ≡ turned no9 0
-  pub before-star : tableHanded 1 0 (0 ∷ 1 ∷ 0 ∷ 0 ∷ 0 ∷ 0 ∷ []) ≡ turned no1 0
+  pub ragged : tableHanded 1 0 (1 ∷ 0 ∷ 0 ∷ 1 ∷ 1 ∷ []) ≡ refused no1 0
+  pub alone : tableHanded 1 0 (1 ∷ 0 ∷ 0 ∷ []) ≡ refused no1 0
+  pub bits-first : tableHanded 13 0 (1 ∷ 0 ∷ 0 ∷ 1 ∷ 1 ∷ []) ≡ refused no2 0
+  pub line-first : tableHanded 1 0 (65 ∷ 0 ∷ 0 ∷ 1 ∷ 1 ∷ []) ≡ refused no2 0
+  pub order-first : tableHanded 1 0 (2 ∷ 0 ∷ 0 ∷ 1 ∷ 1 ∷ 0 ∷ 0 ∷ 1 ∷ 1 ∷ []) ≡ refused no9 0
+  pub before-star : tableHanded 1 0 (1 ∷ 1 ∷ 0 ∷ 1 ∷ 1 ∷ 0 ∷ []) ≡ refused no1 0
 
 pub all-handed : Handed
-unfolding tableHanded handedText linesHanded brokenText brokenFrom linesFrom linesText lineText checkSheet checkEnd checkLines isLine placed inOrder countOf closed totalLimit textLimit unless then decimal width widthIn suffixText lowest
+unfolding tableHanded handedText linesHanded brokenText brokenFrom linesFrom linesText lineText checkSheet checkEnd checkLines isLine isRule inLimits placed inOrder countOf ownRules closed totalLimit textLimit unless then decimal width widthIn suffixText lowest
 all-handed =
     record {
       accepted = refl;
       none = refl;
       bits = refl;
       amount = refl;
+      no-service = refl;
+      past-service = refl;
+      no-backend = refl;
+      past-backend = refl;
       wide = refl;
       star = refl;
       ragged = refl;
@@ -161,25 +171,25 @@ all-handed =
     }
 
 -- 11 before all else: a suffix of 65,536 bits, which is also longer than k
-pub long-handed : tableHanded 1 0 (0 ∷ 65536 ∷ 0 ∷ 0 ∷ []) ≡ turned no11 0
+pub long-handed : tableHanded 1 0 (1 ∷ 65536 ∷ 0 ∷ 1 ∷ []) ≡ refused no11 0
 unfolding handedWidth linesFrom linesWidth textLimit
-long-handed = handed-long 1 0 (0 ∷ 65536 ∷ 0 ∷ 0 ∷ []) (omega (arith, length-handed 1 0 (0 ∷ 65536 ∷ 0 ∷ 0 ∷ [])))
+long-handed = handed-long 1 0 (1 ∷ 65536 ∷ 0 ∷ 1 ∷ []) (omega (arith, length-handed 1 0 (1 ∷ 65536 ∷ 0 ∷ 1 ∷ [])))
 
 -- 11 for both sheets: every text over the limit.
-pub long-table : (text : List ℕ) → textLimit < length text → readTable text ≡ turned no11 0
-unfolding readTable unless
+pub long-table : (text : List ℕ) → textLimit < length text → readTable text ≡ refused no11 0
+unfolding readTable tableLine firstLine unless then
 long-table text h = rw (lt-leb (length text) textLimit h)
 
-pub long-sheet : (text : List ℕ) → textLimit < length text → readSheet text ≡ turned no11 0
-unfolding readSheet unless
+pub long-sheet : (text : List ℕ) → textLimit < length text → readSheet text ≡ refused no11 0
+unfolding readSheet sheetLine firstLine unless then
 long-sheet text h = rw (lt-leb (length text) textLimit h)
 
 -- 4 for percentage sheets: a 33rd weight, before its fields, and a 65th service, after its keyword and before its fields
 pub record TooManies : Type 0 where
-  pub weights : readSheet (bytes "SHEET 1 0 1\nSERVICE x" ++ times 33 (bytes " 100") ++ 10 ∷ []) ≡ turned no4 2
-  pub services : readSheet (bytes "SHEET 1 0 1\n" ++ times 64 (bytes "SERVICE 1 100\n") ++ bytes "SERVICE\n") ≡ turned no4 66
-  pub keyword : readSheet (bytes "SHEET 1 0 1\n" ++ times 64 (bytes "SERVICE 1 100\n") ++ bytes "SERVIC\n") ≡ turned no1 66
+  pub weights : readSheet (bytes "SHEET 1 0 1\nSERVICE x" ++ times 33 (bytes " 100") ++ 10 ∷ []) ≡ refused no4 2
+  pub services : readSheet (bytes "SHEET 1 0 1\n" ++ times 64 (bytes "SERVICE 1 100\n") ++ bytes "SERVICE\n") ≡ refused no4 66
+  pub keyword : readSheet (bytes "SHEET 1 0 1\n" ++ times 64 (bytes "SERVICE 1 100\n") ++ bytes "SERVIC\n") ≡ refused no1 66
 
 pub too-manies : TooManies
-unfolding bytes readSheet textLimit sheetLines whole serviceLines serviceFields sum weightFields headFields same onField unless then unit percentage percentOf split onto number isNumeral noLeadingZero allDigits isDigit value valueFrom onValue fraction atMostAll
+unfolding bytes readSheet textLimit sheetLine firstLine openingLines openingFields whole serviceLines serviceFields sum weightFields same onField unless then unit percentage percentOf split onto number isNumeral noLeadingZero allDigits isDigit value valueFrom onValue fraction atMostAll
 too-manies = record { weights = refl; services = refl; keyword = refl }

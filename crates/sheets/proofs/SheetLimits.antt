@@ -16,12 +16,14 @@ use Rattle.numerals.specs.declared.digits.Number.{Number}
 use Rattle.numerals.specs.declared.digits.Number.the-variants.{Value, Bad}
 use Rattle.numerals.proofs.Base.{picked}
 use Rattle.numerals.proofs.Decimal.{only-text}
-use Rattle.numerals.specs.Limits.{unit}
+use Rattle.numerals.specs.Limits.{mostBits, mostBackends, mostServices, mostCapacity, mostVolume, decimals, unit}
 use Rattle.numerals.specs.Sums.{sumTo}
 use Rattle.numerals.proofs.Sums.{sum-none, sum-suc, sum-ext, sum-split}
 use Rattle.sheets.specs.Reading.{got, field}
-use Rattle.sheets.specs.PercentageSheet.{Sheet, Head, Service, headFields, weightFields, sum, serviceFields, serviceLines, volumesOf, weightsOf, whole, sheetLines, readSheet}
-use Rattle.sheets.proofs.Readings.{not-got, got-same, unless-got, onField-got, then-got}
+use Rattle.sheets.specs.FirstLine.{Opening}
+use Rattle.sheets.specs.PercentageSheet.{Sheet, Service, weightFields, sum, serviceFields, serviceLines, volumesOf, weightsOf, whole, sheetLine, readSheet}
+use Rattle.sheets.proofs.Readings.{got-same, unless-got, onField-got, then-got}
+use Rattle.sheets.proofs.OpeningLine.{opened}
 
 -- a percentage is at most 100
 
@@ -57,7 +59,7 @@ percent-limit d v bs h = parts-limit d v (split 46 bs) h
 -- the weights of a service: 1 to 32 of them, each at most the unit, the unit together
 pub record Row (ws : List ℕ) : Type 0 where
   pub some : 1 ≤ length ws
-  pub few : length ws ≤ 32
+  pub few : length ws ≤ mostBackends
   pub small : (b : ℕ) → b < length ws → getD ws b 0 ≤ unit
   pub balanced : sum ws ≡ unit
 
@@ -73,38 +75,33 @@ sum-places (w ∷ ws) =
 
 pub record Limits (S : Sheet) : Type 0 where
   pub bits : 1 ≤ S .k
-  pub few-bits : S .k ≤ 12
+  pub few-bits : S .k ≤ mostBits
   pub tolerant : S .tolerance ≤ unit
-  pub small : S .capacity ≤ 2048
+  pub small : S .capacity ≤ mostCapacity
   pub some : 1 ≤ length (S .volumes)
-  pub few : length (S .volumes) ≤ 64
+  pub few : length (S .volumes) ≤ mostServices
   pub room : length (S .volumes) ≤ S .capacity
   pub rows : length (S .weights) ≡ length (S .volumes)
-  pub volume : (s : ℕ) → s < length (S .volumes) → getD (S .volumes) s 0 ≤ 10000
+  pub volume : (s : ℕ) → s < length (S .volumes) → getD (S .volumes) s 0 ≤ mostVolume
   pub row : (s : ℕ) → s < length (S .volumes) → Row (getD (S .weights) s [])
 
 -- line 1
-pub record HeadLimits (h : Head) : Type 0 where
-  pub bits : 1 ≤ h .k
-  pub few-bits : h .k ≤ 12
-  pub tolerant : h .tolerance ≤ unit
-  pub small : h .capacity ≤ 2048
+pub record HeadLimits (o : Opening) : Type 0 where
+  pub bits : 1 ≤ o .k
+  pub few-bits : o .k ≤ mostBits
+  pub tolerant : o .second ≤ unit
+  pub small : o .third ≤ mostCapacity
 
-head-limits : (fs : List (List ℕ)) (h : Head) → headFields fs ≡ got h → HeadLimits h
-unfolding headFields unit
-head-limits fs h e =
-    let word = unless-got _ _ _ _ e in
-    let four = unless-got _ _ _ _ (word .1) in
-    let k = onField-got _ _ _ (four .1) in
-    let t = onField-got _ _ _ (k .2) in
-    let c = onField-got _ _ _ (t .2) in
-    let is = got-same (c .2) in
-    let numeral = only-text 1 12 (k .0) (field fs 1) (k .1) in
+head-limits : (text : List ℕ) (o : Opening) → sheetLine text ≡ got o → HeadLimits o
+unfolding sheetLine unit
+head-limits text o e =
+    let O = opened _ _ _ text o e in
+    let k = only-text 1 mostBits (o .k) _ (O .bits) in
     record {
-      bits = rw (← is) (numeral .low);
-      few-bits = rw (← is) (numeral .high);
-      tolerant = rw (← is) (percent-limit 4 (t .0) (field fs 2) (t .1));
-      small = rw (← is) (only-text 1 2048 (c .0) (field fs 3) (c .1) .high);
+      bits = k .low;
+      few-bits = k .high;
+      tolerant = percent-limit decimals (o .second) _ (O .left);
+      small = only-text 1 mostCapacity (o .third) _ (O .right) .high;
     }
 
 -- a line's weights
@@ -121,15 +118,15 @@ weight-limits line (f ∷ fs) ws e =
     let w = onField-got _ _ _ e in
     let rest = then-got _ _ (w .2) in
     let more = weight-limits line fs (rest .0) (rest .1) in
-    let first : w .0 ≤ 1000000 = percent-limit 4 (w .0) f (w .1) in
-    rw (← got-same (rest .2)) (ap suc (more .0), each-more (w .0) (rest .0) 1000000 first (more .1))
+    let first : w .0 ≤ unit = percent-limit decimals (w .0) f (w .1) in
+    rw (← got-same (rest .2)) (ap suc (more .0), each-more (w .0) (rest .0) unit first (more .1))
 
 -- a line of a service
 pub record Served (s : Service) : Type 0 where
-  pub volume : s .volume ≤ 10000
+  pub volume : s .volume ≤ mostVolume
   pub row : Row (s .weights)
 
-service-limits : (i : ℕ) (fs : List (List ℕ)) (s : Service) → serviceFields i fs ≡ got s → (i < 64) × Served s
+service-limits : (i : ℕ) (fs : List (List ℕ)) (s : Service) → serviceFields i fs ≡ got s → (i < mostServices) × Served s
 unfolding serviceFields
 service-limits i fs s e =
     let word = unless-got _ _ _ _ e in
@@ -141,14 +138,14 @@ service-limits i fs s e =
     let balanced = unless-got _ _ _ _ (ws .2) in
     let weights = weight-limits (i + 2) (drop 2 fs) (ws .0) (ws .1) in
     let long : length (ws .0) ≡ length fs - 2 = weights .0 ∙ length-drop 2 fs in (
-      ltb-true i 64 (few .0),
+      ltb-true i mostServices (few .0),
       rw (← got-same (balanced .1))
           (record {
-            volume = only-text 0 10000 (v .0) (field fs 1) (v .1) .high;
+            volume = only-text 0 mostVolume (v .0) (field fs 1) (v .1) .high;
             row =
                 record {
                   some = omega (arith, long, leb-true 3 (length fs) (three .0));
-                  few = omega (arith, long, leb-true (length fs) 34 (most .0));
+                  few = omega (arith, long, leb-true (length fs) (2 + mostBackends) (most .0));
                   small = weights .1;
                   balanced = eqb-true (sum (ws .0)) unit (balanced .0);
                 };
@@ -161,7 +158,7 @@ AllServed [] = Unit {0}
 AllServed (s ∷ ss) = Served s × AllServed ss
 
 lines-limits :
-    (i : ℕ) (ls : List (List ℕ)) (ss : List Service) → i ≤ 64 → serviceLines i ls ≡ got ss → (i + length ss ≤ 64) × AllServed ss
+    (i : ℕ) (ls : List (List ℕ)) (ss : List Service) → i ≤ mostServices → serviceLines i ls ≡ got ss → (i + length ss ≤ mostServices) × AllServed ss
 unfolding serviceLines
 lines-limits i [] ss h e = rw (← got-same e) (omega arith, tt)
 lines-limits i (l ∷ []) ss h e = rw (← got-same (unless-got _ _ _ _ e .1)) (omega arith, tt)
@@ -182,15 +179,17 @@ unfolding weightsOf
 weights-length [] = refl
 weights-length (s ∷ ss) = ap suc (weights-length ss)
 
-served-at : (ss : List Service) → AllServed ss → (i : ℕ) → i < length ss → (getD (volumesOf ss) i 0 ≤ 10000) × Row (getD (weightsOf ss) i [])
+served-at : (ss : List Service) → AllServed ss → (i : ℕ) → i < length ss → (getD (volumesOf ss) i 0 ≤ mostVolume) × Row (getD (weightsOf ss) i [])
 unfolding volumesOf weightsOf
 served-at [] a i h = absurd (omega arith)
 served-at (s ∷ ss) a zero h = (a .0 .volume, a .0 .row)
 served-at (s ∷ ss) a (suc i) h = served-at ss (a .1) i (omega arith)
 
-whole-limits : (h : Head) (ss : List Service) (S : Sheet) → HeadLimits h → length ss ≤ 64 → AllServed ss → whole h ss ≡ got S → Limits S
+whole-limits :
+    (o : Opening) (ss : List Service) (S : Sheet) → HeadLimits o → length ss ≤ mostServices → AllServed ss
+    → whole (o .k) (o .second) (o .third) ss ≡ got S → Limits S
 unfolding whole
-whole-limits h ss S H few a e =
+whole-limits o ss S H few a e =
     let some = unless-got _ _ _ _ e in
     let room = unless-got _ _ _ _ (some .1) in
     rw (← got-same (room .1))
@@ -201,22 +200,16 @@ whole-limits h ss S H few a e =
       small = H .small;
       some = omega (arith, volumes-length ss, ltb-true 0 (length ss) (some .0));
       few = omega (arith, volumes-length ss);
-      room = omega (arith, volumes-length ss, leb-true (length ss) (h .capacity) (room .0));
+      room = omega (arith, volumes-length ss, leb-true (length ss) (o .third) (room .0));
       rows = weights-length ss ∙ sym (volumes-length ss);
       volume = λ s l. served-at ss a s (omega (arith, volumes-length ss)) .0;
       row = λ s l. served-at ss a s (omega (arith, volumes-length ss)) .1;
     })
 
-sheet-limits : (ls : List (List ℕ)) (S : Sheet) → sheetLines ls ≡ got S → Limits S
-unfolding sheetLines
-sheet-limits [] S e = absurd (not-got e)
-sheet-limits (l ∷ []) S e = absurd (not-got e)
-sheet-limits (l ∷ m ∷ ls) S e =
-    let head = then-got _ _ e in
-    let rest = then-got _ _ (head .2) in
-    let more = lines-limits 0 (m ∷ ls) (rest .0) (omega arith) (rest .1) in
-    whole-limits (head .0) (rest .0) S (head-limits (split 32 l) (head .0) (head .1)) (omega (arith, more .0)) (more .1) (rest .2)
-
 pub limits : (text : List ℕ) (S : Sheet) → readSheet text ≡ got S → Limits S
 unfolding readSheet
-limits text S e = sheet-limits (split 10 text) S (unless-got _ _ _ _ e .1)
+limits text S e =
+    let line = then-got _ _ e in
+    let rest = then-got _ _ (line .2) in
+    let more = lines-limits 0 (line .0 .behind) (rest .0) (omega arith) (rest .1) in
+    whole-limits (line .0) (rest .0) S (head-limits text (line .0) (line .1)) (omega (arith, more .0)) (more .1) (rest .2)

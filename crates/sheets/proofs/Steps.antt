@@ -5,16 +5,16 @@ use mathlib.Core.List.{List, [], _∷_, _++_, append-assoc, append-nil}
 use native.Mathlib.Numerals.{add-one}
 use native.Mathlib.Omega.{arith}
 use lib.ListN.{length, take, set}
-use lib.Seq.{slice, take-length, take-suc-set}
-use borrow.Author.Tests.{ne-eqb, le-leb, lt-leb}
+use lib.Seq.{take-suc-set}
+use borrow.Author.Tests.{ne-eqb}
 use Rattle.numerals.specs.Text.{split}
 use Rattle.numerals.specs.Percentage.{percentage}
 use Rattle.numerals.specs.declared.digits.Number.the-variants.{Value, Bad}
 use Rattle.numerals.specs.declared.refusal.Refusal.{Refusal}
-use Rattle.numerals.specs.declared.refusal.Refusal.the-variants.{Malformed, BadField, TooLong}
-use Rattle.sheets.specs.Reading.{Reading, got, turned, then, unless, onField}
-use Rattle.sheets.specs.PercentageSheet.{headFields, weightFields, sum, serviceFields, serviceLines, whole, sheetLines, readSheet}
-use Rattle.numerals.specs.Limits.{textLimit}
+use Rattle.numerals.specs.declared.refusal.Refusal.the-variants.{Malformed, BadField}
+use Rattle.sheets.specs.Reading.{Reading, got, refused, then, unless, onField}
+use Rattle.sheets.specs.PercentageSheet.{weightFields, sum, serviceFields, serviceLines}
+use Rattle.numerals.specs.Limits.{decimals}
 
 unfoldable pub behind : {A : Type 0} → List A → Reading (List A) → Reading (List A)
 behind done r = then r (λ xs. got (done ++ xs))
@@ -23,30 +23,30 @@ module _ {A : Type 0} where
   pub behind-none : (r : Reading (List A)) → behind [] r ≡ r
   unfolding behind then
   behind-none (got xs) = refl
-  behind-none (turned why line) = refl
+  behind-none (refused why line) = refl
 
   pub behind-one : (done : List A) (x : A) (r : Reading (List A)) → behind done (then r (λ xs. got (x ∷ xs))) ≡ behind (done ++ x ∷ []) r
   unfolding behind then
   behind-one done x (got xs) = ap got (sym (append-assoc done (x ∷ []) xs))
-  behind-one done x (turned why line) = refl
+  behind-one done x (refused why line) = refl
 
   pub behind-all : (done : List A) → behind done (got []) ≡ got done
   unfolding behind then
   behind-all done = ap got (append-nil done)
 
-  pub behind-turned : (done : List A) (why : Refusal) (line : ℕ) → behind done (turned why line) ≡ turned why line
+  pub behind-refused : (done : List A) (why : Refusal) (line : ℕ) → behind done (refused why line) ≡ refused why line
   unfolding behind then
-  behind-turned done why line = refl
+  behind-refused done why line = refl
 
 -- the weights of a line
 module _ (line : ℕ) (done : List ℕ) (f : List ℕ) (fs : List (List ℕ)) where
-  pub weights-more : (w : ℕ) → percentage 4 f ≡ Value w → behind done (weightFields line (f ∷ fs)) ≡ behind (done ++ w ∷ []) (weightFields line fs)
+  pub weights-more : (w : ℕ) → percentage decimals f ≡ Value w → behind done (weightFields line (f ∷ fs)) ≡ behind (done ++ w ∷ []) (weightFields line fs)
   unfolding weightFields onField
   weights-more w e = rw (weightFields, e) (behind-one done w (weightFields line fs))
 
-  pub weights-bad : percentage 4 f ≡ Bad → behind done (weightFields line (f ∷ fs)) ≡ turned BadField line
+  pub weights-bad : percentage decimals f ≡ Bad → behind done (weightFields line (f ∷ fs)) ≡ refused BadField line
   unfolding weightFields onField
-  weights-bad e = rw (weightFields, e) (behind-turned done BadField line)
+  weights-bad e = rw (weightFields, e) (behind-refused done BadField line)
 
 pub sum-more : (ws : List ℕ) (w : ℕ) → sum (ws ++ w ∷ []) ≡ sum ws + w
 unfolding sum
@@ -62,34 +62,13 @@ module _ (i : ℕ) (l : List ℕ) where
   lines-more [] h = absurd (omega arith)
   lines-more (m ∷ ls) h = simp add-one
 
-  pub lines-open : 1 ≤ length l → serviceLines i (l ∷ []) ≡ turned Malformed (i + 2)
+  pub lines-open : 1 ≤ length l → serviceLines i (l ∷ []) ≡ refused Malformed (i + 2)
   unfolding serviceLines unless
   lines-open h = rw (ne-eqb (length l) 0 (λ e. omega arith))
 
 pub lines-end : (i : ℕ) → serviceLines i ([] ∷ []) ≡ got []
 unfolding serviceLines unless
 lines-end i = refl
-
--- the whole text: too long, line 1 without its LF, line 1 and the lines behind it
-pub sheet-long : (text : List ℕ) → 65536 < length text → readSheet text ≡ turned TooLong 0
-unfolding readSheet unless textLimit
-sheet-long text h = rw (lt-leb (length text) 65536 h)
-
-module _ (text : List ℕ) (short : length text ≤ 65536) where
-  sheet-short : readSheet text ≡ sheetLines (split 10 (slice 0 (length text) text))
-  unfolding readSheet unless textLimit
-  sheet-short = rw (le-leb (length text) 65536 short, take-length text)
-
-  pub sheet-open : (l : List ℕ) → split 10 (slice 0 (length text) text) ≡ l ∷ [] → readSheet text ≡ turned Malformed 1
-  unfolding sheetLines
-  sheet-open l e = sheet-short ∙ rw e
-
-  pub sheet-more :
-      (l : List ℕ) (ls : List (List ℕ)) → 1 ≤ length ls → split 10 (slice 0 (length text) text) ≡ l ∷ ls
-      → readSheet text ≡ then (headFields (split 32 l)) (λ h. then (serviceLines 0 ls) (whole h))
-  unfolding sheetLines
-  sheet-more l [] h e = absurd (omega arith)
-  sheet-more l (m ∷ ls) h e = sheet-short ∙ rw e
 
 -- one value more behind those that stand in a row
 pub row-more :

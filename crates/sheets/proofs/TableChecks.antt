@@ -1,53 +1,74 @@
 -- What a table that passed the checks has, and that this is enough to pass.
 use Prim.Native.Nat.{ℕ, _^_, _≤_, _<_}
 use mathlib.Core.Path.{_≡_, refl, sym, ap, _∙_}
-use mathlib.Core.Bool.{true}
+use mathlib.Core.Bool.{true, false}
 use mathlib.Core.List.{List, [], _∷_, reverse, reverseAux}
 use native.Mathlib.Nat.{add-zero}
 use lib.Dec.{leb, ltb}
 use lib.ListN.{length}
-use borrow.Author.Tests.{lt-ltb, le-leb, ltb-true, leb-true, eqb-true}
-use Rattle.numerals.specs.Pick.{both}
-use Rattle.numerals.proofs.Choice.{both-left, both-right}
+use borrow.Author.Tests.{lt-ltb, le-leb, lt-leb, ltb-true, leb-true, eqb-true}
+use Rattle.numerals.proofs.Choice.{both-false, both-left, both-right}
+use Rattle.expansion.specs.Answer.{inLimits}
+use Rattle.expansion.proofs.Checks.{limits as within}
+use Rattle.expansion.specs.FirstMatch.{isRule}
 use Rattle.packing.specs.Count.{Line}
 use Rattle.sheets.specs.Reading.{got, then, unless}
 use Rattle.sheets.specs.RuleSheet.{Table, countOf, inOrder, placed, closed, isLine, checkLines, checkEnd, checkSheet, checkTable}
-use Rattle.numerals.specs.Limits.{totalLimit}
+use Rattle.numerals.specs.Limits.{mostBits, mostBackends, mostServices, mostRules, mostCapacity, totalLimit}
 use Rattle.sheets.proofs.Readings.{got-same, unless-got, then-got}
+
+-- a number in its limits
+pub is-within : (least most x : ℕ) → least ≤ x → x ≤ most → inLimits least most x ≡ true
+unfolding inLimits
+is-within least most x low high = rw (le-leb least x low, le-leb x most high)
+
+pub below-least : (least most x : ℕ) → x < least → inLimits least most x ≡ false
+unfolding inLimits
+below-least least most x h = rw (lt-leb least x h)
+
+pub above-most : (least most x : ℕ) → most < x → inLimits least most x ≡ false
+unfolding inLimits
+above-most least most x h = rw (lt-leb x most h) (both-false (leb least x))
 
 -- a rule line in its limits
 pub record Formed (k : ℕ) (l : Line) : Type 0 where
-  pub service : l .service < 64
+  pub numbered : 1 ≤ l .service
+  pub service : l .service ≤ mostServices
   pub short : l .rule .len ≤ k
   pub bits : l .rule .value < 2 ^ (l .rule .len)
-  pub backend : l .rule .backend < 32
+  pub labelled : 1 ≤ l .rule .backend
+  pub backend : l .rule .backend ≤ mostBackends
 
 pub formed : (k : ℕ) (l : Line) → isLine k l ≡ true → Formed k l
-unfolding isLine
+unfolding isLine isRule
 formed k l h =
-    let rest = both-right (ltb (l .service) 64) _ h in
-    let suffix = both-left (both (leb (l .rule .len) k) (ltb (l .rule .value) (2 ^ (l .rule .len)))) _ rest in
+    let service = within 1 mostServices (l .service) (both-left (inLimits 1 mostServices (l .service)) _ h) in
+    let rest = both-right (inLimits 1 mostServices (l .service)) _ h in
+    let rule = both-left (isRule k (l .rule)) (inLimits 1 mostBackends (l .rule .backend)) rest in
+    let backend = within 1 mostBackends (l .rule .backend) (both-right (isRule k (l .rule)) _ rest) in
     record {
-      service = ltb-true (l .service) 64 (both-left (ltb (l .service) 64) _ h);
-      short = leb-true (l .rule .len) k (both-left (leb (l .rule .len) k) _ suffix);
-      bits = ltb-true (l .rule .value) (2 ^ (l .rule .len)) (both-right (leb (l .rule .len) k) _ suffix);
-      backend = ltb-true (l .rule .backend) 32 (both-right (both (leb (l .rule .len) k) (ltb (l .rule .value) (2 ^ (l .rule .len)))) _ rest);
+      numbered = service .0;
+      service = service .1;
+      short = leb-true (l .rule .len) k (both-left (leb (l .rule .len) k) (ltb (l .rule .value) (2 ^ (l .rule .len))) rule);
+      bits = ltb-true (l .rule .value) (2 ^ (l .rule .len)) (both-right (leb (l .rule .len) k) (ltb (l .rule .value) (2 ^ (l .rule .len))) rule);
+      labelled = backend .0;
+      backend = backend .1;
     }
 
 pub is-formed : (k : ℕ) (l : Line) → Formed k l → isLine k l ≡ true
-unfolding isLine
+unfolding isLine isRule
 is-formed k l f =
     rw (
-      lt-ltb (l .service) 64 (f .service),
+      is-within 1 mostServices (l .service) (f .numbered) (f .service),
       le-leb (l .rule .len) k (f .short),
       lt-ltb (l .rule .value) (2 ^ (l .rule .len)) (f .bits),
-      lt-ltb (l .rule .backend) 32 (f .backend),
+      is-within 1 mostBackends (l .rule .backend) (f .labelled) (f .backend),
     )
 
 -- a line that passed behind others
 pub record Follows (k : ℕ) (before : List Line) (l : Line) : Type 0 where
   pub form : isLine k l ≡ true
-  pub few : ltb (countOf (l .service) before) 32 ≡ true
+  pub few : ltb (countOf (l .service) before) mostRules ≡ true
   pub sorted : inOrder before l ≡ true
 
 -- each line passed behind those before it, the last of them first
@@ -72,9 +93,9 @@ check-lines k before (l ∷ ls) h = rw (h .0 .form, h .0 .few, h .0 .sorted) (ch
 -- a table as its sheet would have it
 pub record Proper (t : Table) : Type 0 where
   pub bits : 1 ≤ t .k
-  pub few-bits : t .k ≤ 12
+  pub few-bits : t .k ≤ mostBits
   pub some : 1 ≤ length (t .lines)
-  pub few : length (t .lines) ≤ 2048
+  pub few : length (t .lines) ≤ mostCapacity
   pub small : t .total ≤ totalLimit
   pub sorted : InOrder (t .k) [] (t .lines)
   pub ends : closed (reverse (t .lines)) ≡ true
@@ -89,11 +110,13 @@ proper t h =
     let lines = then-got _ _ (total .1) in
     let sorted = in-order (t .k) [] (t .lines) (lines .1) in
     let last : lines .0 ≡ reverse (t .lines) = got-same (sym (lines .1) ∙ check-lines (t .k) [] (t .lines) sorted) in
+    let bits = within 1 mostBits (t .k) (k .0) in
+    let size = within 1 mostCapacity (length (t .lines)) count in
     record {
-      bits = leb-true 1 (t .k) (both-left (leb 1 (t .k)) _ (k .0));
-      few-bits = leb-true (t .k) 12 (both-right (leb 1 (t .k)) _ (k .0));
-      some = leb-true 1 (length (t .lines)) (both-left (leb 1 (length (t .lines))) _ count);
-      few = leb-true (length (t .lines)) 2048 (both-right (leb 1 (length (t .lines))) _ count);
+      bits = bits .0;
+      few-bits = bits .1;
+      some = size .0;
+      few = size .1;
       small = leb-true (t .total) totalLimit (total .0);
       sorted = sorted;
       ends = ap closed (sym last) ∙ unless-got _ _ _ _ (unless-got _ _ _ _ (lines .2) .1) .0;
@@ -114,11 +137,9 @@ pub checked : (t : Table) → Proper t → checkTable t ≡ got t
 unfolding checkTable checkSheet checkEnd unless then
 checked t p =
     rw (
-      le-leb 1 (t .k) (p .bits),
-      le-leb (t .k) 12 (p .few-bits),
+      is-within 1 mostBits (t .k) (p .bits) (p .few-bits),
       add-zero (length (t .lines)),
-      le-leb 1 (length (t .lines)) (p .some),
-      le-leb (length (t .lines)) 2048 (p .few),
+      is-within 1 mostCapacity (length (t .lines)) (p .some) (p .few),
       le-leb (t .total) totalLimit (p .small),
       check-lines (t .k) [] (t .lines) (p .sorted),
       p .ends,

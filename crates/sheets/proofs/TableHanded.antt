@@ -8,22 +8,22 @@ use lib.Dec.{leb, eqb}
 use lib.ListN.{length}
 use lib.Seq.{take-all}
 use borrow.Author.Tests.{le-leb, lt-leb}
-use Rattle.numerals.specs.Pick.{both}
 use Rattle.expansion.specs.declared.call.Checked.{Checked}
 use Rattle.expansion.specs.declared.call.Checked.the-variants.{Sound, Refused}
 use Rattle.numerals.specs.declared.refusal.Refusal.the-variants.{Malformed, BadField, Order, TooLong}
 use Rattle.packing.specs.Count.{Line}
-use Rattle.sheets.specs.Reading.{Reading, got, turned, then, unless}
-use Rattle.numerals.specs.Limits.{textLimit, totalLimit}
+use Rattle.sheets.specs.Reading.{Reading, got, refused, then, unless}
+use Rattle.numerals.specs.Limits.{mostBits, mostCapacity, textLimit, totalLimit}
+use Rattle.expansion.specs.Answer.{inLimits}
 use Rattle.sheets.specs.RuleSheet.{Table, closed, checkLines, checkEnd, checkSheet, checkTable}
 use Rattle.sheets.specs.Calls.{linesFrom, brokenFrom, handedText, tableHanded}
-use Rattle.sheets.specs.Rows.{Limited}
-use Rattle.sheets.specs.Writing.{linesIn, tableIn, CheckedAs, checkedFrom}
-use Rattle.sheets.proofs.Handed.{count-lines, count-broken, limited}
+use Rattle.sheets.specs.Inner.TableNumbers.{linesIn, tableIn, RuleLines}
+use Rattle.sheets.specs.Inner.Writing.{CheckedAs, checkedFrom, checkedCells, handed}
+use Rattle.sheets.proofs.NumbersText.{count-lines, count-broken, rule-lines}
 use Rattle.sheets.proofs.Readings.{unless-got}
-use Rattle.sheets.proofs.TableChecks.{proper, check-same}
+use Rattle.sheets.proofs.TableChecks.{is-within, proper, check-same}
 
--- the end of the check, whatever the table is told as
+-- the end of the check, whatever the table is answered as
 ends-alike : {A : Type 0} (broken : ℕ) (a : A) (read : Reading (List Line)) (r : Checked)
     → CheckedAs r (then read (checkEnd broken (tt {0}))) tt
     → CheckedAs r (then read (checkEnd broken a)) a
@@ -39,8 +39,8 @@ ends-alike broken a (got all) r h = go (eqb broken 0) (closed all) r h
     go true false (Refused why) h = cc
     go false t Sound h = cc
     go false t (Refused why) h = cc
-ends-alike broken a (turned why line) Sound h = cc
-ends-alike broken a (turned why line) (Refused other) h = cc
+ends-alike broken a (refused why line) Sound h = cc
+ends-alike broken a (refused why line) (Refused other) h = cc
 
 module _ (k total : ℕ) (cs : List ℕ) where
   abbrev n : ℕ
@@ -49,52 +49,52 @@ module _ (k total : ℕ) (cs : List ℕ) where
   count : length (linesFrom cs) + length (brokenFrom cs) ≡ n
   count = omega (arith, count-lines cs, count-broken cs)
 
-  pub handed-long : textLimit < length (handedText k total cs) → tableHanded k total cs ≡ turned TooLong 0
+  pub handed-long : textLimit < length (handedText k total cs) → tableHanded k total cs ≡ refused TooLong 0
   unfolding tableHanded unless
   handed-long h = rw (lt-leb (length (handedText k total cs)) textLimit h)
 
   module _ (short : length (handedText k total cs) ≤ textLimit) where
-    checks : tableHanded k total cs ≡ checkSheet (record { k = k; total = total; lines = linesFrom cs }) (length (brokenFrom cs))
+    checks : tableHanded k total cs ≡ checkSheet (handed k total cs) (length (brokenFrom cs))
     unfolding tableHanded unless
     checks = rw (le-leb (length (handedText k total cs)) textLimit short)
 
-    pub handed-bits : both (leb 1 k) (leb k 12) ≡ false → tableHanded k total cs ≡ turned BadField 0
+    pub handed-bits : inLimits 1 mostBits k ≡ false → tableHanded k total cs ≡ refused BadField 0
     unfolding checkSheet unless
     handed-bits h = checks ∙ rw h
 
-    module _ (one : 1 ≤ k) (few : k ≤ 12) where
-      pub handed-count : both (leb 1 n) (leb n 2048) ≡ false → tableHanded k total cs ≡ turned BadField 0
+    module _ (one : 1 ≤ k) (few : k ≤ mostBits) where
+      pub handed-count : inLimits 1 mostCapacity n ≡ false → tableHanded k total cs ≡ refused BadField 0
       unfolding checkSheet unless
-      handed-count h = checks ∙ rw (le-leb 1 k one, le-leb k 12 few, count, h)
+      handed-count h = checks ∙ rw (is-within 1 mostBits k one few, count, h)
 
-      module _ (some : 1 ≤ n) (fits : n ≤ 2048) where
-        pub handed-total : leb total totalLimit ≡ false → tableHanded k total cs ≡ turned BadField 0
+      module _ (some : 1 ≤ n) (fits : n ≤ mostCapacity) where
+        pub handed-total : leb total totalLimit ≡ false → tableHanded k total cs ≡ refused BadField 0
         unfolding checkSheet unless
-        handed-total h = checks ∙ rw (le-leb 1 k one, le-leb k 12 few, count, le-leb 1 n some, le-leb n 2048 fits, h)
+        handed-total h = checks ∙ rw (is-within 1 mostBits k one few, count, is-within 1 mostCapacity n some fits, h)
 
         pub handed-lines :
-            total ≤ totalLimit → (r : Checked) → CheckedAs r (checkedFrom k (length (brokenFrom cs)) [] (linesFrom cs)) tt
-            → CheckedAs r (tableHanded k total cs) (record { k = k; total = total; lines = linesFrom cs })
+            total ≤ totalLimit → (r : Checked) → CheckedAs r (checkedCells k cs) tt
+            → CheckedAs r (tableHanded k total cs) (handed k total cs)
         unfolding checkSheet unless checkedFrom
         handed-lines small r h =
-            let t : Table = record { k = k; total = total; lines = linesFrom cs } in
+            let t : Table = handed k total cs in
             let broken = length (brokenFrom cs) in
             let rest : tableHanded k total cs ≡ then (checkLines k [] (linesFrom cs)) (checkEnd broken t) =
-            checks ∙ rw (le-leb 1 k one, le-leb k 12 few, count, le-leb 1 n some, le-leb n 2048 fits, le-leb total totalLimit small) in
+            checks ∙ rw (is-within 1 mostBits k one few, count, is-within 1 mostCapacity n some fits, le-leb total totalLimit small) in
             rw rest (ends-alike broken t (checkLines k [] (linesFrom cs)) r h)
 
 -- a table that passed: it is whole lines, which are in their limits
 pub record Accepted (k total : ℕ) (cs : List ℕ) : Type 0 where
   pub whole : length (brokenFrom cs) ≡ 0
-  pub checked : checkTable (record { k = k; total = total; lines = linesFrom cs }) ≡ got (record { k = k; total = total; lines = linesFrom cs })
-  pub few : length cs / 4 ≤ 2048
-  pub limits : Limited cs (length cs / 4)
-  pub table : tableIn k total cs (length cs / 4) ≡ record { k = k; total = total; lines = linesFrom cs }
+  pub checked : checkTable (handed k total cs) ≡ got (handed k total cs)
+  pub few : length cs / 4 ≤ mostCapacity
+  pub ruled : RuleLines cs (length cs / 4)
+  pub table : tableIn k total cs (length cs / 4) ≡ handed k total cs
 
 pub accepted : (k total : ℕ) (cs : List ℕ) (u : Table) → tableHanded k total cs ≡ got u → Accepted k total cs
 unfolding tableHanded checkTable
 accepted k total cs u h =
-    let t : Table = record { k = k; total = total; lines = linesFrom cs } in
+    let t : Table = handed k total cs in
     let read = unless-got _ _ _ _ h .1 in
     let same = check-same t u (length (brokenFrom cs)) read in
     let passed : checkTable t ≡ got t = rw (same .1, ← same .0) at read in
@@ -105,6 +105,6 @@ accepted k total cs u h =
       whole = same .1;
       checked = passed;
       few = omega (arith, count-lines cs, P .few);
-      limits = limited cs (length cs / 4) (omega arith) k (P .few-bits) (rw all (P .sorted));
+      ruled = rule-lines cs (length cs / 4) (omega arith) k (P .few-bits) (rw all (P .sorted));
       table = rw all;
     }

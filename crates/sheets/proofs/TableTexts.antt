@@ -7,12 +7,13 @@ use lib.ListN.{length, length-append}
 use Rattle.numerals.specs.Decimal.{width, decimal}
 use Rattle.numerals.specs.Suffix.{suffixText}
 use Rattle.numerals.specs.Text.{split}
+use Rattle.numerals.specs.Limits.{mostBits, mostBackends, mostServices}
 use Rattle.numerals.proofs.Decimal.{length-decimal, decimal-free, width-least}
 use Rattle.numerals.proofs.Fields.{Free}
 use Rattle.numerals.proofs.Suffix.{length-suffix, suffix-free}
 use Rattle.packing.specs.Count.{Line}
 use Rattle.sheets.specs.RuleSheet.{Table, tableWord, lineText, linesText, tableText}
-use Rattle.sheets.specs.Writing.{headText, lineWidth}
+use Rattle.sheets.specs.Inner.Writing.{headText, lineWidth}
 use Rattle.sheets.proofs.Joins.{join, join-more, AllFree, split-join}
 
 -- the fields of line 1 and of a rule line
@@ -20,7 +21,7 @@ abbrev pub headRow : ℕ → ℕ → ℕ → List (List ℕ)
 headRow k n total = tableWord ∷ decimal k ∷ decimal n ∷ decimal total ∷ []
 
 abbrev pub lineRow : Line → List (List ℕ)
-lineRow l = decimal (l .service + 1) ∷ suffixText (l .rule .len) (l .rule .value) ∷ decimal (l .rule .backend + 1) ∷ []
+lineRow l = decimal (l .service) ∷ suffixText (l .rule .len) (l .rule .value) ∷ decimal (l .rule .backend) ∷ []
 
 -- the lines, and the empty one behind the last LF
 unfoldable pub rows : List Line → List (List ℕ)
@@ -67,7 +68,7 @@ head-free c k n total h =
 
 pub line-free : (c : ℕ) (l : Line) → c < 42 → AllFree c (lineRow l)
 line-free c l h =
-    (decimal-free c (l .service + 1) (omega arith), (suffix-free c (l .rule .len) (l .rule .value) h, (decimal-free c (l .rule .backend + 1) (omega arith), tt)))
+    (decimal-free c (l .service) (omega arith), (suffix-free c (l .rule .len) (l .rule .value) h, (decimal-free c (l .rule .backend) (omega arith), tt)))
 
 -- so each line has these fields
 
@@ -76,7 +77,7 @@ head-split k n total = split-join 32 tableWord (decimal k ∷ decimal n ∷ deci
 
 pub line-split : (l : Line) → split 32 (join 32 (lineRow l)) ≡ lineRow l
 line-split l =
-    split-join 32 (decimal (l .service + 1)) (suffixText (l .rule .len) (l .rule .value) ∷ decimal (l .rule .backend + 1) ∷ [])
+    split-join 32 (decimal (l .service)) (suffixText (l .rule .len) (l .rule .value) ∷ decimal (l .rule .backend) ∷ [])
     (line-free 32 l (omega arith))
 
 -- how many bytes the lines have
@@ -86,9 +87,9 @@ linesWidth [] = 0
 linesWidth (l ∷ ls) = lineWidth (l .service) (l .rule .len) (l .rule .backend) + linesWidth ls
 
 -- a line in its limits has at most 20
-pub line-short : (service len backend : ℕ) → service < 64 → len ≤ 12 → backend < 32 → lineWidth service len backend ≤ 20
+pub line-short : (service len backend : ℕ) → service ≤ mostServices → len ≤ mostBits → backend ≤ mostBackends → lineWidth service len backend ≤ 20
 line-short service len backend s l b =
-    omega (arith, width-least 1 (service + 1) (omega arith), width-least 1 (backend + 1) (omega arith))
+    omega (arith, width-least 1 service (omega arith), width-least 1 backend (omega arith))
 
 pub length-line : (l : Line) → length (lineText l) ≡ lineWidth (l .service) (l .rule .len) (l .rule .backend)
 unfolding lineText

@@ -13,27 +13,29 @@ use Rattle.numerals.specs.Suffix.{suffix, suffixText, place}
 use Rattle.numerals.specs.Text.{onto, split}
 use Rattle.numerals.specs.Limits.{unit, textLimit, totalLimit}
 use Rattle.numerals.specs.Refusals.{no7}
-use Rattle.numerals.specs.Sums.{sumTo, countTo, allTo, firstTo, argmax, lastmax}
-use Rattle.expansion.specs.FirstMatch.{matches, gives, share}
-use Rattle.expansion.specs.Imbalance.{backends, weight, has, wants, excess, shortfall, imbalance, giver, receiver, largestExcess, largestShortfall}
+use Rattle.numerals.specs.Sums.{sumTo, listTo, countTo, allTo, firstTo, argmax, lastmax}
+use Rattle.expansion.specs.FirstMatch.{isRule, matches, firstMatch, gives, share}
+use Rattle.expansion.specs.Imbalance.{backends, label, weight, has, wants, excess, shortfall, imbalance, giver, receiver, largestExcess, largestShortfall}
 use Rattle.expansion.specs.Steps.{firstRule, frame, isWithin, reduction, reductionAt, term, isNoGain, isWhole, termLength, lowestPlace, newRule, step, after, endOf, listOf, oldest, stair}
 use Rattle.expansion.specs.declared.rule.Ended.the-variants.{NoGain}
 use Rattle.packing.specs.Grants.{Grants, saving, next, rules, total, more, grantStep, grantsAfter, packed}
-use Rattle.packing.specs.Count.{services, volume, weightsOf, matchesLine, givesLine, countedShare, countedExcess, countedShortfall, countedImbalance, counted, countedLargestExcess, countedLargestShortfall, ownRules}
-use Rattle.packing.specs.Table.{ruleBudget, frameOf, listFor, linesOf, tableOf, table, problem, granted}
+use Rattle.packing.specs.Count.{services, volume, targetsOf, countedImbalance, counted, countedLargestExcess, countedLargestShortfall, ownRules}
+use Rattle.packing.specs.Table.{ruleBudget, frameOf, listFor, linesOf, tableOf, table, problem, granted, oneEach}
 use Rattle.packing.specs.Answer.{linesMade, figuresTo, figuresMade, figuresBuffer, tableBuffer}
 use Rattle.packing.specs.Demand.{Fitting}
+use Rattle.expansion.specs.Answer.{inLimits}
 use Rattle.packing.specs.Cases.{line}
-use Rattle.sheets.specs.Reading.{Reading, got, turned, then, unless, onField, same}
-use Rattle.sheets.specs.PercentageSheet.{Sheet, headFields, weightFields, sum, serviceFields, serviceLines, volumesOf, weightsOf as rowsOf, whole, sheetLines, readSheet}
-use Rattle.sheets.specs.RuleSheet.{Table, lineText, linesText, tableText, tableFields, onSuffix, countOf, inOrder, placed, ruleFields, ruleLines, closed, wholeTable, tableLines, readTable, isLine, checkLines, checkEnd, checkSheet, checkTable}
-use Rattle.sheets.specs.Calls.{refusedAt, servicesIn, tableFor, planOf, planAnswer, figuresFor, sheetText, printText, printRead}
+use Rattle.sheets.specs.Reading.{Reading, got, refused, then, unless, onField, same}
+use Rattle.sheets.specs.PercentageSheet.{Sheet, weightFields, sum, serviceFields, serviceLines, volumesOf, weightsOf as rowsOf, whole, sheetLine, readSheet}
+use Rattle.sheets.specs.FirstLine.{openingFields, openingLines, firstLine}
+use Rattle.sheets.specs.RuleSheet.{Table, lineText, linesText, tableText, onSuffix, countOf, inOrder, placed, ruleFields, ruleLines, closed, wholeTable, tableLine, readTable, isLine, checkLines, checkEnd, checkSheet, checkTable}
+use Rattle.sheets.specs.Calls.{about, servicesIn, tableFor, planOf, planAnswer, figuresFor, sheetText, printText, printRead}
 use Rattle.sheets.specs.Demand.{Demand3}
 use Rattle.sheets.specs.Cases.{bytes, cases}
 use Rattle.sheets.specs.declared.answer.Planned.the-variants as planned
-use Rattle.sheets.specs.declared.answer.Printed.the-variants as printed
+use Rattle.sheets.specs.declared.answer.Answer.the-variants.{Value}
 use Rattle.sheets.proofs.Cases.{right}
-use Rattle.sheets.proofs.Owed.{demand-three}
+use Rattle.sheets.proofs.DemandThree.{demand-three}
 
 -- The sample sheet and its rule sheet.
 
@@ -49,7 +51,7 @@ sample =
 
 abbrev sampleTable : Table
 sampleTable =
-    record { k = 5; total = 293333920; lines = line 0 1 0 1 ∷ line 0 0 0 2 ∷ line 1 2 0 1 ∷ line 1 1 0 0 ∷ line 1 0 0 2 ∷ [] }
+    record { k = 5; total = 293333920; lines = line 1 1 0 2 ∷ line 1 0 0 3 ∷ line 2 2 0 2 ∷ line 2 1 0 1 ∷ line 2 0 0 3 ∷ [] }
 
 abbrev sheetBytes : List ℕ
 sheetBytes = bytes "SHEET 5 2 5\nSERVICE 55 16.6667 33.3333 50\nSERVICE 45 25 25 50\n"
@@ -59,7 +61,7 @@ tableBytes = bytes "TABLE 5 5 293333920\n1 *0 2\n1 * 3\n2 *00 2\n2 *0 1\n2 * 3\n
 
 -- the sample's table, by the definitions
 pub sample-packed : tableFor sample ≡ sampleTable
-unfolding tableFor servicesIn unit sumTo countTo allTo firstTo argmax lastmax matches gives share backends weight has wants excess shortfall imbalance giver receiver largestExcess largestShortfall firstRule frame isWithin reduction reductionAt term isNoGain isWhole termLength lowestPlace newRule step after listOf oldest stair place value valueFrom lowest saving next rules total more grantStep grantsAfter packed services volume weightsOf ruleBudget frameOf listFor problem granted linesOf tableOf table linesMade
+unfolding tableFor servicesIn unit sumTo listTo countTo allTo firstTo argmax lastmax matches firstMatch gives share backends label weight has wants excess shortfall imbalance giver receiver largestExcess largestShortfall firstRule frame isWithin reduction reductionAt term isNoGain isWhole termLength lowestPlace newRule step after listOf oldest stair place value valueFrom lowest saving next rules total more grantStep grantsAfter packed services volume targetsOf ruleBudget frameOf listFor problem granted linesOf tableOf table linesMade
 sample-packed = refl
 
 -- its text, byte for byte
@@ -72,17 +74,17 @@ unfolding sheetText
 sample-printed = rw sample-packed sample-written
 
 -- and the call that prints answers so many bytes
-pub sample-answer : printRead (readSheet sheetBytes) sheetText 65536 ≡ printed.End 54
+pub sample-answer : printRead (readSheet sheetBytes) sheetText 65536 ≡ Value 54
 unfolding cases printText bytes
 sample-answer = rw (right .0, sample-printed)
 
 -- it is accepted, and passes the check of a table in numbers
 pub sample-accepted : readTable tableBytes ≡ got sampleTable
-unfolding bytes readTable textLimit tableLines wholeTable closed ruleLines ruleFields placed inOrder countOf onSuffix tableFields totalLimit same onField unless then number isNumeral noLeadingZero allDigits isDigit value valueFrom suffix split onto
+unfolding bytes readTable textLimit tableLine firstLine openingLines openingFields wholeTable closed ruleLines ruleFields placed inOrder countOf ownRules onSuffix totalLimit same onField unless then number isNumeral noLeadingZero allDigits isDigit value valueFrom suffix split onto
 sample-accepted = refl
 
 pub sample-checked : checkTable sampleTable ≡ got sampleTable
-unfolding checkTable checkSheet checkEnd checkLines isLine placed inOrder countOf closed totalLimit unless then
+unfolding checkTable checkSheet checkEnd checkLines isLine isRule inLimits placed inOrder countOf ownRules closed totalLimit unless then
 sample-checked = refl
 
 -- and demand 3 holds of it
@@ -94,9 +96,9 @@ sample-demand = subst (λ (b : List ℕ). Demand3 sheetBytes b) sample-printed (
 abbrev rival : Grants
 rival s = pick (eqb s 0) 4 1
 
-pub rival-fits : Fitting (servicesIn sample) 5 rival
+pub rival-fits : Fitting (servicesIn sample) oneEach 5 rival
 unfolding servicesIn services sumTo
-rival-fits = record { one = one; room = omega arith }
+rival-fits = record { enough = one; room = omega arith }
   where
     one : (s : ℕ) → s < 2 → 1 ≤ rival s
     one zero h = omega arith
@@ -104,7 +106,7 @@ rival-fits = record { one = one; room = omega arith }
     one (suc (suc s)) h = absurd (omega arith)
 
 pub rival-loses : counted (servicesIn sample) (table (servicesIn sample) 20000 rival) ≡ 738333920
-unfolding servicesIn unit sumTo countTo allTo firstTo argmax lastmax matches gives share backends weight has wants excess shortfall imbalance giver receiver largestExcess largestShortfall firstRule frame isWithin reduction reductionAt term isNoGain isWhole termLength lowestPlace newRule step after listOf oldest place value valueFrom lowest services volume weightsOf ruleBudget frameOf listFor linesOf tableOf table matchesLine givesLine countedShare countedExcess countedImbalance counted
+unfolding servicesIn unit sumTo listTo countTo allTo firstTo argmax lastmax matches firstMatch gives share backends label weight has wants excess shortfall imbalance giver receiver largestExcess largestShortfall firstRule frame isWithin reduction reductionAt term isNoGain isWhole termLength lowestPlace newRule step after listOf oldest place value valueFrom lowest services volume targetsOf ruleBudget frameOf listFor linesOf tableOf table ownRules countedImbalance counted
 rival-loses = refl
 
 -- P6 as a sheet: its whole list is in the table and ended as no gain, and excess and shortfall make just one suffix, as much as demand 3 allows
@@ -113,21 +115,21 @@ abbrev thirds : Sheet
 thirds = record { k = 1; tolerance = 0; capacity = 2; volumes = 1 ∷ []; weights = (333334 ∷ 333333 ∷ 333333 ∷ []) ∷ [] }
 
 abbrev thirdsTable : Table
-thirdsTable = record { k = 1; total = 666666; lines = line 0 1 0 1 ∷ line 0 0 0 0 ∷ [] }
+thirdsTable = record { k = 1; total = 666666; lines = line 1 1 0 2 ∷ line 1 0 0 1 ∷ [] }
 
 pub thirds-read : readSheet (bytes "SHEET 1 0 2\nSERVICE 1 33.3334 33.3333 33.3333\n") ≡ got thirds
-unfolding bytes readSheet textLimit sheetLines whole volumesOf rowsOf serviceLines serviceFields sum weightFields headFields same onField unless then unit percentage percentOf split onto number isNumeral noLeadingZero allDigits isDigit value valueFrom onValue fraction atMostAll
+unfolding bytes readSheet textLimit sheetLine firstLine openingLines openingFields whole volumesOf rowsOf serviceLines serviceFields sum weightFields same onField unless then unit percentage percentOf split onto number isNumeral noLeadingZero allDigits isDigit value valueFrom onValue fraction atMostAll
 thirds-read = refl
 
 pub record Tight : Type 0 where
   pub made : tableFor thirds ≡ thirdsTable
-  pub entire : length (ownRules 0 (thirdsTable .lines)) ≡ length (listFor (servicesIn thirds) 0 0)
+  pub entire : length (ownRules 1 (thirdsTable .lines)) ≡ length (listFor (servicesIn thirds) 0 0)
   pub ended : endOf (frameOf (servicesIn thirds) 0 0) (listFor (servicesIn thirds) 0 0) ≡ NoGain
   pub above : countedLargestExcess (servicesIn thirds) (thirdsTable .lines) 0 ≡ 333334
   pub below : countedLargestShortfall (servicesIn thirds) (thirdsTable .lines) 0 ≡ 666666
 
 pub thirds-tight : Tight
-unfolding tableFor servicesIn unit sumTo countTo allTo firstTo argmax lastmax matches gives share backends weight has wants excess shortfall imbalance giver receiver largestExcess largestShortfall firstRule frame isWithin reduction reductionAt term isNoGain isWhole termLength lowestPlace newRule step after endOf listOf oldest stair place value valueFrom lowest saving next rules total more grantStep grantsAfter packed services volume weightsOf ruleBudget frameOf listFor problem granted linesOf tableOf table linesMade matchesLine givesLine countedShare countedExcess countedShortfall countedLargestExcess countedLargestShortfall ownRules
+unfolding tableFor servicesIn unit sumTo listTo countTo allTo firstTo argmax lastmax matches firstMatch gives share backends label weight has wants excess shortfall imbalance giver receiver largestExcess largestShortfall firstRule frame isWithin reduction reductionAt term isNoGain isWhole termLength lowestPlace newRule step after endOf listOf oldest stair place value valueFrom lowest saving next rules total more grantStep grantsAfter packed services volume targetsOf ruleBudget frameOf listFor problem granted linesOf tableOf table linesMade countedLargestExcess countedLargestShortfall ownRules
 thirds-tight = record { made = refl; entire = refl; ended = refl; above = refl; below = refl }
 
 -- The one call on the sample: made, and each buffer too short by one place.
@@ -136,14 +138,14 @@ abbrev sampleFigures : List ℕ
 sampleFigures = 2 ∷ 4 ∷ 0 ∷ 3 ∷ 3 ∷ 0 ∷ []
 
 pub sample-figures : figuresFor sample ≡ sampleFigures
-unfolding figuresFor figuresMade figuresTo servicesIn unit sumTo countTo allTo firstTo argmax lastmax matches gives share backends weight has wants excess shortfall imbalance giver receiver largestExcess largestShortfall firstRule frame isWithin reduction reductionAt term isNoGain isWhole termLength lowestPlace newRule step after endOf listOf oldest stair place value valueFrom lowest saving next rules total more grantStep grantsAfter packed services volume weightsOf ruleBudget frameOf listFor problem granted
+unfolding figuresFor figuresMade figuresTo servicesIn unit sumTo listTo countTo allTo firstTo argmax lastmax matches firstMatch gives share backends label weight has wants excess shortfall imbalance giver receiver largestExcess largestShortfall firstRule frame isWithin reduction reductionAt term isNoGain isWhole termLength lowestPlace newRule step after endOf listOf oldest stair place value valueFrom lowest saving next rules total more grantStep grantsAfter packed services volume targetsOf ruleBudget frameOf listFor problem granted
 sample-figures = refl
 
 pub record OneCall : Type 0 where
   pub made : planAnswer sheetBytes 6 20 ≡ planned.Made (record { k = 5; services = 2; rules = 5; total = 293333920 })
-  pub table-short : planAnswer sheetBytes 6 19 ≡ planned.Refused (refusedAt no7 0) tableBuffer
-  pub figures-short : planAnswer sheetBytes 5 20 ≡ planned.Refused (refusedAt no7 0) figuresBuffer
-  pub both-short : planAnswer sheetBytes 5 19 ≡ planned.Refused (refusedAt no7 0) figuresBuffer
+  pub table-short : planAnswer sheetBytes 6 19 ≡ planned.Refused (about tableBuffer no7 0)
+  pub figures-short : planAnswer sheetBytes 5 20 ≡ planned.Refused (about figuresBuffer no7 0)
+  pub both-short : planAnswer sheetBytes 5 19 ≡ planned.Refused (about figuresBuffer no7 0)
 
 pub one-call : OneCall
 unfolding cases planAnswer planOf

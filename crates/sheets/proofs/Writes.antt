@@ -10,7 +10,7 @@ use Rattle.numerals.specs.Digits.{put, putEnd}
 use Rattle.numerals.specs.declared.digits.Written.{Written}
 use Rattle.numerals.specs.declared.digits.Written.the-variants.{End}
 use Rattle.numerals.proofs.Writing.{written}
-use Rattle.sheets.specs.Writing.{Wrote, Before, endAt}
+use Rattle.sheets.specs.Inner.Writing.{Wrote, Before, endAt}
 
 pub sets-append : (l : List ℕ) (at : ℕ) (xs ys : List ℕ) → sets l at (xs ++ ys) ≡ sets (sets l at xs) (at + length xs) ys
 sets-append l at [] ys = ap (λ (i : ℕ). sets l i ys) (sym (add-zero at))

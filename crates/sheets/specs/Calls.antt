@@ -1,77 +1,97 @@
 -- What the public calls answer, and what they write, for every input.
-use Prim.Native.Nat.{ℕ, _+_, _-_, _*_, _^_, _<_}
+use Prim.Native.Nat.{ℕ, suc, _+_, _*_, _^_}
 use mathlib.Core.Bool.{Bool, true, false, not}
-use mathlib.Core.List.{List, [], _∷_, _++_}
+use mathlib.Core.List.{List, [], _∷_, _++_, map}
 use lib.Dec.{leb, ltb, eqb}
-use lib.ListN.{length, getD}
+use lib.ListN.{length}
 use lib.Seq.{sets}
-use Rattle.numerals.specs.Pick.{pick, both}
+use Rattle.numerals.specs.Pick.{pick}
 use Rattle.numerals.specs.Decimal.{decimal}
-use Rattle.numerals.specs.Sums.{countTo}
+use Rattle.numerals.specs.Sums.{listTo, countTo}
 use Rattle.numerals.specs.Limits.{unit, textLimit}
 use Rattle.numerals.specs.declared.refusal.Refusal.{Refusal}
 use Rattle.numerals.specs.Refusals.{no7, no8, no11, no12}
+use Rattle.expansion.specs.FirstMatch.{firstMatch}
 use Rattle.packing.specs.Grants.{total}
-use Rattle.packing.specs.Count.{Line, Services, services, matchesLine}
-use Rattle.packing.specs.Table.{problem, granted}
+use Rattle.packing.specs.Count.{Line, Services, ownRules}
+use Rattle.packing.specs.Table.{problem, granted, oneEach}
 use Rattle.packing.specs.Answer.{linesMade, figuresMade, cells, noBuffer, figuresBuffer, tableBuffer}
-use Rattle.sheets.specs.Reading.{Reading, got, turned, then, unless}
+use Rattle.sheets.specs.Reading.{Reading, got, refused, unless}
 use Rattle.sheets.specs.PercentageSheet.{Sheet, readSheet}
 use Rattle.sheets.specs.RuleSheet.{Table, tableWord, linesText, tableText, countOf, readTable, checkSheet}
-use Rattle.sheets.specs.declared.answer.Refused.{Refused}
-use Rattle.sheets.specs.declared.answer.Plan.{Plan}
-use Rattle.sheets.specs.declared.answer.Planned as planned
-use Rattle.sheets.specs.declared.answer.Planned.the-variants as planned-variants
-use Rattle.sheets.specs.declared.answer.Printed as printed
-use Rattle.sheets.specs.declared.answer.Printed.the-variants as printed-variants
-use Rattle.sheets.specs.declared.answer.TableRecord.{TableRecord}
-use Rattle.sheets.specs.declared.answer.TableRead as table-read
-use Rattle.sheets.specs.declared.answer.TableRead.the-variants as table-read-variants
-use Rattle.sheets.specs.declared.answer.Looked as looked
-use Rattle.sheets.specs.declared.answer.Looked.the-variants as looked-variants
-use Rattle.sheets.specs.declared.answer.Churned as churned
-use Rattle.sheets.specs.declared.answer.Churned.the-variants as churned-variants
+use Rattle.sheets.specs.declared.answer.Refused.{Refused as Why}
+use Rattle.sheets.specs.declared.answer.Answer.{Answer}
+use Rattle.sheets.specs.declared.answer.Answer.the-variants.{Value, Refused}
+use Rattle.sheets.specs.declared.answer.Planned.{Planned}
+use Rattle.sheets.specs.declared.answer.Planned.the-variants as planned
+use Rattle.sheets.specs.declared.answer.TableRead.{TableRead}
+use Rattle.sheets.specs.declared.answer.TableRead.the-variants as table-read
 
-abbrev pub refusedAt : Refusal → ℕ → Refused
-refusedAt why line = record { why = why; line = line }
+-- a refusal with its line, about one of two sheets or buffers, or about neither
+abbrev pub about : ℕ → Refusal → ℕ → Why
+about of why line = record { why = why; line = line; of = of }
 
--- the services of a sheet, as the count is fed them
+abbrev pub refusedAt : Refusal → ℕ → Why
+refusedAt why line = about 0 why line
+
+-- what is answered of what was read; a refusal of it is the answer itself, about sheet `of` where there are two
+abbrev pub answered : {A B : Type 0} → (Why → B) → ℕ → Reading A → (A → B) → B
+answered back of (got a) f = f a
+answered back of (refused why line) f = back (about of why line)
+
+-- the values for a lent buffer, by what was read
+abbrev pub valuesOf : {A : Type 0} → Reading A → (A → List ℕ) → List ℕ
+valuesOf (got a) f = f a
+valuesOf (refused why line) f = []
+
+-- a lent buffer afterwards: the values from its start on, where the answer is no refusal; else as it was
+abbrev pub afterwards : Bool → List ℕ → List ℕ → List ℕ
+afterwards true out vs = sets out 0 vs
+afterwards false out vs = out
+
+abbrev pub isValue : Answer → Bool
+isValue (Value n) = true
+isValue (Refused r) = false
+
+abbrev pub isPlan : Planned → Bool
+isPlan (planned.Made p) = true
+isPlan (planned.Refused r) = false
+
+abbrev pub isTable : TableRead → Bool
+isTable (table-read.Made r) = true
+isTable (table-read.Refused r) = false
+
+-- the services of a sheet, as the count is fed them; backends are labelled by their number from 1
 unfoldable pub servicesIn : Sheet → Services
-servicesIn S = record { k = S .k; unit = unit; volumes = S .volumes; weights = S .weights }
+servicesIn S =
+    record {
+      k = S .k;
+      unit = unit;
+      volumes = S .volumes;
+      labels = map (λ (own : List ℕ). listTo (length own) suc) (S .weights);
+      weights = S .weights;
+    }
 
 -- the table of a sheet
 unfoldable pub tableFor : Sheet → Table
 tableFor S =
     record {
       k = S .k;
-      total = total (problem (servicesIn S) (S .tolerance) (S .capacity)) (granted (servicesIn S) (S .tolerance) (S .capacity));
+      total = total (problem (servicesIn S) (S .tolerance) oneEach (S .capacity)) (granted (servicesIn S) (S .tolerance) oneEach (S .capacity));
       lines = linesMade (servicesIn S) (S .tolerance) (S .capacity);
     }
 
--- the one call: the table and the figures of a percentage sheet's text; 7 names the lent buffer that is too short
-unfoldable pub planOf : Sheet → ℕ → ℕ → planned.Planned
+-- the one call: the table and the figures of a percentage sheet's text; 7 is about the lent buffer that is too short
+unfoldable pub planOf : Sheet → ℕ → ℕ → Planned
 planOf S figuresRoom tableRoom =
     pick (leb (3 * length (S .volumes)) figuresRoom)
     (pick (leb (4 * length (tableFor S .lines)) tableRoom)
-    (planned-variants.Made (record { k = S .k; services = length (S .volumes); rules = length (tableFor S .lines); total = tableFor S .total }))
-    (planned-variants.Refused (refusedAt no7 0) tableBuffer))
-    (planned-variants.Refused (refusedAt no7 0) figuresBuffer)
+    (planned.Made (record { k = S .k; services = length (S .volumes); rules = length (tableFor S .lines); total = tableFor S .total }))
+    (planned.Refused (about tableBuffer no7 0)))
+    (planned.Refused (about figuresBuffer no7 0))
 
-abbrev pub onSheet : Reading Sheet → (Sheet → planned.Planned) → planned.Planned
-onSheet (got S) f = f S
-onSheet (turned why line) f = planned-variants.Refused (refusedAt why line) noBuffer
-
-unfoldable pub planAnswer : List ℕ → ℕ → ℕ → planned.Planned
-planAnswer text figuresRoom tableRoom = onSheet (readSheet text) (λ S. planOf S figuresRoom tableRoom)
-
--- a buffer lent to the one call, afterwards: what the sheet gives from its start on, where the table was made; else as it was
-abbrev pub fromSheet : Reading Sheet → (Sheet → List ℕ) → List ℕ
-fromSheet (got S) f = f S
-fromSheet (turned why line) f = []
-
-abbrev pub planFilled : planned.Planned → List ℕ → List ℕ → List ℕ
-planFilled (planned-variants.Made p) out vs = sets out 0 vs
-planFilled (planned-variants.Refused r buffer) out vs = out
+unfoldable pub planAnswer : List ℕ → ℕ → ℕ → Planned
+planAnswer text figuresRoom tableRoom = answered planned.Refused noBuffer (readSheet text) (λ S. planOf S figuresRoom tableRoom)
 
 unfoldable pub figuresFor : Sheet → List ℕ
 figuresFor S = figuresMade (servicesIn S) (S .tolerance) (S .capacity)
@@ -79,22 +99,12 @@ figuresFor S = figuresMade (servicesIn S) (S .tolerance) (S .capacity)
 unfoldable pub cellsFor : Sheet → List ℕ
 cellsFor S = cells (tableFor S .lines)
 
--- a text for a lent buffer: written from its start on if there is room, else 7
-unfoldable pub printText : List ℕ → ℕ → printed.Printed
-printText bytes room =
-    pick (leb (length bytes) room) (printed-variants.End (length bytes)) (printed-variants.Refused (refusedAt no7 0))
+-- a text for a lent buffer: how many bytes of it are written, if there is room, else 7
+unfoldable pub printText : List ℕ → ℕ → Answer
+printText bytes room = pick (leb (length bytes) room) (Value (length bytes)) (Refused (refusedAt no7 0))
 
-abbrev pub printRead : {A : Type 0} → Reading A → (A → List ℕ) → ℕ → printed.Printed
-printRead (got a) text room = printText (text a) room
-printRead (turned why line) text room = printed-variants.Refused (refusedAt why line)
-
-abbrev pub textOf : {A : Type 0} → Reading A → (A → List ℕ) → List ℕ
-textOf (got a) text = text a
-textOf (turned why line) text = []
-
-abbrev pub printFilled : printed.Printed → List ℕ → List ℕ → List ℕ
-printFilled (printed-variants.End n) out bytes = sets out 0 bytes
-printFilled (printed-variants.Refused r) out bytes = out
+abbrev pub printRead : {A : Type 0} → Reading A → (A → List ℕ) → ℕ → Answer
+printRead r text room = answered Refused 0 r (λ a. printText (text a) room)
 
 -- the rule sheet of a percentage sheet's text
 unfoldable pub sheetText : Sheet → List ℕ
@@ -108,7 +118,7 @@ linesFrom (s ∷ l ∷ []) = []
 linesFrom (s ∷ l ∷ v ∷ []) = []
 linesFrom (s ∷ l ∷ v ∷ b ∷ cs) = record { service = s; rule = record { len = l; value = v; backend = b } } ∷ linesFrom cs
 
--- the service of a last line of which fewer than four numbers are there; none where the numbers are whole lines
+-- the first number of a last line of which fewer than four are there; none where the numbers are whole lines
 unfoldable pub brokenFrom : List ℕ → List ℕ
 brokenFrom [] = []
 brokenFrom (s ∷ []) = s ∷ []
@@ -119,7 +129,7 @@ brokenFrom (s ∷ l ∷ v ∷ b ∷ cs) = brokenFrom cs
 -- its text has one field
 unfoldable pub brokenText : List ℕ → List ℕ
 brokenText [] = []
-brokenText (s ∷ ss) = decimal (s + 1) ++ 10 ∷ brokenText ss
+brokenText (s ∷ ss) = decimal s ++ 10 ∷ brokenText ss
 
 -- how many lines the numbers are, the broken one too
 unfoldable pub linesHanded : List ℕ → ℕ
@@ -141,61 +151,41 @@ tableHanded k total cs =
     unless (leb (length (handedText k total cs)) textLimit) no11 0
     (checkSheet (record { k = k; total = total; lines = linesFrom cs }) (length (brokenFrom cs)))
 
--- every suffix's value has the bits that its length says, so that the text says the same line
-unfoldable pub ValuesFit : List Line → Type 0
-ValuesFit [] = Unit {0}
-ValuesFit (l ∷ ls) = (l .rule .value < 2 ^ (l .rule .len)) × ValuesFit ls
-
 -- the table of a rule sheet's text, into a lent buffer
-unfoldable pub readIn : Reading Table → ℕ → table-read.TableRead
-readIn (got t) room =
+unfoldable pub readIn : Table → ℕ → TableRead
+readIn t room =
     pick (leb (4 * length (t .lines)) room)
-    (table-read-variants.Made (record { k = t .k; rules = length (t .lines); total = t .total }))
-    (table-read-variants.Refused (refusedAt no7 0))
-readIn (turned why line) room = table-read-variants.Refused (refusedAt why line)
+    (table-read.Made (record { k = t .k; rules = length (t .lines); total = t .total }))
+    (table-read.Refused (refusedAt no7 0))
 
-unfoldable pub readAnswer : List ℕ → ℕ → table-read.TableRead
-readAnswer text room = readIn (readTable text) room
+unfoldable pub readAnswer : List ℕ → ℕ → TableRead
+readAnswer text room = answered table-read.Refused 0 (readTable text) (λ t. readIn t room)
 
-abbrev pub readFilled : table-read.TableRead → List ℕ → List ℕ → List ℕ
-readFilled (table-read-variants.Made r) out vs = sets out 0 vs
-readFilled (table-read-variants.Refused r) out vs = out
-
--- the number from 1 of the backend of the first line of service s that matches v, 0 where none does
-unfoldable pub firstBackend : List Line → ℕ → ℕ → ℕ
-firstBackend [] s v = 0
-firstBackend (l ∷ ls) s v = pick (matchesLine l s v) (l .rule .backend + 1) (firstBackend ls s v)
-
--- the service with this number from 1 has lines
+-- service n has lines
 unfoldable pub hasService : Table → ℕ → Bool
-hasService t n = both (ltb 0 n) (ltb 0 (countOf (n - 1) (t .lines)))
+hasService t n = ltb 0 (countOf n (t .lines))
 
--- lookup (document 01, "Lookup and churn")
-unfoldable pub lookupIn : Reading Table → ℕ → ℕ → looked.Looked
-lookupIn (turned why line) n address = looked-variants.Refused (refusedAt why line)
-lookupIn (got t) n address =
-    pick (hasService t n) (looked-variants.Backend (firstBackend (t .lines) (n - 1) address))
-    (looked-variants.Refused (refusedAt no8 0))
+-- lookup (document 01, "Lookup and churn"): the label of the backend of the first matching line of service n
+unfoldable pub lookupIn : Table → ℕ → ℕ → Answer
+lookupIn t n address = pick (hasService t n) (Value (firstMatch (ownRules n (t .lines)) address)) (Refused (refusedAt no8 0))
 
-unfoldable pub lookupAnswer : List ℕ → ℕ → ℕ → looked.Looked
-lookupAnswer text n address = lookupIn (readTable text) n address
+unfoldable pub lookupAnswer : List ℕ → ℕ → ℕ → Answer
+lookupAnswer text n address = answered Refused 0 (readTable text) (λ t. lookupIn t n address)
 
--- the number of suffixes whose backend differs
-unfoldable pub moved : Table → Table → ℕ → ℕ
-moved old new s =
-    countTo (2 ^ (old .k)) (λ v. not (eqb (firstBackend (old .lines) s v) (firstBackend (new .lines) s v)))
+-- the number of k-bit suffixes for which service n has another backend in the new lines than in the old
+unfoldable pub moved : ℕ → List Line → List Line → ℕ → ℕ
+moved k old new n = countTo (2 ^ k) (λ v. not (eqb (firstMatch (ownRules n old) v) (firstMatch (ownRules n new) v)))
 
--- churn: the first sheet is read wholly first; 8 names the first that lacks the service, 12 neither
-unfoldable pub churnOf : Reading Table → Reading Table → ℕ → churned.Churned
-churnOf (turned why line) new n = churned-variants.Refused (refusedAt why line) 1
-churnOf (got old) (turned why line) n = churned-variants.Refused (refusedAt why line) 2
-churnOf (got old) (got new) n =
+-- churn: 8 is about the first sheet that lacks the service, 12 about neither
+unfoldable pub churnOf : Table → Table → ℕ → Answer
+churnOf old new n =
     pick (hasService old n)
     (pick (hasService new n)
-    (pick (eqb (old .k) (new .k)) (churned-variants.Moved (moved old new (n - 1)))
-    (churned-variants.Refused (refusedAt no12 0) 0))
-    (churned-variants.Refused (refusedAt no8 0) 2))
-    (churned-variants.Refused (refusedAt no8 0) 1)
+    (pick (eqb (old .k) (new .k)) (Value (moved (old .k) (old .lines) (new .lines) n))
+    (Refused (refusedAt no12 0)))
+    (Refused (about 2 no8 0)))
+    (Refused (about 1 no8 0))
 
-unfoldable pub churnAnswer : List ℕ → List ℕ → ℕ → churned.Churned
-churnAnswer old new n = churnOf (readTable old) (readTable new) n
+-- the first sheet is read wholly first
+unfoldable pub churnAnswer : List ℕ → List ℕ → ℕ → Answer
+churnAnswer old new n = answered Refused 1 (readTable old) (λ o. answered Refused 2 (readTable new) (λ m. churnOf o m n))

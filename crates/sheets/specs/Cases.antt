@@ -5,7 +5,7 @@ use Prim.Native.String as string
 use mathlib.Core.Path.{_≡_}
 use mathlib.Core.List.{List, [], _∷_}
 use Rattle.numerals.specs.Refusals.{no1, no2, no3, no5, no6}
-use Rattle.sheets.specs.Reading.{Reading, got, turned}
+use Rattle.sheets.specs.Reading.{Reading, got, refused}
 use Rattle.sheets.specs.PercentageSheet.{Sheet, readSheet}
 
 -- the bytes of a text of ASCII characters
@@ -31,18 +31,18 @@ cases =
     reads "SHEET 5 2 5\nSERVICE 55 16.6667 33.3333 50\nSERVICE 45 25 25 50\n"
     (got (record { k = 5; tolerance = 20000; capacity = 5; volumes = 55 ∷ 45 ∷ []; weights = (166667 ∷ 333333 ∷ 500000 ∷ []) ∷ (250000 ∷ 250000 ∷ 500000 ∷ []) ∷ [] }))
     -- P9 to P12, in a sheet
-    ∷ reads "SHEET 5 2 5\nSERVICE 55 50 50\nSERVICE 45 18.4.2 81.6\n" (turned no2 3)
+    ∷ reads "SHEET 5 2 5\nSERVICE 55 50 50\nSERVICE 45 18.4.2 81.6\n" (refused no2 3)
     ∷ reads "SHEET 1 0 1\nSERVICE 7 100.0000\n" (alone 1 1 (7 ∷ []) ((1000000 ∷ []) ∷ []))
-    ∷ reads "SHEET 1 0 1\nSERVICE 7 100.0001\n" (turned no2 2)
-    ∷ reads "SHEET 1 0 1\nSERVICE 7 018.4 81.6\n" (turned no2 2)
+    ∷ reads "SHEET 1 0 1\nSERVICE 7 100.0001\n" (refused no2 2)
+    ∷ reads "SHEET 1 0 1\nSERVICE 7 018.4 81.6\n" (refused no2 2)
     -- C equal to the services, and one less
     ∷ reads "SHEET 1 0 2\nSERVICE 7 100\nSERVICE 8 100\n" (alone 1 2 (7 ∷ 8 ∷ []) ((1000000 ∷ []) ∷ (1000000 ∷ []) ∷ []))
-    ∷ reads "SHEET 1 0 1\nSERVICE 7 100\nSERVICE 8 100\n" (turned no6 1)
+    ∷ reads "SHEET 1 0 1\nSERVICE 7 100\nSERVICE 8 100\n" (refused no6 1)
     -- nothing, only line 1, a line without its LF, weights of 99 percent
-    ∷ reads "" (turned no1 1)
-    ∷ reads "SHEET 1 0 1\n" (turned no5 1)
-    ∷ reads "SHEET 1 0 1\nSERVICE 7 100" (turned no1 2)
-    ∷ reads "SHEET 1 0 1\nSERVICE 7 50 49\n" (turned no3 2)
+    ∷ reads "" (refused no1 1)
+    ∷ reads "SHEET 1 0 1\n" (refused no5 1)
+    ∷ reads "SHEET 1 0 1\nSERVICE 7 100" (refused no1 2)
+    ∷ reads "SHEET 1 0 1\nSERVICE 7 50 49\n" (refused no3 2)
     ∷ []
 
 abbrev pub AllRight : List Case → Type 0

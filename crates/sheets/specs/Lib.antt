@@ -1,15 +1,11 @@
--- What document 01 says of the percentage sheet, the rule sheet, lookup, churn and the count of shares.
+-- What document 01 says of the percentage sheet, the rule sheet, lookup, churn and the count of shares. `specs/` is what a reader must believe: the definitions that the public contracts cite, and the worked cases, in files named so. `specs/Inner/` has the contracts of inner functions, which are proved against these.
 pub mod Reading
+pub mod FirstLine
 pub mod PercentageSheet
 pub mod RuleSheet
-pub mod Behind
 pub mod Calls
 pub mod Shares
-pub mod Writing
-pub mod Rows
 pub mod Demand
-pub mod Parts
-pub mod Kept
-pub mod FromPacking
 pub mod Cases
-pub mod Twelve
+pub mod TwelveCases
+pub mod Inner

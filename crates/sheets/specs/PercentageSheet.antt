@@ -7,9 +7,10 @@ use lib.ListN.{length, drop}
 use Rattle.numerals.specs.Decimal.{number}
 use Rattle.numerals.specs.Percentage.{percentage}
 use Rattle.numerals.specs.Text.{split}
-use Rattle.numerals.specs.Limits.{unit, textLimit}
-use Rattle.numerals.specs.Refusals.{no1, no3, no4, no5, no6, no11}
-use Rattle.sheets.specs.Reading.{Reading, got, turned, then, unless, onField, same, field}
+use Rattle.numerals.specs.Limits.{mostBackends, mostServices, mostCapacity, mostVolume, decimals, unit}
+use Rattle.numerals.specs.Refusals.{no1, no3, no4, no5, no6}
+use Rattle.sheets.specs.Reading.{Reading, got, then, unless, onField, same, field}
+use Rattle.sheets.specs.FirstLine.{Opening, firstLine}
 
 -- what a percentage sheet says
 pub record Sheet : Type 0 where
@@ -18,12 +19,6 @@ pub record Sheet : Type 0 where
   pub capacity : ℕ
   pub volumes : List ℕ
   pub weights : List (List ℕ)
-
--- what line 1 says
-pub record Head : Type 0 where
-  pub k : ℕ
-  pub tolerance : ℕ
-  pub capacity : ℕ
 
 -- what the line of a service says
 pub record Service : Type 0 where
@@ -38,20 +33,10 @@ sheetWord = 83 ∷ 72 ∷ 69 ∷ 69 ∷ 84 ∷ []
 abbrev pub serviceWord : List ℕ
 serviceWord = 83 ∷ 69 ∷ 82 ∷ 86 ∷ 73 ∷ 67 ∷ 69 ∷ []
 
--- line 1, by its fields: SHEET k tolerance C
-unfoldable pub headFields : List (List ℕ) → Reading Head
-headFields fs =
-    unless (same (field fs 0) sheetWord) no1 1
-    (unless (eqb (length fs) 4) no1 1
-    (onField (number 1 12 (field fs 1)) 1 (λ k.
-    onField (percentage 4 (field fs 2)) 1 (λ t.
-    onField (number 1 2048 (field fs 3)) 1 (λ c.
-    got (record { k = k; tolerance = t; capacity = c }))))))
-
 -- the percentages of a line, from the left
 unfoldable pub weightFields : ℕ → List (List ℕ) → Reading (List ℕ)
 weightFields line [] = got []
-weightFields line (f ∷ fs) = onField (percentage 4 f) line (λ w. then (weightFields line fs) (λ ws. got (w ∷ ws)))
+weightFields line (f ∷ fs) = onField (percentage decimals f) line (λ w. then (weightFields line fs) (λ ws. got (w ∷ ws)))
 
 unfoldable pub sum : List ℕ → ℕ
 sum [] = 0
@@ -61,10 +46,10 @@ sum (w ∷ ws) = w + sum ws
 unfoldable pub serviceFields : ℕ → List (List ℕ) → Reading Service
 serviceFields i fs =
     unless (same (field fs 0) serviceWord) no1 (i + 2)
-    (unless (ltb i 64) no4 (i + 2)
+    (unless (ltb i mostServices) no4 (i + 2)
     (unless (leb 3 (length fs)) no1 (i + 2)
-    (unless (leb (length fs) 34) no4 (i + 2)
-    (onField (number 0 10000 (field fs 1)) (i + 2) (λ v.
+    (unless (leb (length fs) (2 + mostBackends)) no4 (i + 2)
+    (onField (number 0 mostVolume (field fs 1)) (i + 2) (λ v.
     then (weightFields (i + 2) (drop 2 fs)) (λ ws.
     unless (eqb (sum ws) unit) no3 (i + 2)
     (got (record { volume = v; weights = ws }))))))))
@@ -85,17 +70,17 @@ weightsOf [] = []
 weightsOf (s ∷ ss) = s .weights ∷ weightsOf ss
 
 -- after the lines: no service, then a capacity below their number
-unfoldable pub whole : Head → List Service → Reading Sheet
-whole h ss =
+unfoldable pub whole : ℕ → ℕ → ℕ → List Service → Reading Sheet
+whole k tolerance capacity ss =
     unless (ltb 0 (length ss)) no5 1
-    (unless (leb (length ss) (h .capacity)) no6 1
-    (got (record { k = h .k; tolerance = h .tolerance; capacity = h .capacity; volumes = volumesOf ss; weights = weightsOf ss })))
+    (unless (leb (length ss) capacity) no6 1
+    (got (record { k = k; tolerance = tolerance; capacity = capacity; volumes = volumesOf ss; weights = weightsOf ss })))
 
--- a text by its lines
-unfoldable pub sheetLines : List (List ℕ) → Reading Sheet
-sheetLines [] = turned no1 1
-sheetLines (l ∷ []) = turned no1 1
-sheetLines (l ∷ m ∷ ls) = then (headFields (split 32 l)) (λ h. then (serviceLines 0 (m ∷ ls)) (whole h))
+-- line 1: SHEET k tolerance C
+unfoldable pub sheetLine : List ℕ → Reading Opening
+sheetLine text = firstLine sheetWord (percentage decimals) (number 1 mostCapacity) text
 
 unfoldable pub readSheet : List ℕ → Reading Sheet
-readSheet text = unless (leb (length text) textLimit) no11 0 (sheetLines (split 10 text))
+readSheet text =
+    then (sheetLine text) (λ line.
+    then (serviceLines 0 (line .behind)) (whole (line .k) (line .second) (line .third)))

@@ -12,27 +12,22 @@ use Rattle.numerals.specs.Refusals.{no2}
 
 pub data Reading (A : Type 0) : Type 0 where
   got : A → Reading A
-  turned : Refusal → ℕ → Reading A
+  refused : Refusal → ℕ → Reading A
 
 -- what comes next, where something was read
 unfoldable pub then : {A B : Type 0} → Reading A → (A → Reading B) → Reading B
 then (got a) f = f a
-then (turned why line) f = turned why line
+then (refused why line) f = refused why line
 
--- the same as a call without a text tells it: with line 0
-unfoldable pub atNoLine : {A : Type 0} → Reading A → Reading A
-atNoLine (got a) = got a
-atNoLine (turned why line) = turned why 0
-
--- turned back at a line, unless the test passes
+-- refused at a line, unless the test passes
 unfoldable pub unless : {A : Type 0} → Bool → Refusal → ℕ → Reading A → Reading A
 unless true why line next = next
-unless false why line next = turned why line
+unless false why line next = refused why line
 
 -- a field that was read as a number
 unfoldable pub onField : {A : Type 0} → Number → ℕ → (ℕ → Reading A) → Reading A
 onField (Value v) line f = f v
-onField Bad line f = turned no2 line
+onField Bad line f = refused no2 line
 
 -- two texts are the same
 unfoldable pub same : List ℕ → List ℕ → Bool

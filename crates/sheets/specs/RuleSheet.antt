@@ -1,5 +1,5 @@
 -- The rule sheet (document 01, "Rule sheet and program"): its text, and its reading with every refusal in its order.
-use Prim.Native.Nat.{ℕ, zero, suc, _+_, _-_, _^_}
+use Prim.Native.Nat.{ℕ, _+_}
 use mathlib.Core.Bool.{Bool, true, false}
 use mathlib.Core.List.{List, [], _∷_, _++_, reverse}
 use lib.Dec.{leb, ltb, eqb}
@@ -10,13 +10,15 @@ use Rattle.numerals.specs.Suffix.{suffix, suffixText}
 use Rattle.numerals.specs.Text.{split}
 use Rattle.numerals.specs.declared.suffixes.SuffixRead.{SuffixRead}
 use Rattle.numerals.specs.declared.suffixes.SuffixRead.the-variants.{Suffix, Bad}
-use Rattle.expansion.specs.declared.rule.Rule.{Rule}
-use Rattle.numerals.specs.Refusals.{no1, no2, no4, no5, no9, no10, no11}
-use Rattle.packing.specs.Count.{Line}
-use Rattle.sheets.specs.Reading.{Reading, got, turned, then, unless, onField, same, field}
-use Rattle.numerals.specs.Limits.{textLimit, totalLimit}
+use Rattle.expansion.specs.Answer.{inLimits}
+use Rattle.expansion.specs.FirstMatch.{isRule}
+use Rattle.numerals.specs.Refusals.{no1, no2, no4, no5, no9, no10}
+use Rattle.packing.specs.Count.{Line, ownRules}
+use Rattle.sheets.specs.Reading.{Reading, got, refused, then, unless, onField, same, field}
+use Rattle.sheets.specs.FirstLine.{Opening, firstLine}
+use Rattle.numerals.specs.Limits.{mostBits, mostBackends, mostServices, mostRules, mostCapacity, totalLimit}
 
--- what a rule sheet says; services and backends by their place from 0
+-- what a rule sheet says; its lines have the printed numbers: services 1 to 64, backends by their labels, 1 to 32
 pub record Table : Type 0 where
   pub k : ℕ
   pub total : ℕ
@@ -26,10 +28,10 @@ pub record Table : Type 0 where
 abbrev pub tableWord : List ℕ
 tableWord = 84 ∷ 65 ∷ 66 ∷ 76 ∷ 69 ∷ []
 
--- the text of a line: service suffix backend, numbered from 1
+-- the text of a line: service suffix backend
 unfoldable pub lineText : Line → List ℕ
 lineText l =
-    decimal (l .service + 1) ++ 32 ∷ suffixText (l .rule .len) (l .rule .value) ++ 32 ∷ decimal (l .rule .backend + 1) ++ 10 ∷ []
+    decimal (l .service) ++ 32 ∷ suffixText (l .rule .len) (l .rule .value) ++ 32 ∷ decimal (l .rule .backend) ++ 10 ∷ []
 
 unfoldable pub linesText : List Line → List ℕ
 linesText [] = []
@@ -44,29 +46,13 @@ tableText t =
     ++ 32 ∷ decimal (t .total)
     ++ 10 ∷ linesText (t .lines)
 
--- what line 1 says: TABLE k n total
-pub record TableHead : Type 0 where
-  pub k : ℕ
-  pub n : ℕ
-  pub total : ℕ
-
-unfoldable pub tableFields : List (List ℕ) → Reading TableHead
-tableFields fs =
-    unless (same (field fs 0) tableWord) no1 1
-    (unless (eqb (length fs) 4) no1 1
-    (onField (number 1 12 (field fs 1)) 1 (λ k.
-    onField (number 1 2048 (field fs 2)) 1 (λ n.
-    onField (number 0 totalLimit (field fs 3)) 1 (λ t.
-    got (record { k = k; n = n; total = t }))))))
-
 unfoldable pub onSuffix : {A : Type 0} → SuffixRead → ℕ → (ℕ → ℕ → Reading A) → Reading A
 onSuffix (Suffix l v) line f = f l v
-onSuffix Bad line f = turned no2 line
+onSuffix Bad line f = refused no2 line
 
--- how many of the lines are of a service
+-- how many of the lines are of service n
 unfoldable pub countOf : ℕ → List Line → ℕ
-countOf s [] = 0
-countOf s (l ∷ ls) = pick (eqb (l .service) s) (suc (countOf s ls)) (countOf s ls)
+countOf n ls = length (ownRules n ls)
 
 -- a line behind these, the last of them first, keeps the order: services ascending, each ending in its only `*`, and the suffix doesn't lengthen within a service
 unfoldable pub inOrder : List Line → Line → Bool
@@ -77,16 +63,16 @@ inOrder (p ∷ ps) l =
 
 -- a line behind these: the 33rd rule of a service, then the order
 unfoldable pub placed : {A : Type 0} → List Line → Line → ℕ → Reading A → Reading A
-placed before l at next = unless (ltb (countOf (l .service) before) 32) no4 at (unless (inOrder before l) no9 at next)
+placed before l at next = unless (ltb (countOf (l .service) before) mostRules) no4 at (unless (inOrder before l) no9 at next)
 
 -- a rule line by its fields, behind these lines
 unfoldable pub ruleFields : ℕ → List Line → ℕ → List (List ℕ) → Reading Line
 ruleFields k before at fs =
     unless (eqb (length fs) 3) no1 at
-    (onField (number 1 64 (field fs 0)) at (λ s.
+    (onField (number 1 mostServices (field fs 0)) at (λ s.
     onSuffix (suffix k (field fs 1)) at (λ l v.
-    onField (number 1 32 (field fs 2)) at (λ b.
-    let line : Line = record { service = s - 1; rule = record { len = l; value = v; backend = b - 1 } } in
+    onField (number 1 mostBackends (field fs 2)) at (λ b.
+    let line : Line = record { service = s; rule = record { len = l; value = v; backend = b } } in
     placed before line at (got line)))))
 
 -- the rule lines behind these, the last of them first: all lines, the last first
@@ -102,27 +88,27 @@ closed [] = true
 closed (l ∷ ls) = eqb (l .rule .len) 0
 
 -- after the lines, the last first: no service, then another number of lines than n, then a last line without `*`
-unfoldable pub wholeTable : TableHead → List Line → Reading Table
-wholeTable h ls =
+unfoldable pub wholeTable : ℕ → ℕ → ℕ → List Line → Reading Table
+wholeTable k n total ls =
     unless (ltb 0 (length ls)) no5 1
-    (unless (eqb (length ls) (h .n)) no10 1
+    (unless (eqb (length ls) n) no10 1
     (unless (closed ls) no9 (length ls + 1)
-    (got (record { k = h .k; total = h .total; lines = reverse ls }))))
+    (got (record { k = k; total = total; lines = reverse ls }))))
 
-unfoldable pub tableLines : List (List ℕ) → Reading Table
-tableLines [] = turned no1 1
-tableLines (l ∷ []) = turned no1 1
-tableLines (l ∷ m ∷ ls) = then (tableFields (split 32 l)) (λ h. then (ruleLines (h .k) [] (m ∷ ls)) (wholeTable h))
+-- line 1: TABLE k n total
+unfoldable pub tableLine : List ℕ → Reading Opening
+tableLine text = firstLine tableWord (number 1 mostCapacity) (number 0 totalLimit) text
 
 unfoldable pub readTable : List ℕ → Reading Table
-readTable text = unless (leb (length text) textLimit) no11 0 (tableLines (split 10 text))
+readTable text =
+    then (tableLine text) (λ line.
+    then (ruleLines (line .k) [] (line .behind)) (wholeTable (line .k) (line .second) (line .third)))
 
 -- a table that is no text, checked as its sheet would be: the numbers of line 1, then line by line, then the end
 unfoldable pub isLine : ℕ → Line → Bool
 isLine k l =
-    both (ltb (l .service) 64)
-    (both (both (leb (l .rule .len) k) (ltb (l .rule .value) (2 ^ (l .rule .len))))
-    (ltb (l .rule .backend) 32))
+    both (inLimits 1 mostServices (l .service))
+    (both (isRule k (l .rule)) (inLimits 1 mostBackends (l .rule .backend)))
 
 unfoldable pub checkLines : ℕ → List Line → List Line → Reading (List Line)
 checkLines k before [] = got before
@@ -135,8 +121,8 @@ checkEnd broken a ls = unless (eqb broken 0) no1 0 (unless (closed ls) no9 0 (go
 -- n counts a line of too few fields too
 unfoldable pub checkSheet : Table → ℕ → Reading Table
 checkSheet t broken =
-    unless (both (leb 1 (t .k)) (leb (t .k) 12)) no2 0
-    (unless (both (leb 1 (length (t .lines) + broken)) (leb (length (t .lines) + broken) 2048)) no2 0
+    unless (inLimits 1 mostBits (t .k)) no2 0
+    (unless (inLimits 1 mostCapacity (length (t .lines) + broken)) no2 0
     (unless (leb (t .total) totalLimit) no2 0
     (then (checkLines (t .k) [] (t .lines)) (checkEnd broken t))))
 

@@ -1,10 +1,21 @@
 // What the calls answer.
 use numerals::Refusal;
+ghost use mathlib.Core.Path.{_≡_};
+ghost use Rattle.sheets.specs.Calls.{refusedAt};
 
-// Why a sheet, a call or a buffer is turned back, and the line from 1, or 0 where the line isn't the reason.
+// Why a sheet, a call or a buffer is refused; the line from 1, or 0 where the line isn't the reason; and of two sheets, or
+// of the one call's two lent buffers (figures 1, table 2), the one that it is about, or 0 where it is about neither.
 pub struct Refused {
     pub why: Refusal,
     pub line: usize,
+    pub of: usize,
+}
+
+// A number: how many bytes were written, the label of a backend, how many suffixes moved, or of how many bits the counted
+// suffixes are.
+pub enum Answer {
+    Value(usize),
+    Refused(Refused),
 }
 
 // The measures of a table that was planned.
@@ -15,15 +26,8 @@ pub struct Plan {
     pub total: u64,
 }
 
-// The one call: the plan, or a refusal and the lent buffer that it is about: figures 1, table 2, or 0 for none.
 pub enum Planned {
     Made(Plan),
-    Refused(Refused, usize),
-}
-
-// A text written into a lent buffer: how many bytes of it.
-pub enum Printed {
-    End(usize),
     Refused(Refused),
 }
 
@@ -39,20 +43,9 @@ pub enum TableRead {
     Refused(Refused),
 }
 
-// A backend, by its number from 1.
-pub enum Looked {
-    Backend(usize),
-    Refused(Refused),
-}
-
-// How many suffixes moved, or a refusal and the sheet that it is about: 1, 2, or 0 for neither.
-pub enum Churned {
-    Moved(usize),
-    Refused(Refused, usize),
-}
-
-// The shares of a service were counted, of so many suffix bits.
-pub enum Counted {
-    Shares(usize),
-    Refused(Refused),
+// A refusal that is about neither of two.
+pub fn refused_at(why: Refusal, line: usize) -> Refused
+    ensures { λ r. ⌜ r ≡ refusedAt why line ⌝ }
+{
+    Refused { why, line, of: 0 }
 }

@@ -1,10 +1,12 @@
 // Fields of a line, by their number, and keywords.
+use numerals::Number;
 ghost use mathlib.Core.Path.{_≡_};
 ghost use Prim.Native.Nat.{_≤_};
 ghost use lib.ListN.{length};
 ghost use lib.Seq.{slice};
-ghost use Rattle.sheets.specs.Reading.{same};
-ghost use Rattle.sheets.specs.Parts.{IsField};
+ghost use Rattle.numerals.specs.Decimal.{number};
+ghost use Rattle.sheets.specs.Reading.{same, field};
+ghost use Rattle.sheets.specs.Inner.Fields.{fieldsAt, IsField};
 
 // A part of a text.
 pub struct Span {
@@ -31,6 +33,15 @@ pub fn field_at(s: &[u8], from: usize, to: usize, n: usize) -> Span
         from: at,
         to: numerals::find(s, at, to, 32),
     }
+}
+
+// A number in a field of a line.
+pub fn number_in(text: &[u8], from: usize, to: usize, n: usize, least: u64, most: u64) -> Number
+    requires { ⌜ (from ≤ to) × (to ≤ length (now text)) ⌝ }
+    ensures { λ r. ⌜ r ≡ number least most (field (fieldsAt (now (text .entry)) from to) n) ⌝ }
+{
+    let f = field_at(text, from, to, n);
+    numerals::read_number(text, f.from, f.to, least, most)
 }
 
 // Whether a part of a text is this word.

@@ -1,6 +1,7 @@
 // The percentage sheet, the rule sheet, the one call, lookup, churn and the count of shares.
 mod answer;
 mod fields;
+mod first_line;
 mod order;
 mod percentage_sheet;
 mod planning;
@@ -9,12 +10,9 @@ mod rule_sheet;
 mod shares;
 mod tables;
 
-pub use answer::Churned;
-pub use answer::Counted;
-pub use answer::Looked;
+pub use answer::Answer;
 pub use answer::Plan;
 pub use answer::Planned;
-pub use answer::Printed;
 pub use answer::Refused;
 pub use answer::TableRead;
 pub use answer::TableRecord;

@@ -1,29 +1,27 @@
 // The reader of the percentage sheet, into memory of the library's own: the volume of each service, how many weights it
 // has, and the weights of all in one row.
 use crate::answer::Refused;
+use crate::answer::refused_at;
+use crate::first_line::FirstRead;
+use crate::first_line::Form;
 use numerals::Number;
 use numerals::Refusal;
 ghost use mathlib.Core.Path.{_≡_};
 ghost use Prim.Native.Nat.{_+_, _*_, _≤_, _<_};
 ghost use lib.ListN.{length};
-ghost use lib.Seq.{slice};
-ghost use Rattle.numerals.specs.Decimal.{number};
-ghost use Rattle.numerals.specs.Text.{split};
-ghost use Rattle.sheets.specs.Reading.{field, then};
-ghost use Rattle.sheets.specs.PercentageSheet.{readSheet, serviceLines, whole};
-ghost use Rattle.sheets.specs.Calls.{refusedAt};
-ghost use Rattle.sheets.specs.Kept as kept;
+ghost use Rattle.numerals.specs.Limits.{mostBackends, mostServices};
+ghost use Rattle.sheets.specs.PercentageSheet.{readSheet};
+ghost use Rattle.sheets.specs.Inner.Fields.{linesAt, fieldsAt};
+ghost use Rattle.sheets.specs.Inner.SheetReader.{WeightsOf, VolumeOf, ServiceOf, LineOf, SheetOf, sheetFrom, finished};
+
+// The fields of a service's line: its word, its volume and the weights.
+const MOST_FIELDS: usize = 2 + numerals::MOST_BACKENDS;
 
 // What line 1 says.
 pub struct Head {
     pub k: usize,
     pub tolerance: u64,
     pub capacity: usize,
-}
-
-pub enum HeadRead {
-    Head(Head),
-    Refused(Refusal),
 }
 
 // The weights of a line: their number and their sum.
@@ -60,49 +58,11 @@ pub enum SheetRead {
     Refused(Refused),
 }
 
-// A number in a field of a line.
-pub fn number_in(text: &[u8], from: usize, to: usize, n: usize, least: u64, most: u64) -> Number
-    requires { ⌜ (from ≤ to) × (to ≤ length (now text)) ⌝ }
-    ensures { λ r. ⌜ r ≡ number least most (field (split 32 (slice from to (now (text .entry)))) n) ⌝ }
-{
-    let f = crate::fields::field_at(text, from, to, n);
-    numerals::read_number(text, f.from, f.to, least, most)
-}
-
-// Line 1, between two positions: SHEET k tolerance C.
-fn read_head(text: &[u8], from: usize, to: usize) -> HeadRead
-    requires { ⌜ (from ≤ to) × (to ≤ length (now text)) ⌝ }
-    ensures { λ r. ⌜ kept.HeadOf r (split 32 (slice from to (now (text .entry)))) ⌝ }
-{
-    let word = crate::fields::field_at(text, from, to, 0);
-    if !crate::fields::is_word(text, word.from, word.to, b"SHEET") {
-        return HeadRead::Refused(Refusal::Malformed);
-    }
-    if numerals::count_fields(text, from, to, 32) != 4 {
-        return HeadRead::Refused(Refusal::Malformed);
-    }
-    let Number::Value(k) = number_in(text, from, to, 1, 1, 12) else {
-        return HeadRead::Refused(Refusal::BadField);
-    };
-    let f = crate::fields::field_at(text, from, to, 2);
-    let Number::Value(tolerance) = numerals::read_percentage(text, f.from, f.to) else {
-        return HeadRead::Refused(Refusal::BadField);
-    };
-    let Number::Value(capacity) = number_in(text, from, to, 3, 1, 2048) else {
-        return HeadRead::Refused(Refusal::BadField);
-    };
-    HeadRead::Head(Head {
-        k: k as usize,
-        tolerance,
-        capacity: capacity as usize,
-    })
-}
-
 // The percentages between two positions, each read into the row of weights from place `at` on.
 fn read_weights(text: &[u8], from: usize, to: usize, weights: &mut [u64], at: usize) -> WeightsRead
     requires { ⌜ (from ≤ to) × (to ≤ length (now text)) ⌝ }
-    requires { ⌜ (length (split 32 (slice from to (now text))) ≤ 32) × (at + 32 ≤ length (now weights)) ⌝ }
-    ensures { λ r. ⌜ kept.WeightsOf r (now (weights .entry)) (now (weights .exit)) at (split 32 (slice from to (now (text .entry)))) ⌝ }
+    requires { ⌜ (length (fieldsAt (now text) from to) ≤ mostBackends) × (at + mostBackends ≤ length (now weights)) ⌝ }
+    ensures { λ r. ⌜ WeightsOf r (now (weights .entry)) (now (weights .exit)) at (fieldsAt (now (text .entry)) from to) ⌝ }
 {
     let mut start = from;
     let mut count = 0;
@@ -123,23 +83,30 @@ fn read_weights(text: &[u8], from: usize, to: usize, weights: &mut [u64], at: us
 // The line of service i up to its weights: SERVICE volume, and the number of its fields.
 fn read_volume(text: &[u8], from: usize, to: usize, i: usize) -> VolumeRead
     requires { ⌜ (from ≤ to) × (to ≤ length (now text)) ⌝ }
-    ensures { λ r. ⌜ kept.VolumeOf r i (split 32 (slice from to (now (text .entry)))) ⌝ }
+    ensures { λ r. ⌜ VolumeOf r i (fieldsAt (now (text .entry)) from to) ⌝ }
 {
     let word = crate::fields::field_at(text, from, to, 0);
     if !crate::fields::is_word(text, word.from, word.to, b"SERVICE") {
         return VolumeRead::Refused(Refusal::Malformed);
     }
-    if 64 <= i {
+    if numerals::MOST_SERVICES <= i {
         return VolumeRead::Refused(Refusal::TooMany);
     }
     let count = numerals::count_fields(text, from, to, 32);
     if count < 3 {
         return VolumeRead::Refused(Refusal::Malformed);
     }
-    if 34 < count {
+    if MOST_FIELDS < count {
         return VolumeRead::Refused(Refusal::TooMany);
     }
-    let Number::Value(volume) = number_in(text, from, to, 1, 0, 10000) else {
+    let Number::Value(volume) = crate::fields::number_in(
+        text,
+        from,
+        to,
+        1,
+        0,
+        numerals::MOST_VOLUME,
+    ) else {
         return VolumeRead::Refused(Refusal::BadField);
     };
     VolumeRead::Volume(volume)
@@ -156,9 +123,9 @@ fn read_service(
     at: usize,
 ) -> ServiceRead
     requires { ⌜ (from ≤ to) × (to ≤ length (now text)) ⌝ }
-    requires { ⌜ (64 ≤ length (now volumes)) × (2048 ≤ length (now weights)) ⌝ }
-    requires { ⌜ at ≤ 32 * i ⌝ }
-    ensures { λ r. ⌜ kept.ServiceOf r (now (volumes .entry)) (now (volumes .exit)) (now (weights .entry)) (now (weights .exit)) at i (split 32 (slice from to (now (text .entry)))) ⌝ }
+    requires { ⌜ (mostServices ≤ length (now volumes)) × (mostServices * mostBackends ≤ length (now weights)) ⌝ }
+    requires { ⌜ at ≤ mostBackends * i ⌝ }
+    ensures { λ r. ⌜ ServiceOf r (now (volumes .entry)) (now (volumes .exit)) (now (weights .entry)) (now (weights .exit)) at i (fieldsAt (now (text .entry)) from to) ⌝ }
 {
     let opened = read_volume(text, from, to, i);
     match opened {
@@ -169,7 +136,7 @@ fn read_service(
             match read {
                 WeightsRead::Refused(why) => ServiceRead::Refused(why),
                 WeightsRead::Weights { count, sum } => {
-                    if sum != 1000000 {
+                    if sum != numerals::UNIT {
                         return ServiceRead::Refused(Refusal::Unbalanced);
                     }
                     volumes[i] = volume;
@@ -190,9 +157,9 @@ fn read_line(
     at: usize,
 ) -> LineRead
     requires { ⌜ start < length (now text) ⌝ }
-    requires { ⌜ (64 ≤ length (now volumes)) × (2048 ≤ length (now weights)) ⌝ }
-    requires { ⌜ at ≤ 32 * i ⌝ }
-    ensures { λ r. ⌜ kept.LineOf r (now (text .entry)) (now (volumes .entry)) (now (volumes .exit)) (now (weights .entry)) (now (weights .exit)) at i start ⌝ }
+    requires { ⌜ (mostServices ≤ length (now volumes)) × (mostServices * mostBackends ≤ length (now weights)) ⌝ }
+    requires { ⌜ at ≤ mostBackends * i ⌝ }
+    ensures { λ r. ⌜ LineOf r (now (text .entry)) (now (volumes .entry)) (now (volumes .exit)) (now (weights .entry)) (now (weights .exit)) at i start ⌝ }
 {
     let end = numerals::find(text, start, text.len(), 10);
     if text.len() <= end {
@@ -208,21 +175,15 @@ fn read_line(
     }
 }
 
-fn refused(why: Refusal, line: usize) -> SheetRead
-    ensures { λ r. ⌜ r ≡ SheetRead.Refused (refusedAt why line) ⌝ }
-{
-    SheetRead::Refused(Refused { why, line })
-}
-
 // After the lines: no service, then a capacity below their number.
 fn finish(head: Head, services: usize, row: usize) -> SheetRead
-    ensures { λ r. ⌜ r ≡ kept.finished head services row ⌝ }
+    ensures { λ r. ⌜ r ≡ finished head services row ⌝ }
 {
     if services == 0 {
-        return refused(Refusal::NoService, 1);
+        return SheetRead::Refused(refused_at(Refusal::NoService, 1));
     }
     if head.capacity < services {
-        return refused(Refusal::TableShort, 1);
+        return SheetRead::Refused(refused_at(Refusal::TableShort, 1));
     }
     SheetRead::Sheet {
         head,
@@ -241,8 +202,8 @@ fn read_services(
     weights: &mut [u64],
 ) -> SheetRead
     requires { ⌜ from ≤ length (now text) ⌝ }
-    requires { ⌜ (64 ≤ length (now volumes)) × ((64 ≤ length (now sizes)) × (2048 ≤ length (now weights))) ⌝ }
-    ensures { λ r. ⌜ kept.SheetOf r (then (serviceLines 0 (split 10 (slice from (length (now (text .entry))) (now (text .entry))))) (whole (kept.headOf head))) (now (volumes .exit)) (now (sizes .exit)) (now (weights .exit)) ⌝ }
+    requires { ⌜ (mostServices ≤ length (now volumes)) × ((mostServices ≤ length (now sizes)) × (mostServices * mostBackends ≤ length (now weights))) ⌝ }
+    ensures { λ r. ⌜ SheetOf r (sheetFrom head (linesAt (now (text .entry)) from)) (now (volumes .exit)) (now (sizes .exit)) (now (weights .exit)) ⌝ }
 {
     let mut start = from;
     let mut i = 0;
@@ -251,7 +212,7 @@ fn read_services(
         let read = read_line(text, start, i, volumes, weights, at);
         match read {
             LineRead::Refused(why) => {
-                return refused(why, i + 2);
+                return SheetRead::Refused(refused_at(why, i + 2));
             }
             LineRead::Service { count, next } => {
                 sizes[i] = count;
@@ -271,19 +232,27 @@ pub fn read_sheet(
     sizes: &mut [usize],
     weights: &mut [u64],
 ) -> SheetRead
-    requires { ⌜ (64 ≤ length (now volumes)) × ((64 ≤ length (now sizes)) × (2048 ≤ length (now weights))) ⌝ }
-    ensures { λ r. ⌜ kept.SheetOf r (readSheet (now (text .entry))) (now (volumes .exit)) (now (sizes .exit)) (now (weights .exit)) ⌝ }
+    requires { ⌜ (mostServices ≤ length (now volumes)) × ((mostServices ≤ length (now sizes)) × (mostServices * mostBackends ≤ length (now weights))) ⌝ }
+    ensures { λ r. ⌜ SheetOf r (readSheet (now (text .entry))) (now (volumes .exit)) (now (sizes .exit)) (now (weights .exit)) ⌝ }
 {
-    if 65536 < text.len() {
-        return refused(Refusal::TooLong, 0);
-    }
-    let end = numerals::find(text, 0, text.len(), 10);
-    if text.len() <= end {
-        return refused(Refusal::Malformed, 1);
-    }
-    let read = read_head(text, 0, end);
+    let read = crate::first_line::read_first_line(
+        text,
+        b"SHEET",
+        Form::Percentage,
+        Form::Limits {
+            least: 1,
+            most: numerals::MOST_CAPACITY as u64,
+        },
+    );
     match read {
-        HeadRead::Head(head) => read_services(text, head, end + 1, volumes, sizes, weights),
-        HeadRead::Refused(why) => refused(why, 1),
+        FirstRead::Refused(why) => SheetRead::Refused(why),
+        FirstRead::Line(line) => {
+            let head = Head {
+                k: line.k,
+                tolerance: line.second,
+                capacity: line.third as usize,
+            };
+            read_services(text, head, line.next, volumes, sizes, weights)
+        }
     }
 }

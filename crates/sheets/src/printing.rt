@@ -1,54 +1,51 @@
 // The writer of the rule sheet.
-use crate::answer::Printed;
-use crate::answer::Refused;
+use crate::answer::Answer;
+use crate::answer::refused_at;
 use crate::order::Last;
 use crate::order::Placed;
+use crate::order::TALLY;
 use expansion::Checked;
 use numerals::Refusal;
 use numerals::Written;
 ghost use mathlib.Core.Path.{_≡_};
-ghost use mathlib.Core.List.{List, [], _∷_, _++_};
-ghost use Prim.Native.Nat.{ℕ, _+_, _*_, _/_, _^_, _≤_, _<_};
+ghost use mathlib.Core.Bool.{true};
+ghost use mathlib.Core.List.{[], _∷_, _++_};
+ghost use Prim.Native.Nat.{_+_, _*_, _/_, _^_, _≤_, _<_};
 ghost use lib.Dec.{leb};
 ghost use lib.ListN.{length};
 ghost use lib.Seq.{slice};
-ghost use Rattle.numerals.specs.Decimal.{width, decimal};
+ghost use Rattle.numerals.specs.Limits.{mostBits, mostServices, mostCapacity};
+ghost use Rattle.numerals.specs.Decimal.{decimal};
 ghost use Rattle.numerals.specs.Suffix.{suffixText};
 ghost use Rattle.sheets.specs.RuleSheet.{tableText, lineText, isLine};
-ghost use Rattle.packing.specs.Count.{Line as RuleOf};
-ghost use Rattle.sheets.specs.Behind.{line, Behind};
-ghost use Rattle.sheets.specs.Rows.{lineAt, Limited};
-ghost use Rattle.sheets.specs.Writing.{Wrote, Before, endAt, headText, lineWidth, counted, tableIn, CheckedAs, checkedFrom, CheckedLine};
+ghost use Rattle.sheets.specs.Inner.TableNumbers.{line, lineAt, tableIn, RuleLines};
+ghost use Rattle.sheets.specs.Inner.Writing.{Wrote, Before, endAt, headText, lineWidth, counted, CheckedAs, checkedCells, Checking, handed};
 ghost use Rattle.sheets.specs.Calls as calls;
 
-// The sum of two widths. Widths are counted up to one byte more than a text may have, so that no sum wraps.
+// One byte more than a text may have. Widths are counted up to it, so that no sum wraps.
+const OVER: usize = numerals::TEXT_LIMIT + 1;
+
+// The sum of two widths.
 fn add_width(a: usize, b: usize) -> usize
     ensures { λ r. ⌜ r ≡ counted (a + b) ⌝ }
 {
-    if 65537 <= a {
-        return 65537;
+    if OVER <= a {
+        return OVER;
     }
-    if 65537 - a <= b {
-        return 65537;
+    if OVER - a <= b {
+        return OVER;
     }
     a + b
-}
-
-// How many bytes the number of a service or a backend has: counted from 0, written from 1.
-fn place_width(place: usize) -> usize
-    ensures { λ r. ⌜ r ≡ width (place + 1) ⌝ }
-{
-    if place < 9 {
-        return 1;
-    }
-    numerals::decimal_width((place as u64 - 9) / 10 + 1) + 1
 }
 
 // How many bytes the text of a line has.
 fn line_width(service: usize, len: usize, backend: usize) -> usize
     ensures { λ r. ⌜ r ≡ counted (lineWidth service len backend) ⌝ }
 {
-    add_width(len, place_width(service) + place_width(backend) + 4)
+    add_width(
+        len,
+        numerals::decimal_width(service as u64) + numerals::decimal_width(backend as u64) + 4,
+    )
 }
 
 // How many lines so many numbers are, a last one of fewer than four too.
@@ -79,7 +76,7 @@ pub fn text_width(k: usize, total: u64, table: &[usize], to: usize) -> usize
     if to % 4 == 0 {
         return width;
     }
-    add_width(width, place_width(table[4 * i]) + 1)
+    add_width(width, numerals::decimal_width(table[4 * i] as u64) + 1)
 }
 
 // A separator behind a text that was written; the position after it.
@@ -107,7 +104,7 @@ fn put_number(out: &mut [u8], at: usize, n: u64, separator: u8) -> usize
 
 // A suffix and a space behind it; the position after them.
 fn put_suffix(out: &mut [u8], at: usize, len: usize, value: usize) -> usize
-    requires { ⌜ ((len ≤ 12) × (value < 2 ^ len)) × (at + (len + 1) < length (now out)) ⌝ }
+    requires { ⌜ ((len ≤ mostBits) × (value < 2 ^ len)) × (at + (len + 1) < length (now out)) ⌝ }
     ensures { λ r. ⌜ Wrote (now (out .entry)) (now (out .exit)) at r (suffixText len value ++ 32 ∷ []) ⌝ }
 {
     let written = numerals::write_suffix(out, at, len, value);
@@ -139,17 +136,17 @@ fn put_line(
     value: usize,
     backend: usize,
 ) -> usize
-    requires { ⌜ (((service < 64) × ((len ≤ 12) × (backend < 32))) × (value < 2 ^ len)) × (at + lineWidth service len backend ≤ length (now out)) ⌝ }
+    requires { ⌜ (isLine mostBits (line service len value backend) ≡ true) × (at + lineWidth service len backend ≤ length (now out)) ⌝ }
     ensures { λ r. ⌜ Wrote (now (out .entry)) (now (out .exit)) at r (lineText (line service len value backend)) ⌝ }
 {
-    let a = put_number(out, at, service as u64 + 1, 32);
+    let a = put_number(out, at, service as u64, 32);
     let b = put_suffix(out, a, len, value);
-    put_number(out, b, backend as u64 + 1, 10)
+    put_number(out, b, backend as u64, 10)
 }
 
 // The text of a table, into a buffer that has room for it; how many bytes it has.
 pub fn put_table(out: &mut [u8], k: usize, total: u64, table: &[usize], n: usize) -> usize
-    requires { ⌜ (n ≤ 2048) × (Limited (now table) n × (length (tableText (tableIn k total (now table) n)) ≤ length (now out))) ⌝ }
+    requires { ⌜ (n ≤ mostCapacity) × (RuleLines (now table) n × (length (tableText (tableIn k total (now table) n)) ≤ length (now out))) ⌝ }
     ensures { λ r. ⌜ Wrote (now (out .entry)) (now (out .exit)) 0 r (tableText (tableIn k total (now (table .entry)) n)) ⌝ }
 {
     let mut at = put_head(out, k, n, total);
@@ -165,36 +162,36 @@ pub fn put_table(out: &mut [u8], k: usize, total: u64, table: &[usize], n: usize
 // Whether the text of a table whose lines are proper fits into so many bytes. It never has more than a text may, so where
 // there is room for that it isn't counted.
 fn fits(k: usize, total: u64, table: &[usize], n: usize, room: usize) -> bool
-    requires { ⌜ (n ≤ 2048) × Limited (now table) n ⌝ }
+    requires { ⌜ (n ≤ mostCapacity) × RuleLines (now table) n ⌝ }
     ensures { λ r. ⌜ r ≡ leb (length (tableText (tableIn k total (now (table .entry)) n))) room ⌝ }
 {
-    if 65536 <= room {
+    if numerals::TEXT_LIMIT <= room {
         return true;
     }
     text_width(k, total, table, 4 * n) <= room
 }
 
 // The text of a table whose lines are proper, into a lent buffer.
-pub fn print(k: usize, total: u64, table: &[usize], n: usize, out: &mut [u8]) -> Printed
-    requires { ⌜ (n ≤ 2048) × Limited (now table) n ⌝ }
+pub fn print(k: usize, total: u64, table: &[usize], n: usize, out: &mut [u8]) -> Answer
+    requires { ⌜ (n ≤ mostCapacity) × RuleLines (now table) n ⌝ }
     ensures answer { λ r. ⌜ r ≡ calls.printText (tableText (tableIn k total (now (table .entry)) n)) (length (now (out .entry))) ⌝ }
-    ensures buffer { λ r. ⌜ now (out .exit) ≡ calls.printFilled r (now (out .entry)) (tableText (tableIn k total (now (table .entry)) n)) ⌝ }
+    ensures buffer { λ r. ⌜ now (out .exit) ≡ calls.afterwards (calls.isValue r) (now (out .entry)) (tableText (tableIn k total (now (table .entry)) n)) ⌝ }
 {
     if !fits(k, total, table, n, out.len()) {
-        return Printed::Refused(Refused {
-            why: Refusal::ShortLoan,
-            line: 0,
-        });
+        return Answer::Refused(refused_at(Refusal::ShortLoan, 0));
     }
-    Printed::End(put_table(out, k, total, table, n))
+    Answer::Value(put_table(out, k, total, table, n))
 }
 
 // A line of numbers has the form and the limits of a rule line.
 fn is_line(k: usize, service: usize, len: usize, value: usize, backend: usize) -> bool
-    requires { ⌜ k ≤ 12 ⌝ }
+    requires { ⌜ k ≤ mostBits ⌝ }
     ensures { λ r. ⌜ r ≡ isLine k (line service len value backend) ⌝ }
 {
-    if 64 <= service {
+    if service < 1 {
+        return false;
+    }
+    if numerals::MOST_SERVICES < service {
         return false;
     }
     if k < len {
@@ -204,13 +201,13 @@ fn is_line(k: usize, service: usize, len: usize, value: usize, backend: usize) -
     if all <= value {
         return false;
     }
-    backend < 32
+    0 < backend && backend <= numerals::MOST_BACKENDS
 }
 
 // Line i of a table that is no text, behind those before it.
 fn check_line(k: usize, table: &[usize], i: usize, last: Last, tally: &mut [usize]) -> Placed
-    requires { ⌜ (k ≤ 12) × ((4 * i + 3 < length (now table)) × ((last .count ≤ 2048) × (length (now tally) ≡ 64))) ⌝ }
-    ensures { λ r. ⌜ ((before : List RuleOf) → Behind before last (now (tally .entry)) → CheckedLine k before (lineAt (now (table .entry)) i) r (now (tally .exit))) ⌝ }
+    requires { ⌜ (k ≤ mostBits) × ((4 * i + 3 < length (now table)) × ((last .count ≤ mostCapacity) × (length (now tally) ≡ 1 + mostServices))) ⌝ }
+    ensures { λ r. ⌜ Checking k last (lineAt (now (table .entry)) i) (now (tally .entry)) r (now (tally .exit)) ⌝ }
 {
     let c = 4 * i;
     let service = table[c];
@@ -223,10 +220,10 @@ fn check_line(k: usize, table: &[usize], i: usize, last: Last, tally: &mut [usiz
 
 // The lines of a table that is no text, in their order; numbers left over are a last line of too few fields.
 fn check_lines(k: usize, table: &[usize]) -> Checked
-    requires { ⌜ (k ≤ 12) × (length (now table) / 4 ≤ 2048) ⌝ }
-    ensures { λ r. ⌜ CheckedAs r (checkedFrom k (length (calls.brokenFrom (now (table .entry)))) [] (calls.linesFrom (now (table .entry)))) (tt {0}) ⌝ }
+    requires { ⌜ (k ≤ mostBits) × (length (now table) / 4 ≤ mostCapacity) ⌝ }
+    ensures { λ r. ⌜ CheckedAs r (checkedCells k (now (table .entry))) (tt {0}) ⌝ }
 {
-    let mut tally = [0usize; 64];
+    let mut tally = [0usize; TALLY];
     let mut last = Last {
         count: 0,
         service: 0,
@@ -257,39 +254,39 @@ fn check_lines(k: usize, table: &[usize]) -> Checked
 
 // A table that is no text, checked as its sheet would be.
 fn check_table(k: usize, total: u64, table: &[usize]) -> Checked
-    ensures { λ r. ⌜ CheckedAs r (calls.tableHanded k total (now (table .entry))) (record { k = k; total = total; lines = calls.linesFrom (now (table .entry)) }) ⌝ }
+    ensures { λ r. ⌜ CheckedAs r (calls.tableHanded k total (now (table .entry))) (handed k total (now (table .entry))) ⌝ }
 {
-    if 65536 < text_width(k, total, table, table.len()) {
+    if numerals::TEXT_LIMIT < text_width(k, total, table, table.len()) {
         return Checked::Refused(Refusal::TooLong);
     }
     if k < 1 {
         return Checked::Refused(Refusal::BadField);
     }
-    if 12 < k {
+    if numerals::MOST_BITS < k {
         return Checked::Refused(Refusal::BadField);
     }
     let n = line_count(table.len());
     if n < 1 {
         return Checked::Refused(Refusal::BadField);
     }
-    if 2048 < n {
+    if numerals::MOST_CAPACITY < n {
         return Checked::Refused(Refusal::BadField);
     }
-    if 2621440000000000 < total {
+    if numerals::TOTAL_LIMIT < total {
         return Checked::Refused(Refusal::BadField);
     }
     check_lines(k, table)
 }
 
-// The rule sheet of a table: four numbers for each line, its service, the length and the value of its suffix, and its
-// backend, services and backends by their place from 0.
-pub fn write_table(k: usize, total: u64, table: &[usize], out: &mut [u8]) -> Printed
+// The rule sheet of a table: four numbers for each line, its service, the length and the value of its suffix, and the
+// label of its backend.
+pub fn write_table(k: usize, total: u64, table: &[usize], out: &mut [u8]) -> Answer
     ensures answer { λ r. ⌜ r ≡ calls.printRead (calls.tableHanded k total (now (table .entry))) tableText (length (now (out .entry))) ⌝ }
-    ensures buffer { λ r. ⌜ now (out .exit) ≡ calls.printFilled r (now (out .entry)) (calls.textOf (calls.tableHanded k total (now (table .entry))) tableText) ⌝ }
+    ensures buffer { λ r. ⌜ now (out .exit) ≡ calls.afterwards (calls.isValue r) (now (out .entry)) (calls.valuesOf (calls.tableHanded k total (now (table .entry))) tableText) ⌝ }
 {
     let checked = check_table(k, total, table);
     if let Checked::Refused(why) = checked {
-        return Printed::Refused(Refused { why, line: 0 });
+        return Answer::Refused(refused_at(why, 0));
     }
     print(k, total, table, table.len() / 4, out)
 }

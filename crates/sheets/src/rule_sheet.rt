@@ -1,7 +1,13 @@
 // The reader of the rule sheet, into memory of the library's own: four numbers for each line.
 use crate::answer::Refused;
+use crate::answer::refused_at;
+use crate::first_line::FirstRead;
+use crate::first_line::Form;
 use crate::order::Last;
 use crate::order::Placed;
+use crate::order::TALLY;
+use numerals::MOST_BACKENDS;
+use numerals::MOST_SERVICES;
 use numerals::Number;
 use numerals::Refusal;
 use numerals::SuffixRead;
@@ -9,13 +15,17 @@ ghost use mathlib.Core.Path.{_≡_};
 ghost use mathlib.Core.List.{List, [], _∷_};
 ghost use Prim.Native.Nat.{_+_, _*_, _≤_};
 ghost use lib.ListN.{length};
-ghost use lib.Seq.{slice, sets};
-ghost use Rattle.numerals.specs.Text.{split};
+ghost use lib.Seq.{sets};
+ghost use Rattle.numerals.specs.Limits.{mostCapacity};
 ghost use Rattle.packing.specs.Count.{Line as RuleOf};
 ghost use Rattle.packing.specs.Answer.{cells};
-ghost use Rattle.sheets.specs.RuleSheet.{wholeTable, readTable};
-ghost use Rattle.sheets.specs.Behind.{lastOf};
-ghost use Rattle.sheets.specs.Rows as rows;
+ghost use Rattle.sheets.specs.RuleSheet.{readTable};
+ghost use Rattle.sheets.specs.Inner.Fields.{linesAt, fieldsAt};
+ghost use Rattle.sheets.specs.Inner.Order.{lastOf};
+ghost use Rattle.sheets.specs.Inner.TableReader.{lineOf, LineAs, Passed, Taking, sheetAnswer, Filled, tableOf, tableFrom};
+
+// The places of a table in numbers.
+pub const CELLS: usize = 4 * numerals::MOST_CAPACITY;
 
 // What line 1 says.
 pub struct TableHead {
@@ -24,12 +34,7 @@ pub struct TableHead {
     pub total: u64,
 }
 
-pub enum TableHeadRead {
-    Head(TableHead),
-    Refused(Refusal),
-}
-
-// A line: service and backend by their place from 0.
+// A line: the service by its number, the backend by its label.
 pub struct RuleLine {
     pub service: usize,
     pub len: usize,
@@ -48,71 +53,50 @@ pub enum SheetLines {
     Refused(Refused),
 }
 
-// Line 1: TABLE k n total.
-fn read_table_head(text: &[u8], from: usize, to: usize) -> TableHeadRead
-    requires { ⌜ (from ≤ to) × (to ≤ length (now text)) ⌝ }
-    ensures { λ r. ⌜ rows.HeadAs r (split 32 (slice from to (now (text .entry)))) ⌝ }
-{
-    let word = crate::fields::field_at(text, from, to, 0);
-    if !crate::fields::is_word(text, word.from, word.to, b"TABLE") {
-        return TableHeadRead::Refused(Refusal::Malformed);
-    }
-    if numerals::count_fields(text, from, to, 32) != 4 {
-        return TableHeadRead::Refused(Refusal::Malformed);
-    }
-    let Number::Value(k) = crate::percentage_sheet::number_in(text, from, to, 1, 1, 12) else {
-        return TableHeadRead::Refused(Refusal::BadField);
-    };
-    let Number::Value(n) = crate::percentage_sheet::number_in(text, from, to, 2, 1, 2048) else {
-        return TableHeadRead::Refused(Refusal::BadField);
-    };
-    let Number::Value(total) = crate::percentage_sheet::number_in(
-        text,
-        from,
-        to,
-        3,
-        0,
-        2621440000000000,
-    ) else {
-        return TableHeadRead::Refused(Refusal::BadField);
-    };
-    TableHeadRead::Head(TableHead {
-        k: k as usize,
-        n: n as usize,
-        total,
-    })
-}
-
 // A rule line by its fields: service suffix backend.
 fn read_line(text: &[u8], from: usize, to: usize, k: usize) -> LineRead
     requires { ⌜ (from ≤ to) × (to ≤ length (now text)) ⌝ }
-    ensures { λ r. ⌜ rows.LineAs r k (split 32 (slice from to (now (text .entry)))) ⌝ }
+    ensures { λ r. ⌜ LineAs r k (fieldsAt (now (text .entry)) from to) ⌝ }
 {
     if numerals::count_fields(text, from, to, 32) != 3 {
         return LineRead::Refused(Refusal::Malformed);
     }
-    let Number::Value(service) = crate::percentage_sheet::number_in(text, from, to, 0, 1, 64) else {
+    let Number::Value(service) = crate::fields::number_in(
+        text,
+        from,
+        to,
+        0,
+        1,
+        MOST_SERVICES as u64,
+    ) else {
         return LineRead::Refused(Refusal::BadField);
     };
     let f = crate::fields::field_at(text, from, to, 1);
     let SuffixRead::Suffix { len, value } = numerals::read_suffix(text, f.from, f.to, k) else {
         return LineRead::Refused(Refusal::BadField);
     };
-    let Number::Value(backend) = crate::percentage_sheet::number_in(text, from, to, 2, 1, 32) else {
+    let Number::Value(backend) = crate::fields::number_in(
+        text,
+        from,
+        to,
+        2,
+        1,
+        MOST_BACKENDS as u64,
+    ) else {
         return LineRead::Refused(Refusal::BadField);
     };
     LineRead::Line(RuleLine {
-        service: service as usize - 1,
+        service: service as usize,
         len,
         value,
-        backend: backend as usize - 1,
+        backend: backend as usize,
     })
 }
 
 // The numbers of line i.
 fn store_line(table: &mut [usize], i: usize, line: RuleLine)
     requires { ⌜ 4 * i + 4 ≤ length (now table) ⌝ }
-    ensures { λ _. ⌜ now (table .exit) ≡ sets (now (table .entry)) (4 * i) (cells (rows.lineOf line ∷ [])) ⌝ }
+    ensures { λ _. ⌜ now (table .exit) ≡ sets (now (table .entry)) (4 * i) (cells (lineOf line ∷ [])) ⌝ }
 {
     let at = 4 * i;
     table[at] = line.service;
@@ -132,8 +116,8 @@ fn take_line(
     table: &mut [usize],
 ) -> Placed
     requires { ⌜ (from ≤ to) × (to ≤ length (now text)) ⌝ }
-    requires { ⌜ ((before : List RuleOf) × rows.Passed k before last (now tally) (now table)) ⌝ }
-    ensures { λ r. ⌜ ((before : List RuleOf) → rows.Passed k before last (now (tally .entry)) (now (table .entry)) → rows.TakenAs k before (split 32 (slice from to (now (text .entry)))) r (now (tally .exit)) (now (table .exit))) ⌝ }
+    requires { ⌜ ((before : List RuleOf) × Passed k before last (now tally) (now table)) ⌝ }
+    ensures { λ r. ⌜ Taking k last (fieldsAt (now (text .entry)) from to) (now (tally .entry)) (now (table .entry)) r (now (tally .exit)) (now (table .exit)) ⌝ }
 {
     let read = read_line(text, from, to, k);
     match read {
@@ -151,36 +135,30 @@ fn take_line(
     }
 }
 
-fn refused(why: Refusal, line: usize) -> SheetLines
-    ensures { λ r. ⌜ r ≡ SheetLines.Refused (record { why = why; line = line }) ⌝ }
-{
-    SheetLines::Refused(Refused { why, line })
-}
-
 // After the lines: no service, then another number of lines than n, then a last line without `*`.
 fn finish(head: TableHead, last: Last) -> SheetLines
-    requires { ⌜ last .count ≤ 2048 ⌝ }
-    ensures { λ r. ⌜ ((all : List RuleOf) → last ≡ lastOf all → r ≡ rows.sheetAnswer (wholeTable (rows.headOf head) all)) ⌝ }
+    requires { ⌜ last .count ≤ mostCapacity ⌝ }
+    ensures { λ r. ⌜ ((all : List RuleOf) → last ≡ lastOf all → r ≡ sheetAnswer (tableOf head all)) ⌝ }
 {
     if last.count == 0 {
-        return refused(Refusal::NoService, 1);
+        return SheetLines::Refused(refused_at(Refusal::NoService, 1));
     }
     if last.count != head.n {
-        return refused(Refusal::Miscount, 1);
+        return SheetLines::Refused(refused_at(Refusal::Miscount, 1));
     }
     if last.len != 0 {
-        return refused(Refusal::Order, last.count + 1);
+        return SheetLines::Refused(refused_at(Refusal::Order, last.count + 1));
     }
     SheetLines::Table(head)
 }
 
 // The rule lines, from a position on.
 fn read_lines(text: &[u8], head: TableHead, from: usize, table: &mut [usize]) -> SheetLines
-    requires { ⌜ (from ≤ length (now text)) × (length (now table) ≡ 8192) ⌝ }
-    ensures answer { λ r. ⌜ r ≡ rows.sheetAnswer (rows.tableFrom (rows.headOf head) [] (split 10 (slice from (length (now (text .entry))) (now (text .entry))))) ⌝ }
-    ensures buffer { λ _. ⌜ rows.Filled (rows.tableFrom (rows.headOf head) [] (split 10 (slice from (length (now (text .entry))) (now (text .entry))))) (now (table .exit)) ⌝ }
+    requires { ⌜ (from ≤ length (now text)) × (length (now table) ≡ 4 * mostCapacity) ⌝ }
+    ensures answer { λ r. ⌜ r ≡ sheetAnswer (tableFrom head [] (linesAt (now (text .entry)) from)) ⌝ }
+    ensures buffer { λ _. ⌜ Filled (tableFrom head [] (linesAt (now (text .entry)) from)) (now (table .exit)) ⌝ }
 {
-    let mut tally = [0usize; 64];
+    let mut tally = [0usize; TALLY];
     let mut last = Last {
         count: 0,
         service: 0,
@@ -190,12 +168,12 @@ fn read_lines(text: &[u8], head: TableHead, from: usize, table: &mut [usize]) ->
     while start < text.len() {
         let end = numerals::find(text, start, text.len(), 10);
         if text.len() <= end {
-            return refused(Refusal::Malformed, last.count + 2);
+            return SheetLines::Refused(refused_at(Refusal::Malformed, last.count + 2));
         }
         let placed = take_line(text, start, end, head.k, last, &mut tally, table);
         match placed {
             Placed::Refused(why) => {
-                return refused(why, last.count + 2);
+                return SheetLines::Refused(refused_at(why, last.count + 2));
             }
             Placed::Next(next) => {
                 last = next;
@@ -208,20 +186,31 @@ fn read_lines(text: &[u8], head: TableHead, from: usize, table: &mut [usize]) ->
 
 // A rule sheet.
 pub fn read_sheet_lines(text: &[u8], table: &mut [usize]) -> SheetLines
-    requires { ⌜ length (now table) ≡ 8192 ⌝ }
-    ensures answer { λ r. ⌜ r ≡ rows.sheetAnswer (readTable (now (text .entry))) ⌝ }
-    ensures buffer { λ _. ⌜ rows.Filled (readTable (now (text .entry))) (now (table .exit)) ⌝ }
+    requires { ⌜ length (now table) ≡ 4 * mostCapacity ⌝ }
+    ensures answer { λ r. ⌜ r ≡ sheetAnswer (readTable (now (text .entry))) ⌝ }
+    ensures buffer { λ _. ⌜ Filled (readTable (now (text .entry))) (now (table .exit)) ⌝ }
 {
-    if 65536 < text.len() {
-        return refused(Refusal::TooLong, 0);
-    }
-    let end = numerals::find(text, 0, text.len(), 10);
-    if text.len() <= end {
-        return refused(Refusal::Malformed, 1);
-    }
-    let read = read_table_head(text, 0, end);
+    let read = crate::first_line::read_first_line(
+        text,
+        b"TABLE",
+        Form::Limits {
+            least: 1,
+            most: numerals::MOST_CAPACITY as u64,
+        },
+        Form::Limits {
+            least: 0,
+            most: numerals::TOTAL_LIMIT,
+        },
+    );
     match read {
-        TableHeadRead::Head(head) => read_lines(text, head, end + 1, table),
-        TableHeadRead::Refused(why) => refused(why, 1),
+        FirstRead::Refused(why) => SheetLines::Refused(why),
+        FirstRead::Line(line) => {
+            let head = TableHead {
+                k: line.k,
+                n: line.second as usize,
+                total: line.third,
+            };
+            read_lines(text, head, line.next, table)
+        }
     }
 }

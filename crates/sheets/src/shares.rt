@@ -1,25 +1,27 @@
 // The shares of a service of a rule sheet, by the count by first match.
-use crate::answer::Counted;
-use crate::answer::Refused;
+use crate::answer::Answer;
+use crate::answer::refused_at;
+use crate::rule_sheet::CELLS;
 use crate::rule_sheet::SheetLines;
+use numerals::MOST_BACKENDS;
 use numerals::Refusal;
 ghost use mathlib.Core.Path.{_≡_};
-ghost use Prim.Native.Nat.{ℕ, _-_, _≤_, _<_};
+ghost use Prim.Native.Nat.{_≤_};
 ghost use lib.ListN.{length};
 ghost use lib.Seq.{sets};
+ghost use Rattle.numerals.specs.Limits.{mostBits, mostBackends};
 ghost use Rattle.sheets.specs.RuleSheet.{readTable};
-ghost use Rattle.sheets.specs.Calls.{textOf};
-ghost use Rattle.sheets.specs.Shares.{sharesBelow, sharesOf, countAnswer, countFilled};
-ghost use Rattle.sheets.specs.Writing.{linesIn};
-ghost use Rattle.sheets.specs.Rows.{Limited, firstOf};
+ghost use Rattle.sheets.specs.Calls.{valuesOf, afterwards, isValue};
+ghost use Rattle.sheets.specs.Shares.{sharesOf, countAnswer};
+ghost use Rattle.sheets.specs.Inner.TableNumbers.{linesIn, RuleLines};
 
-// How many of the suffixes below `all` each backend of a service is given.
-fn tally(table: &[usize], n: usize, service: usize, all: usize) -> [u64; 32]
-    requires { ⌜ (Limited (now table) n) × (0 < service) ⌝ }
-    requires { ⌜ ((v : ℕ) → firstOf (linesIn (now table) n) service v ≤ 32) ⌝ }
-    ensures { λ r. ⌜ r ≡ sharesBelow all (linesIn (now (table .entry)) n) (service - 1) ⌝ }
+// How many of the k-bit suffixes each backend of a service is given.
+fn tally(table: &[usize], n: usize, service: usize, k: usize) -> [u64; MOST_BACKENDS]
+    requires { ⌜ (RuleLines (now table) n) × (k ≤ mostBits) ⌝ }
+    ensures { λ r. ⌜ r ≡ sharesOf k (linesIn (now (table .entry)) n) service ⌝ }
 {
-    let mut counts = [0u64; 32];
+    let all: usize = 1 << k;
+    let mut counts = [0u64; MOST_BACKENDS];
     let mut s = 0;
     while s < all {
         let b = crate::tables::first_backend(table, n, service, s);
@@ -32,40 +34,36 @@ fn tally(table: &[usize], n: usize, service: usize, all: usize) -> [u64; 32]
 }
 
 // The counts, into a lent buffer that is long enough.
-fn store(counts: [u64; 32], shares: &mut [u64])
-    requires { ⌜ 32 ≤ length (now shares) ⌝ }
+fn store(counts: [u64; MOST_BACKENDS], shares: &mut [u64])
+    requires { ⌜ mostBackends ≤ length (now shares) ⌝ }
     ensures { λ _. ⌜ now (shares .exit) ≡ sets (now (shares .entry)) 0 counts ⌝ }
 {
     let mut b = 0;
-    while b < 32 {
+    while b < MOST_BACKENDS {
         shares[b] = counts[b];
         b += 1;
     }
 }
 
-// The shares of backends 1 to 32 of a service of a rule sheet, into a lent buffer.
-pub fn count_shares(text: &[u8], service: usize, shares: &mut [u64]) -> Counted
+// The shares of the backends with labels 1 to 32 of a service of a rule sheet, into a lent buffer.
+pub fn count_shares(text: &[u8], service: usize, shares: &mut [u64]) -> Answer
     ensures answer { λ r. ⌜ r ≡ countAnswer (now (text .entry)) service (length (now (shares .entry))) ⌝ }
-    ensures buffer { λ r. ⌜ now (shares .exit) ≡ countFilled r (now (shares .entry)) (textOf (readTable (now (text .entry))) (λ t. sharesOf t service)) ⌝ }
+    ensures buffer { λ r. ⌜ now (shares .exit) ≡ afterwards (isValue r) (now (shares .entry)) (valuesOf (readTable (now (text .entry))) (λ t. sharesOf (t .k) (t .lines) service)) ⌝ }
 {
-    let mut lines = [0usize; 8192];
+    let mut lines = [0usize; CELLS];
     let read = crate::rule_sheet::read_sheet_lines(text, &mut lines);
     match read {
-        SheetLines::Refused(why) => Counted::Refused(why),
+        SheetLines::Refused(why) => Answer::Refused(why),
         SheetLines::Table(head) => {
             if crate::tables::first_backend(&lines, head.n, service, 0) == 0 {
-                return Counted::Refused(crate::tables::unknown());
+                return Answer::Refused(refused_at(Refusal::UnknownService, 0));
             }
-            if shares.len() < 32 {
-                return Counted::Refused(Refused {
-                    why: Refusal::ShortLoan,
-                    line: 0,
-                });
+            if shares.len() < MOST_BACKENDS {
+                return Answer::Refused(refused_at(Refusal::ShortLoan, 0));
             }
-            let all: usize = 1 << head.k;
-            let counts = tally(&lines, head.n, service, all);
+            let counts = tally(&lines, head.n, service, head.k);
             store(counts, shares);
-            Counted::Shares(head.k)
+            Answer::Value(head.k)
         }
     }
 }

@@ -1,9 +1,10 @@
 // Calls on rule sheets: their table, lookup and churn.
-use crate::answer::Churned;
-use crate::answer::Looked;
+use crate::answer::Answer;
 use crate::answer::Refused;
 use crate::answer::TableRead;
 use crate::answer::TableRecord;
+use crate::answer::refused_at;
+use crate::rule_sheet::CELLS;
 use crate::rule_sheet::SheetLines;
 use crate::rule_sheet::TableHead;
 use numerals::Refusal;
@@ -11,28 +12,28 @@ ghost use mathlib.Core.Path.{_≡_};
 ghost use Prim.Native.Nat.{_≤_};
 ghost use lib.ListN.{length, take};
 ghost use lib.Seq.{sets};
+ghost use Rattle.numerals.specs.Limits.{mostBits};
+ghost use Rattle.expansion.specs.FirstMatch.{firstMatch};
+ghost use Rattle.packing.specs.Count.{ownRules};
 ghost use Rattle.packing.specs.Answer.{cells};
 ghost use Rattle.sheets.specs.RuleSheet.{readTable};
 ghost use Rattle.sheets.specs.Calls as calls;
-ghost use Rattle.sheets.specs.Writing.{linesIn};
-ghost use Rattle.sheets.specs.Rows.{Limited, firstOf, movedOf, comparedOf};
+ghost use Rattle.sheets.specs.Inner.TableNumbers.{linesIn, RuleLines};
+ghost use Rattle.sheets.specs.Inner.Churn.{compared};
 
 // The table of a rule sheet, four numbers for each line, into a lent buffer.
 pub fn read_table(text: &[u8], table: &mut [usize]) -> TableRead
     ensures answer { λ r. ⌜ r ≡ calls.readAnswer (now (text .entry)) (length (now (table .entry))) ⌝ }
-    ensures buffer { λ r. ⌜ now (table .exit) ≡ calls.readFilled r (now (table .entry)) (calls.textOf (readTable (now (text .entry))) (λ t. cells (t .lines))) ⌝ }
+    ensures buffer { λ r. ⌜ now (table .exit) ≡ calls.afterwards (calls.isTable r) (now (table .entry)) (calls.valuesOf (readTable (now (text .entry))) (λ t. cells (t .lines))) ⌝ }
 {
-    let mut lines = [0usize; 8192];
+    let mut lines = [0usize; CELLS];
     let read = crate::rule_sheet::read_sheet_lines(text, &mut lines);
     match read {
         SheetLines::Refused(why) => TableRead::Refused(why),
         SheetLines::Table(head) => {
             let n = head.n;
             if table.len() < 4 * n {
-                return TableRead::Refused(Refused {
-                    why: Refusal::ShortLoan,
-                    line: 0,
-                });
+                return TableRead::Refused(refused_at(Refusal::ShortLoan, 0));
             }
             copy(&lines, table, 4 * n);
             TableRead::Made(TableRecord {
@@ -56,18 +57,18 @@ fn copy(from: &[usize], to: &mut [usize], n: usize)
     }
 }
 
-// The number from 1 of the backend of the first line of a service that matches an address; 0 where there is none.
+// The label of the backend of the first line of a service that matches an address; 0 where there is none.
 pub fn first_backend(table: &[usize], n: usize, service: usize, address: usize) -> usize
-    requires { ⌜ Limited (now table) n ⌝ }
-    ensures { λ r. ⌜ r ≡ firstOf (linesIn (now (table .entry)) n) service address ⌝ }
+    requires { ⌜ RuleLines (now table) n ⌝ }
+    ensures { λ r. ⌜ r ≡ firstMatch (ownRules service (linesIn (now (table .entry)) n)) address ⌝ }
 {
     let mut left = n;
     while 0 < left {
         let i = n - left;
-        if table[4 * i] + 1 == service {
+        if table[4 * i] == service {
             let all: usize = 1 << table[4 * i + 1];
             if address % all == table[4 * i + 2] {
-                return table[4 * i + 3] + 1;
+                return table[4 * i + 3];
             }
         }
         left -= 1;
@@ -75,45 +76,30 @@ pub fn first_backend(table: &[usize], n: usize, service: usize, address: usize) 
     0
 }
 
-pub fn unknown() -> Refused
-    ensures { λ r. ⌜ r ≡ calls.refusedAt Refusal.UnknownService 0 ⌝ }
-{
-    Refused {
-        why: Refusal::UnknownService,
-        line: 0,
-    }
-}
-
-// The backend, by its number, that the rule sheet gives a service's address to.
-pub fn lookup(text: &[u8], service: usize, address: u32) -> Looked
+// The label of the backend that the rule sheet gives a service's address to.
+pub fn lookup(text: &[u8], service: usize, address: u32) -> Answer
     ensures { λ r. ⌜ r ≡ calls.lookupAnswer (now (text .entry)) service address ⌝ }
 {
-    let mut lines = [0usize; 8192];
+    let mut lines = [0usize; CELLS];
     let read = crate::rule_sheet::read_sheet_lines(text, &mut lines);
     match read {
-        SheetLines::Refused(why) => Looked::Refused(why),
+        SheetLines::Refused(why) => Answer::Refused(why),
         SheetLines::Table(head) => {
             let b = first_backend(&lines, head.n, service, address as usize);
             if b == 0 {
-                return Looked::Refused(unknown());
+                return Answer::Refused(refused_at(Refusal::UnknownService, 0));
             }
-            Looked::Backend(b)
+            Answer::Value(b)
         }
     }
 }
 
-// How many of the suffixes below `all` the two tables give to unlike backends.
-fn count_moved(
-    old: &[usize],
-    n: usize,
-    new: &[usize],
-    m: usize,
-    service: usize,
-    all: usize,
-) -> usize
-    requires { ⌜ (Limited (now old) n) × (Limited (now new) m) ⌝ }
-    ensures { λ r. ⌜ r ≡ movedOf all (linesIn (now (old .entry)) n) (linesIn (now (new .entry)) m) service ⌝ }
+// How many of the k-bit suffixes the two tables give to unlike backends.
+fn count_moved(old: &[usize], n: usize, new: &[usize], m: usize, service: usize, k: usize) -> usize
+    requires { ⌜ (RuleLines (now old) n) × ((RuleLines (now new) m) × (k ≤ mostBits)) ⌝ }
+    ensures { λ r. ⌜ r ≡ calls.moved k (linesIn (now (old .entry)) n) (linesIn (now (new .entry)) m) service ⌝ }
 {
+    let all: usize = 1 << k;
     let mut moved = 0;
     let mut s = 0;
     while s < all {
@@ -126,37 +112,40 @@ fn count_moved(
 }
 
 // What churn finds between two tables that were read.
-fn compare(old: &[usize], a: TableHead, new: &[usize], b: TableHead, service: usize) -> Churned
-    requires { ⌜ (Limited (now old) (a .n)) × ((Limited (now new) (b .n)) × (a .k ≤ 12)) ⌝ }
-    ensures { λ r. ⌜ r ≡ comparedOf (a .k) (linesIn (now (old .entry)) (a .n)) (b .k) (linesIn (now (new .entry)) (b .n)) service ⌝ }
+fn compare(old: &[usize], a: TableHead, new: &[usize], b: TableHead, service: usize) -> Answer
+    requires { ⌜ (RuleLines (now old) (a .n)) × ((RuleLines (now new) (b .n)) × (a .k ≤ mostBits)) ⌝ }
+    ensures { λ r. ⌜ r ≡ compared (a .k) (linesIn (now (old .entry)) (a .n)) (b .k) (linesIn (now (new .entry)) (b .n)) service ⌝ }
 {
     if first_backend(old, a.n, service, 0) == 0 {
-        return Churned::Refused(unknown(), 1);
+        return Answer::Refused(Refused {
+            why: Refusal::UnknownService,
+            line: 0,
+            of: 1,
+        });
     }
     if first_backend(new, b.n, service, 0) == 0 {
-        return Churned::Refused(unknown(), 2);
+        return Answer::Refused(Refused {
+            why: Refusal::UnknownService,
+            line: 0,
+            of: 2,
+        });
     }
     if a.k != b.k {
-        let why = Refused {
-            why: Refusal::Depth,
-            line: 0,
-        };
-        return Churned::Refused(why, 0);
+        return Answer::Refused(refused_at(Refusal::Depth, 0));
     }
-    let all: usize = 1 << a.k;
-    Churned::Moved(count_moved(old, a.n, new, b.n, service, all))
+    Answer::Value(count_moved(old, a.n, new, b.n, service, a.k))
 }
 
 // How many suffixes of a service have another backend in the new rule sheet than in the old.
-pub fn churn(old: &[u8], new: &[u8], service: usize) -> Churned
+pub fn churn(old: &[u8], new: &[u8], service: usize) -> Answer
     ensures { λ r. ⌜ r ≡ calls.churnAnswer (now (old .entry)) (now (new .entry)) service ⌝ }
 {
-    let mut first = [0usize; 8192];
+    let mut first = [0usize; CELLS];
     let old_read = crate::rule_sheet::read_sheet_lines(old, &mut first);
     let SheetLines::Table(a) = old_read else {
         return refused_sheet(old_read, 1);
     };
-    let mut second = [0usize; 8192];
+    let mut second = [0usize; CELLS];
     let new_read = crate::rule_sheet::read_sheet_lines(new, &mut second);
     let SheetLines::Table(b) = new_read else {
         return refused_sheet(new_read, 2);
@@ -164,12 +153,24 @@ pub fn churn(old: &[u8], new: &[u8], service: usize) -> Churned
     compare(&first, a, &second, b, service)
 }
 
-// The refusal of a sheet that was read.
-fn refused_sheet(read: SheetLines, which: usize) -> Churned
-    ensures { λ r. ⌜ ((why : Refused) → read ≡ SheetLines.Refused why → r ≡ Churned.Refused why which) ⌝ }
+// A refusal, about one of two sheets.
+fn about(w: Refused, of: usize) -> Refused
+    ensures { λ r. ⌜ r ≡ calls.about of (w .why) (w .line) ⌝ }
+{
+    let why = w.why;
+    Refused {
+        why,
+        line: w.line,
+        of,
+    }
+}
+
+// The refusal of one of two sheets that were read.
+fn refused_sheet(read: SheetLines, of: usize) -> Answer
+    ensures { λ r. ⌜ ((w : Refused) → read ≡ SheetLines.Refused w → r ≡ Answer.Refused (calls.about of (w .why) (w .line))) ⌝ }
 {
     match read {
-        SheetLines::Refused(why) => Churned::Refused(why, which),
-        SheetLines::Table(_) => Churned::Moved(0),
+        SheetLines::Refused(w) => Answer::Refused(about(w, of)),
+        SheetLines::Table(_) => Answer::Value(0),
     }
 }

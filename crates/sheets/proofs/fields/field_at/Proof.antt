@@ -6,7 +6,7 @@ use lib.ListN.{length, drop, List·getD-eq-default}
 use lib.Seq.{slice, slice-empty}
 use Rattle.numerals.specs.Text.{split}
 use Rattle.numerals.proofs.Fields.{cut-le}
-use Rattle.sheets.proofs.Parts.{field-here, field-next, field-last}
+use Rattle.sheets.proofs.FieldParts.{field-here, field-next, field-last}
 use Rattle.sheets.proofs.fields.field_at.Statement.{statement}
 use Rattle.sheets.proofs.fields.field_at.Tie as tie
 

@@ -6,7 +6,8 @@ use Prim.Native.Nat.{ℕ}
 use borrow.Author.Tests.{eq-eqb, ne-eqb, lt-ltb, le-ltb}
 use Rattle.packing.specs.Count.{Line}
 use Rattle.sheets.specs.RuleSheet.{inOrder}
-use Rattle.sheets.specs.Behind.{line, lastOf}
+use Rattle.sheets.specs.Inner.TableNumbers.{line}
+use Rattle.sheets.specs.Inner.Order.{lastOf}
 use Rattle.sheets.specs.declared.order.Last.{Last}
 use Rattle.sheets.proofs.Following.{orderBy, order-last}
 use Rattle.sheets.proofs.order.in_order.Statement.{statement}

@@ -6,7 +6,7 @@ use native.Mathlib.Omega.{arith}
 use borrow.Author.Needs.{needs}
 use borrow.Author.Tests.{not-true, not-false, ltb-true, ltb-false}
 use Rattle.sheets.specs.Reading.{unless}
-use Rattle.sheets.specs.Behind.{line}
+use Rattle.sheets.specs.Inner.TableNumbers.{line}
 use Rattle.sheets.proofs.Following.{too-many, by-order, behind-next}
 use Rattle.sheets.proofs.order.place_line.Statement.{statement}
 use Rattle.sheets.proofs.order.place_line.Tie as tie

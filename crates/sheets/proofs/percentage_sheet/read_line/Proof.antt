@@ -63,8 +63,8 @@ same-length-2 c = search needs
 returns-2 : tie.Need-returns-2
 unfolding then
 returns-2 c =
-    let turned = rw (c .before .read .given .1) at (c .before .before .before .before .before .before .before .read-service .ensures) in
-    line (c .before .before .before .before .before .before .before .before .before .before) ∙ rw turned
+    let refused = rw (c .before .read .given .1) at (c .before .before .before .before .before .before .before .read-service .ensures) in
+    line (c .before .before .before .before .before .before .before .before .before .before) ∙ rw refused
 
 same-length-3 : tie.Need-same-length-3
 same-length-3 c = search needs

@@ -11,7 +11,7 @@ use borrow.Author.Tests.{eq-eqb, ne-eqb}
 use Rattle.numerals.specs.Text.{split}
 use Rattle.numerals.specs.Limits.{unit}
 use Rattle.sheets.specs.Reading.{then, unless}
-use Rattle.sheets.specs.Kept.{Opened, Weighed}
+use Rattle.sheets.specs.Inner.SheetReader.{Opened, Weighed}
 use Rattle.sheets.proofs.percentage_sheet.read_service.Statement.{statement}
 use Rattle.sheets.proofs.percentage_sheet.read_service.Tie as tie
 
@@ -85,8 +85,8 @@ same-length-2 c = search needs
 returns-3 : tie.Need-returns-3
 unfolding then
 returns-3 c =
-    let turned = rw (rest (c .before .before .before .before .before .before .before)) at (rw (c .before .read .given .1) at (c .before .before .before .before .before .read-weights .ensures)) in
-    opened (c .before .before .before .before .before .before .before .before) .rest ∙ rw (turned _)
+    let refused = rw (rest (c .before .before .before .before .before .before .before)) at (rw (c .before .read .given .1) at (c .before .before .before .before .before .read-weights .ensures)) in
+    opened (c .before .before .before .before .before .before .before .before) .rest ∙ rw (refused _)
 
 same-length-3 : tie.Need-same-length-3
 same-length-3 c = search needs

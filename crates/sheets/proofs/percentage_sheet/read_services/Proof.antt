@@ -9,8 +9,8 @@ use borrow.Author.Needs.{needs}
 use Rattle.numerals.specs.Text.{split}
 use Rattle.sheets.specs.Reading.{got, then}
 use Rattle.sheets.specs.PercentageSheet.{Service, serviceLines, volumesOf, weightsOf}
-use Rattle.sheets.specs.Kept.{Holds, Followed}
-use Rattle.sheets.proofs.Steps.{behind, behind-none, behind-one, behind-all, behind-turned, lines-end}
+use Rattle.sheets.specs.Inner.SheetReader.{Holds, Followed, sheetFrom}
+use Rattle.sheets.proofs.Steps.{behind, behind-none, behind-one, behind-all, behind-refused, lines-end}
 use Rattle.sheets.proofs.Memory.{volumes-more, weights-more, holds-none, holds-more, kept-whole}
 use Rattle.sheets.proofs.percentage_sheet.read_services.Statement.{statement}
 use Rattle.sheets.proofs.percentage_sheet.read_services.Tie as tie
@@ -57,11 +57,11 @@ read-line-requires c κs = (omega arith, ((omega arith, omega arith), omega arit
 enum-known-read : tie.Need-enum-known-read Inv-loop μ-loop
 enum-known-read c = search needs
 
-add-refused : tie.Need-add-refused Inv-loop μ-loop
-add-refused c = omega (arith, c .before .before .before .before .before .before .before .before .before .before .before .loop .inv .holds .few)
+add-refused-at : tie.Need-add-refused-at Inv-loop μ-loop
+add-refused-at c = omega (arith, c .before .before .before .before .before .before .before .before .before .before .before .loop .inv .holds .few)
 
-refused-requires : tie.Need-refused-requires Inv-loop μ-loop
-refused-requires c κs = tt
+refused-at-requires : tie.Need-refused-at-requires Inv-loop μ-loop
+refused-at-requires c κs = tt
 
 same-length : tie.Need-same-length Inv-loop μ-loop
 same-length c = c .before .before .before .before .before .before .before .before .read-line .kept .1 .1 .1 .0 ∙ c .before .before .before .before .before .before .before .before .before .before .before .before .loop .inv .long-volumes
@@ -73,11 +73,11 @@ same-length-3 : tie.Need-same-length-3 Inv-loop μ-loop
 same-length-3 c = c .before .before .before .before .before .before .before .before .read-line .kept .1 .1 .1 .1 .0 ∙ c .before .before .before .before .before .before .before .before .before .before .before .before .loop .inv .long-weights
 
 returns : tie.Need-returns Inv-loop μ-loop
-unfolding then
+unfolding sheetFrom then
 returns c =
     let i = c .before .before .before .before .before .before .before .before .before .before .before .before .loop .inv in
-    let turned = rw (c .before .before .read .given .1) at (c .before .before .before .before .before .before .before .before .read-line .ensures) in
-    rw (c .refused .ensures, i .read, turned, behind-turned (i .done)) refl
+    let line = rw (c .before .before .read .given .1) at (c .before .before .before .before .before .before .before .before .read-line .ensures) in
+    rw (c .refused-at .ensures, i .read, line, behind-refused (i .done)) (refl, refl)
 
 enum-known-read-2 : tie.Need-enum-known-read-2 Inv-loop μ-loop
 enum-known-read-2 c = search needs
@@ -137,7 +137,7 @@ same-length-6 : tie.Need-same-length-6 Inv-loop μ-loop
 same-length-6 c = c .before .before .loop .inv .long-weights
 
 returns-2 : tie.Need-returns-2 Inv-loop μ-loop
-unfolding then split
+unfolding sheetFrom then split
 returns-2 c =
     let a = c .before .before .before .before .before .before .before .args in
     let l = c .before .before .loop in
@@ -156,8 +156,8 @@ read-services-spec =
     loop-holds
     read-line-requires
     enum-known-read
-    add-refused
-    refused-requires
+    add-refused-at
+    refused-at-requires
     same-length
     same-length-2
     same-length-3

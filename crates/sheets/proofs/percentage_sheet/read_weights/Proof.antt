@@ -12,7 +12,7 @@ use Rattle.numerals.specs.declared.digits.Number.the-variants.{Value}
 use Rattle.numerals.proofs.Fields.{cut-le}
 use Rattle.sheets.specs.PercentageSheet.{weightFields}
 use Rattle.sheets.specs.PercentageSheet as sheet
-use Rattle.sheets.proofs.Parts.{fieldsLeft, left-all, left-none, left-more}
+use Rattle.sheets.proofs.FieldParts.{fieldsLeft, left-all, left-none, left-more}
 use Rattle.sheets.proofs.SheetLimits.{percent-limit}
 use Rattle.sheets.proofs.Steps.{behind, behind-none, behind-all, weights-more, weights-bad, sum-more, row-more}
 use Rattle.sheets.proofs.percentage_sheet.read_weights.Statement.{statement}

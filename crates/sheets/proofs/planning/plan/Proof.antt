@@ -1,14 +1,16 @@
 -- `planning::plan` meets its contract: what the memory holds is packed.
 use Prim.Native.Nat.{_≤_}
-use mathlib.Core.Path.{_≡_, refl, sym}
+use mathlib.Core.Path.{_≡_, refl, sym, ap}
 use native.Mathlib.Omega.{arith}
 use lib.ListN.{length}
 use lib.Seq.{length-take-le}
 use borrow.Author.Needs.{needs}
 use Rattle.sheets.specs.PercentageSheet.{readSheet}
-use Rattle.sheets.specs.Calls.{planAnswer, fromSheet, planFilled, figuresFor, cellsFor}
-use Rattle.sheets.specs.Kept.{SheetKept}
-use Rattle.sheets.specs.FromPacking.{planFrom}
+use Rattle.sheets.specs.Calls.{valuesOf, afterwards, isPlan, planAnswer, figuresFor, cellsFor}
+use Rattle.sheets.specs.Inner.SheetReader.{SheetHeld}
+use Rattle.sheets.specs.Inner.Planning.{planFrom}
+use Rattle.sheets.specs.declared.answer.Planned.the-variants.{Refused}
+use Rattle.sheets.proofs.Reader.{about-none}
 use Rattle.sheets.proofs.Packable.{held-figures, held-cells, plan-made, plan-buffer}
 use Rattle.sheets.proofs.planning.plan.Statement.{statement}
 use Rattle.sheets.proofs.planning.plan.Tie as tie
@@ -31,22 +33,22 @@ enum-known-read c = search needs
 enum-known-read-2 : tie.Need-enum-known-read-2
 enum-known-read-2 c = search needs
 
-kept :
+held :
     (c : tie.After-known-told2)
     → let l = c .before .before .before .before .before .before .read-sheet .last in
     let g = c .before .read2 .given .0 in
-    SheetKept (readSheet (c .before .before .before .before .before .before .before .before .before .before .before .before .before .args .text .now)) (l .1 .0) (l .1 .1 .0) (l .1 .1 .1 .0) (g .0) (g .1 .0) (g .1 .1 .0)
-kept c = rw (c .before .read2 .given .1) at (c .before .before .before .before .before .before .read-sheet .ensures)
+    SheetHeld (readSheet (c .before .before .before .before .before .before .before .before .before .before .before .before .before .args .text .now)) (l .1 .0) (l .1 .1 .0) (l .1 .1 .1 .0) (g .0) (g .1 .0) (g .1 .1 .0)
+held c = rw (c .before .read2 .given .1) at (c .before .before .before .before .before .before .read-sheet .ensures)
 
 -- the arrays are long enough
 room-volumes : (c : tie.After-known-told2) → c .before .read2 .given .0 .1 .0 ≤ length (c .before .before .before .before .before .before .read-sheet .last .1 .0)
-room-volumes c = omega (arith, kept c .holds .few, c .before .before .before .before .before .before .read-sheet .kept .1 .0)
+room-volumes c = omega (arith, held c .holds .few, c .before .before .before .before .before .before .read-sheet .kept .1 .0)
 
 room-sizes : (c : tie.After-known-told2) → c .before .read2 .given .0 .1 .0 ≤ length (c .before .before .before .before .before .before .read-sheet .last .1 .1 .0)
-room-sizes c = omega (arith, kept c .holds .few, c .before .before .before .before .before .before .read-sheet .kept .1 .1 .0)
+room-sizes c = omega (arith, held c .holds .few, c .before .before .before .before .before .before .read-sheet .kept .1 .1 .0)
 
 room-weights : (c : tie.After-known-told2) → c .before .read2 .given .0 .1 .1 .0 ≤ length (c .before .before .before .before .before .before .read-sheet .last .1 .1 .1 .0)
-room-weights c = omega (arith, kept c .holds .few, kept c .holds .short, c .before .before .before .before .before .before .read-sheet .kept .1 .1 .1 .0)
+room-weights c = omega (arith, held c .holds .few, held c .holds .short, c .before .before .before .before .before .before .read-sheet .kept .1 .1 .1 .0)
 
 array-share-prefix-volumes : tie.Need-array-share-prefix-volumes
 array-share-prefix-volumes c = room-volumes (c)
@@ -75,8 +77,8 @@ plan-from-requires c κs = search needs
 returns : tie.Need-returns
 unfolding planAnswer
 returns c =
-    let turned = rw (c .before .read .given .1) at (c .before .before .before .before .before .before .read-sheet .ensures) in
-    (rw turned refl, (refl, refl))
+    let no = rw (c .before .read .given .1) at (c .before .before .before .before .before .before .read-sheet .ensures) in
+    (rw (no .0) (ap Refused (sym (about-none _ (no .1)))), (refl, refl))
 
 same-length : tie.Need-same-length
 same-length c = search needs
@@ -92,17 +94,17 @@ packed :
     let r = planFrom (k .before .read2 .given .0 .0 .k) (k .before .read2 .given .0 .1 .0) (c .pack .result) in
     let l = c .pack .last .1 .1 .1 .1 .1 .1 in
     (r ≡ planAnswer (a .text .now) (length (a .figures .now)) (length (a .table .now)))
-    × ((l .0 ≡ planFilled r (a .figures .now) (fromSheet (readSheet (a .text .now)) figuresFor))
-    × (l .1 .0 ≡ planFilled r (a .table .now) (fromSheet (readSheet (a .text .now)) cellsFor)))
+    × ((l .0 ≡ afterwards (isPlan r) (a .figures .now) (valuesOf (readSheet (a .text .now)) figuresFor))
+    × (l .1 .0 ≡ afterwards (isPlan r) (a .table .now) (valuesOf (readSheet (a .text .now)) cellsFor)))
 packed c =
     let k = c .before .before .before .before .before .before in
     let a = k .before .before .before .before .before .before .before .before .before .before .before .before .before .args in
     let text = a .text .now in
     let p = c .pack .result in (
-      plan-made text (kept k) p (length (a .figures .now)) (length (a .table .now)) (c .pack .ensures .0),
+      plan-made text (held k) p (length (a .figures .now)) (length (a .table .now)) (c .pack .ensures .0),
       (
-        plan-buffer text (kept k) p figuresFor _ (a .figures .now) _ (held-figures text (kept k)) (c .pack .ensures .1 .0),
-        plan-buffer text (kept k) p cellsFor _ (a .table .now) _ (held-cells text (kept k)) (c .pack .ensures .1 .1 .0),
+        plan-buffer text (held k) p figuresFor _ (a .figures .now) _ (held-figures text (held k)) (c .pack .ensures .1 .0),
+        plan-buffer text (held k) p cellsFor _ (a .table .now) _ (held-cells text (held k)) (c .pack .ensures .1 .1 .0),
       ),
     )
 

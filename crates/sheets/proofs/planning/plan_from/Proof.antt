@@ -1,7 +1,7 @@
 -- `planning::plan_from` meets its contract, case by case.
 use mathlib.Core.Path.{sym, ap}
 use borrow.Author.Needs.{needs}
-use Rattle.sheets.specs.FromPacking.{planFrom}
+use Rattle.sheets.specs.Inner.Planning.{planFrom}
 use Rattle.sheets.proofs.planning.plan_from.Statement.{statement}
 use Rattle.sheets.proofs.planning.plan_from.Tie as tie
 

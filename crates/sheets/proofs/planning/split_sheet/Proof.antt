@@ -1,4 +1,4 @@
--- `planning::split_sheet` meets its contract: the plan's table is printed; its buffers are long enough; and what is printed owes nothing.
+-- `planning::split_sheet` meets its contract: the plan's table is printed; its buffers are long enough; and demand 3 holds of what is printed.
 use mathlib.Core.Path.{refl, sym, _∙_}
 use borrow.Author.Needs.{needs}
 use Rattle.sheets.proofs.OneCall.{Left, plan-left, plan-refused, sheet-printed}
@@ -27,7 +27,7 @@ slice-aggregate-print : tie.Need-slice-aggregate-print
 slice-aggregate-print c = search needs
 
 print-requires : tie.Need-print-requires
-print-requires c κs = let L = left (c .before .before) in (L .few, L .limits)
+print-requires c κs = let L = left (c .before .before) in (L .few, L .ruled)
 
 enum-known-planned-2 : tie.Need-enum-known-planned-2
 enum-known-planned-2 c = search needs
@@ -39,12 +39,11 @@ returns : tie.Need-returns
 returns c =
     let L = left (c .before .before .before .before .before) in
     let p = c .before .before .print .ensures in
-    sheet-printed _ (L .sheet) _ (L .read) (L .table) _ _ _ (p .0) (p .1)
+    sheet-printed _ (L .sheet) _ (L .read) (L .table) _ _ _ p
 
 returns-2 : tie.Need-returns-2
 returns-2 c =
-    let e = plan-refused _ _ _ (sym (c .before .before .before .before .before .plan .ensures .0) ∙ c .before .planned2 .given .1) in
-    (rw e, (refl, tt))
+    (plan-refused _ _ (sym (c .before .before .before .before .before .plan .ensures .0) ∙ c .before .planned2 .given .1) _, (refl, tt))
 
 pub split-sheet-spec : {M : Type 1} → statement M
 split-sheet-spec =

@@ -7,7 +7,7 @@ use lib.ListN.{getD}
 use borrow.Author.Needs.{needs}
 use borrow.Author.Tests.{not-true, not-false}
 use Rattle.sheets.specs.RuleSheet.{isLine}
-use Rattle.sheets.specs.Rows.{lineAt}
+use Rattle.sheets.specs.Inner.TableNumbers.{lineAt}
 use Rattle.sheets.proofs.TableChecks.{formed}
 use Rattle.sheets.proofs.Checking.{line-bad, line-placed}
 use Rattle.sheets.proofs.printing.check_line.Statement.{statement}

@@ -6,18 +6,19 @@ use native.Mathlib.Nat.{le-refl}
 use native.Mathlib.Omega.{arith}
 use lib.ListN.{length}
 use borrow.Author.Needs.{needs}
-use Rattle.sheets.specs.Calls.{linesFrom, brokenFrom}
-use Rattle.sheets.specs.Rows.{lineAt}
-use Rattle.sheets.specs.Writing.{checkedFrom}
+use Rattle.numerals.specs.Limits.{mostCapacity}
+use Rattle.sheets.specs.Calls.{brokenFrom}
+use Rattle.sheets.specs.Inner.TableNumbers.{lineAt}
+use Rattle.sheets.specs.Inner.Writing.{checkedFrom, checkedCells}
 use Rattle.sheets.specs.declared.order.Last.{Last}
-use Rattle.sheets.proofs.Rows.{lines-more, lines-none}
-use Rattle.sheets.proofs.Handed.{count-broken}
-use Rattle.sheets.proofs.Checking.{Checking, none-checked, few-checked, too-few, all-sound, left-open}
+use Rattle.sheets.proofs.TableNumbers.{lines-more, lines-none}
+use Rattle.sheets.proofs.NumbersText.{count-broken}
+use Rattle.sheets.proofs.Checking.{Checked, none-checked, few-checked, too-few, all-sound, left-open}
 use Rattle.sheets.proofs.printing.check_lines.Statement.{statement}
 use Rattle.sheets.proofs.printing.check_lines.Tie as tie
 
 abbrev Inv-loop : tie.InvT-loop
-Inv-loop k table tally₀ last₀ i₀ tally last i = (i ≤ length table / 4) × Checking k table i last tally
+Inv-loop k table tally₀ last₀ i₀ tally last i = (i ≤ length table / 4) × Checked k table i last tally
 
 abbrev μ-loop : tie.MeasureT-loop
 μ-loop k table tally₀ last₀ i₀ tally last i = length table / 4 - i
@@ -32,7 +33,7 @@ check-line-requires : tie.Need-check-line-requires Inv-loop μ-loop
 check-line-requires c κs =
     let p = c .before .before .before .before .pre in
     let l = c .before .before .loop in
-    let few : l .last .count ≤ 2048 = omega (arith, few-checked _ _ _ _ _ (l .inv .1), c .before .loop-test .taken, p .1) in
+    let few : l .last .count ≤ mostCapacity = omega (arith, few-checked _ _ _ _ _ (l .inv .1), c .before .loop-test .taken, p .1) in
     (p .0, (omega (arith, c .before .loop-test .taken), (few, l .inv .1 .kept .places)))
 
 enum-known-checked : tie.Need-enum-known-checked Inv-loop μ-loop
@@ -44,8 +45,8 @@ returns c =
     let l = c .before .before .before .before .before .before .before .loop in
     let C = l .inv .1 in
     let h = c .before .before .before .before .before .before .loop-test .taken in
-    let told = rw (c .before .checked .given .1) at (c .before .before .before .before .check-line .ensures (C .before) (C .kept)) in
-    C .left ∙ ap (checkedFrom _ _ (C .before)) (lines-more t (length t) (le-refl _) (l .i) (omega (arith, h))) ∙ told _ _
+    let line = rw (c .before .checked .given .1) at (c .before .before .before .before .check-line .ensures (C .before) (C .kept)) in
+    C .left ∙ ap (checkedFrom _ _ (C .before)) (lines-more t (length t) (le-refl _) (l .i) (omega (arith, h))) ∙ line _ _
 
 enum-known-checked-2 : tie.Need-enum-known-checked-2 Inv-loop μ-loop
 enum-known-checked-2 c = search needs
@@ -62,13 +63,13 @@ loop-again c =
     let l = c .before .before .before .before .before .before .before .loop in
     let C = l .inv .1 in
     let h = c .before .before .before .before .before .before .loop-test .taken in
-    let told = rw (c .before .checked2 .given .1) at (c .before .before .before .before .check-line .ensures (C .before) (C .kept)) in (
+    let line = rw (c .before .checked2 .given .1) at (c .before .before .before .before .check-line .ensures (C .before) (C .kept)) in (
       omega (arith, h),
       record {
         before = lineAt t (l .i) ∷ C .before;
         passed = omega (arith, C .passed);
-        kept = told .1;
-        left = C .left ∙ ap (checkedFrom _ _ (C .before)) (lines-more t (length t) (le-refl _) (l .i) (omega (arith, h))) ∙ told .0 _ _;
+        kept = line .1;
+        left = C .left ∙ ap (checkedFrom _ _ (C .before)) (lines-more t (length t) (le-refl _) (l .i) (omega (arith, h))) ∙ line .0 _ _;
       },
     )
 
@@ -78,7 +79,7 @@ ends :
     → let t = c .before .before .before .args .table .now in
     let k = c .before .before .before .args .k in
     let before = c .before .loop .inv .1 .before in
-    checkedFrom k (length (brokenFrom t)) [] (linesFrom t) ≡ checkedFrom k (length (brokenFrom t)) before []
+    checkedCells k t ≡ checkedFrom k (length (brokenFrom t)) before []
 ends c =
     let t = c .before .before .before .args .table .now in
     let C = c .before .loop .inv .1 in

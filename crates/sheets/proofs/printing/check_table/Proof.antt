@@ -7,10 +7,10 @@ use native.Mathlib.Omega.{arith}
 use lib.ListN.{length}
 use lib.Seq.{slice, take-all}
 use borrow.Author.Tests.{lt-leb}
-use Rattle.numerals.proofs.Choice.{both-false}
-use Rattle.numerals.specs.Limits.{textLimit, totalLimit}
+use Rattle.numerals.specs.Limits.{mostBits, mostCapacity, textLimit, totalLimit}
 use Rattle.sheets.specs.Calls.{handedText}
-use Rattle.sheets.specs.Writing.{counted}
+use Rattle.sheets.specs.Inner.Writing.{counted}
+use Rattle.sheets.proofs.TableChecks.{below-least, above-most}
 use Rattle.sheets.proofs.TableHanded.{handed-long, handed-bits, handed-count, handed-total, handed-lines}
 use Rattle.sheets.proofs.printing.check_table.Statement.{statement}
 use Rattle.sheets.proofs.printing.check_table.Tie as tie
@@ -37,12 +37,12 @@ returns c =
 returns-2 : tie.Need-returns-2
 returns-2 c =
     let k = c .before .before .before .before .args .k in
-    handed-bits k _ _ (short (c .before)) (simp (lt-leb 1 k (c .if2 .taken)))
+    handed-bits k _ _ (short (c .before)) (below-least 1 mostBits k (c .if2 .taken))
 
 returns-3 : tie.Need-returns-3
 returns-3 c =
     let k = c .before .before .before .before .before .args .k in
-    handed-bits k _ _ (short (c .before .before)) (simp (lt-leb k 12 (c .if3 .taken), both-false))
+    handed-bits k _ _ (short (c .before .before)) (above-most 1 mostBits k (c .if3 .taken))
 
 line-count-requires : tie.Need-line-count-requires
 line-count-requires c κs = tt
@@ -56,13 +56,13 @@ returns-4 : tie.Need-returns-4
 returns-4 c =
     let m = n (c .before .before) in
     handed-count _ _ _ (short (c .before .before .before .before)) (c .before .before .before .if2 .left) (c .before .before .if3 .left)
-    (simp (lt-leb 1 m (omega (arith, c .if4 .taken, c .before .line-count .ensures))))
+    (below-least 1 mostCapacity m (omega (arith, c .if4 .taken, c .before .line-count .ensures)))
 
 returns-5 : tie.Need-returns-5
 returns-5 c =
     let m = n (c .before .before .before) in
     handed-count _ _ _ (short (c .before .before .before .before .before)) (c .before .before .before .before .if2 .left) (c .before .before .before .if3 .left)
-    (simp (lt-leb m 2048 (omega (arith, c .if5 .taken, c .before .before .line-count .ensures)), both-false))
+    (above-most 1 mostCapacity m (omega (arith, c .if5 .taken, c .before .before .line-count .ensures)))
 
 returns-6 : tie.Need-returns-6
 unfolding totalLimit
@@ -73,7 +73,7 @@ returns-6 c =
     (c .before .before .before .before .if3 .left)
     (omega (arith, c .before .before .if4 .left, c .before .before .before .line-count .ensures))
     (omega (arith, c .before .if5 .left, c .before .before .before .line-count .ensures))
-    (lt-leb (s .args .total) 2621440000000000 (c .if6 .taken))
+    (lt-leb (s .args .total) totalLimit (c .if6 .taken))
 
 check-lines-requires : tie.Need-check-lines-requires
 check-lines-requires c κs = (c .before .before .before .before .if3 .left, omega (arith, c .before .if5 .left, c .before .before .before .line-count .ensures))

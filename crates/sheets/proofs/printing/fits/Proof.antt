@@ -6,13 +6,15 @@ use lib.Dec.{leb}
 use lib.ListN.{length}
 use borrow.Author.Needs.{needs}
 use borrow.Author.Tests.{le-leb}
+use Rattle.numerals.specs.Limits.{textLimit}
 use Rattle.sheets.specs.RuleSheet.{tableText}
-use Rattle.sheets.specs.Writing.{tableIn}
-use Rattle.sheets.proofs.Handed.{table-short, table-counted}
+use Rattle.sheets.specs.Inner.TableNumbers.{tableIn}
+use Rattle.sheets.proofs.NumbersText.{table-short, table-counted}
 use Rattle.sheets.proofs.printing.fits.Statement.{statement}
 use Rattle.sheets.proofs.printing.fits.Tie as tie
 
 returns : tie.Need-returns
+unfolding textLimit
 returns c =
     let s = c .before .before in
     let short = table-short (s .args .table .now) (s .args .n) (s .pre .1) (s .args .k) (s .args .total) (s .pre .0) (omega arith) (omega arith) in

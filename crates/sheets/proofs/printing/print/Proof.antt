@@ -5,7 +5,7 @@ use native.Mathlib.Omega.{arith}
 use lib.ListN.{length}
 use borrow.Author.Tests.{not-true, not-false, leb-true, leb-false}
 use Rattle.sheets.specs.RuleSheet.{tableText}
-use Rattle.sheets.specs.Writing.{tableIn}
+use Rattle.sheets.specs.Inner.TableNumbers.{tableIn}
 use Rattle.sheets.proofs.Prints.{no-room, printed}
 use Rattle.sheets.proofs.Writes.{same-length}
 use Rattle.sheets.proofs.printing.print.Statement.{statement}
@@ -14,8 +14,11 @@ use Rattle.sheets.proofs.printing.print.Tie as tie
 fits-requires : tie.Need-fits-requires
 fits-requires c κs = c .before .before .pre
 
+refused-at-requires : tie.Need-refused-at-requires
+refused-at-requires c κs = tt
+
 returns : tie.Need-returns
-returns c = no-room _ _ (leb-false _ _ (sym (c .before .fits2 .ensures) ∙ not-true _ (c .if1 .taken)))
+returns c = rw (c .refused-at .ensures) (no-room _ _ (leb-false _ _ (sym (c .before .before .fits2 .ensures) ∙ not-true _ (c .before .if1 .taken))))
 
 put-table-requires : tie.Need-put-table-requires
 put-table-requires c κs =
@@ -31,4 +34,4 @@ returns-2 c =
     printed _ _ _ _ (leb-true _ _ (sym (b .before .fits2 .ensures) ∙ not-false _ (b .if1 .left))) (c .before .before .put-table .ensures)
 
 pub print-spec : {M : Type 1} → statement M
-print-spec = tie.close (tie.spec fits-requires returns put-table-requires same-length-out returns-2)
+print-spec = tie.close (tie.spec fits-requires refused-at-requires returns put-table-requires same-length-out returns-2)

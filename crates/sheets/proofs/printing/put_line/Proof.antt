@@ -5,11 +5,13 @@ use mathlib.Core.List.{[], _∷_, _++_, append-assoc}
 use native.Mathlib.Omega.{arith}
 use lib.ListN.{length-append}
 use Rattle.numerals.specs.Decimal.{decimal}
+use Rattle.numerals.specs.Limits.{mostBits}
 use Rattle.numerals.specs.Suffix.{suffixText}
 use Rattle.numerals.proofs.Decimal.{length-decimal}
 use Rattle.numerals.proofs.Suffix.{length-suffix}
 use Rattle.sheets.specs.RuleSheet.{lineText}
-use Rattle.sheets.specs.Behind.{line}
+use Rattle.sheets.specs.Inner.TableNumbers.{line}
+use Rattle.sheets.proofs.TableChecks.{formed}
 use Rattle.sheets.proofs.Writes.{chain, same-length}
 use Rattle.sheets.proofs.printing.put_line.Statement.{statement}
 use Rattle.sheets.proofs.printing.put_line.Tie as tie
@@ -17,35 +19,30 @@ use Rattle.sheets.proofs.printing.put_line.Tie as tie
 -- a line as it is written
 parts :
     (s l v b : ℕ)
-    → ((decimal (s + 1) ++ 32 ∷ []) ++ (suffixText l v ++ 32 ∷ [])) ++ (decimal (b + 1) ++ 10 ∷ []) ≡ lineText (line s l v b)
+    → ((decimal s ++ 32 ∷ []) ++ (suffixText l v ++ 32 ∷ [])) ++ (decimal b ++ 10 ∷ []) ≡ lineText (line s l v b)
 unfolding lineText
 parts s l v b = simp append-assoc
-
-add-put-number : tie.Need-add-put-number
-add-put-number c = omega arith
 
 put-number-requires : tie.Need-put-number-requires
 put-number-requires c κs =
     let s = c .before .before in
-    omega (arith, s .pre .1, length-decimal (s .args .service + 1))
+    omega (arith, s .pre .1, length-decimal (s .args .service))
 
 put-suffix-requires : tie.Need-put-suffix-requires
 put-suffix-requires c κs =
     let s = c .before .before .before .before .before .before in
+    let f = formed mostBits _ (s .pre .0) in
     let w = c .before .before .before .put-number .ensures in (
-      (s .pre .0 .0 .1 .0, s .pre .0 .1),
+      (f .short, f .bits),
       omega (
         arith,
         s .pre .1,
         w .ends,
         same-length w,
-        length-append (decimal (s .args .service + 1)) (32 ∷ []),
-        length-decimal (s .args .service + 1),
+        length-append (decimal (s .args .service)) (32 ∷ []),
+        length-decimal (s .args .service),
       ),
     )
-
-add-put-number-2 : tie.Need-add-put-number-2
-add-put-number-2 c = omega (arith, c .before .before .before .before .before .before .before .before .before .before .pre .0 .0 .1 .1)
 
 put-number-requires-2 : tie.Need-put-number-requires-2
 put-number-requires-2 c κs =
@@ -58,12 +55,12 @@ put-number-requires-2 c κs =
       s .pre .1,
       both .ends,
       same-length both,
-      length-append (decimal (s .args .service + 1) ++ 32 ∷ []) (suffixText (s .args .len) (s .args .value) ++ 32 ∷ []),
-      length-append (decimal (s .args .service + 1)) (32 ∷ []),
+      length-append (decimal (s .args .service) ++ 32 ∷ []) (suffixText (s .args .len) (s .args .value) ++ 32 ∷ []),
+      length-append (decimal (s .args .service)) (32 ∷ []),
       length-append (suffixText (s .args .len) (s .args .value)) (32 ∷ []),
-      length-decimal (s .args .service + 1),
+      length-decimal (s .args .service),
       length-suffix (s .args .len) (s .args .value),
-      length-decimal (s .args .backend + 1),
+      length-decimal (s .args .backend),
     )
 
 same-length-out : tie.Need-same-length
@@ -80,10 +77,8 @@ pub put-line-spec : {M : Type 1} → statement M
 put-line-spec =
     tie.close
     (tie.spec
-    add-put-number
     put-number-requires
     put-suffix-requires
-    add-put-number-2
     put-number-requires-2
     same-length-out
     returns)

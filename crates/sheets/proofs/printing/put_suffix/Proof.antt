@@ -9,7 +9,7 @@ use Rattle.numerals.specs.Digits.{put, putEnd}
 use Rattle.numerals.specs.Suffix.{suffixText, putSuffix, putSuffixEnd}
 use Rattle.numerals.specs.declared.digits.Written.{Written}
 use Rattle.numerals.proofs.Suffix.{Limits, is-suffix, length-suffix}
-use Rattle.sheets.specs.Writing.{Wrote, Before, endAt}
+use Rattle.sheets.specs.Inner.Writing.{Wrote, Before, endAt}
 use Rattle.sheets.proofs.Writes.{chain, text, before-end}
 use Rattle.sheets.proofs.printing.put_suffix.Statement.{statement}
 use Rattle.sheets.proofs.printing.put_suffix.Tie as tie

@@ -9,10 +9,10 @@ use lib.Seq.{slice}
 use Rattle.packing.specs.Count.{Line}
 use Rattle.sheets.specs.RuleSheet.{lineText, linesText}
 use Rattle.sheets.specs.Calls.{linesFrom}
-use Rattle.sheets.specs.Writing.{Wrote, lineWidth}
+use Rattle.sheets.specs.Inner.Writing.{Wrote, lineWidth}
 use Rattle.sheets.proofs.TableTexts.{linesWidth, length-line}
 use Rattle.sheets.proofs.Writes.{chain, nothing, same-length}
-use Rattle.sheets.proofs.Handed.{width-more, text-more, text-none, table-width, table-parts}
+use Rattle.sheets.proofs.NumbersText.{width-more, text-more, text-none, table-width, table-parts}
 use Rattle.sheets.proofs.printing.put_table.Statement.{statement}
 use Rattle.sheets.proofs.printing.put_table.Tie as tie
 
@@ -103,7 +103,7 @@ put-line-requires c κs =
     let l = c .before .before .before .before .before .before .loop in
     let i = s .args .n - l .left in
     let h : i < s .args .n = omega (arith, c .before .before .before .before .before .loop-test .taken, l .inv .0) in (
-      ((L .service i h, (L .short i h, L .backend i h)), L .bits i h),
+      L .each i h,
       omega (arith, l .inv .1 .room, width-more (s .args .table .now) (s .args .n) L i h),
     )
 

@@ -8,8 +8,8 @@ use Rattle.numerals.specs.Decimal.{width}
 use Rattle.numerals.proofs.Decimal.{width-least}
 use Rattle.numerals.proofs.Slice.{slice-length}
 use Rattle.sheets.specs.Calls.{handedText}
-use Rattle.sheets.specs.Writing.{counted, lineWidth}
-use Rattle.sheets.proofs.Handed.{handedWidth, length-handed, handed-more, handed-none, handed-last}
+use Rattle.sheets.specs.Inner.Writing.{counted, lineWidth}
+use Rattle.sheets.proofs.NumbersText.{handedWidth, length-handed, handed-more, handed-none, handed-last}
 use Rattle.sheets.proofs.printing.text_width.Statement.{statement}
 use Rattle.sheets.proofs.printing.text_width.Tie as tie
 
@@ -130,23 +130,23 @@ returns c =
     let end : s .args .to ≡ 4 * l .i = omega (arith, c .before .loop-test .left, l .inv .0, c .if1 .taken) in
     omega (arith, handed-none (s .args .table .now) (s .args .to) (s .pre) (l .i) end, l .inv .1, l .inv .2)
 
-mul-place-width : tie.Need-mul-place-width Inv-loop μ-loop
-mul-place-width c = omega arith
+mul-decimal-width : tie.Need-mul-decimal-width Inv-loop μ-loop
+mul-decimal-width c = omega arith
 
-mul-place-width-2 : tie.Need-mul-place-width-2 Inv-loop μ-loop
-mul-place-width-2 c = omega arith
+mul-decimal-width-2 : tie.Need-mul-decimal-width-2 Inv-loop μ-loop
+mul-decimal-width-2 c = omega arith
 
-shared-slice-read-place-width : tie.Need-shared-slice-read-place-width Inv-loop μ-loop
-shared-slice-read-place-width c = omega arith
+shared-slice-read-decimal-width : tie.Need-shared-slice-read-decimal-width Inv-loop μ-loop
+shared-slice-read-decimal-width c = omega arith
 
-place-width-requires : tie.Need-place-width-requires Inv-loop μ-loop
-place-width-requires c κs = tt
+decimal-width-requires-4 : tie.Need-decimal-width-requires-4 Inv-loop μ-loop
+decimal-width-requires-4 c κs = tt
 
 add-add-width : tie.Need-add-add-width Inv-loop μ-loop
 add-add-width c =
     let s = c .before .before .before .before .before .before .before .before .before .before in
     let i = c .before .before .before .before .loop .i in
-    omega (arith, width-least 19 (getD (s .args .table .now) (4 * i) 0 + 1) (omega (arith, c .before .shared-slice-known5 .given (4 * i))))
+    omega (arith, width-least 19 (getD (s .args .table .now) (4 * i) 0) (omega (arith, c .before .shared-slice-known5 .given (4 * i))))
 
 add-width-requires-2 : tie.Need-add-width-requires-2 Inv-loop μ-loop
 add-width-requires-2 c κs = tt
@@ -161,7 +161,7 @@ returns-2 c =
       arith,
       handed-last (s .args .table .now) (s .args .to) (s .pre) (l .i) some (omega (arith, h, l .inv .0)),
       c .add-width2 .ensures,
-      c .before .place-width .ensures,
+      c .before .decimal-width4 .ensures,
       l .inv .2,
     )
 
@@ -194,10 +194,10 @@ text-width-spec =
     loop-less
     loop-again
     returns
-    mul-place-width
-    mul-place-width-2
-    shared-slice-read-place-width
-    place-width-requires
+    mul-decimal-width
+    mul-decimal-width-2
+    shared-slice-read-decimal-width
+    decimal-width-requires-4
     add-add-width
     add-width-requires-2
     returns-2)

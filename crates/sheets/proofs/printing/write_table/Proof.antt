@@ -1,8 +1,9 @@
--- `printing::write_table` meets its contract: a table that passes is printed, any other is turned back.
+-- `printing::write_table` meets its contract: a table that passes is printed, any other is refused.
 use mathlib.Core.Path.{_≡_, refl}
 use borrow.Author.Needs.{needs}
 use Rattle.sheets.specs.Reading.{got}
 use Rattle.sheets.specs.Calls as calls
+use Rattle.sheets.specs.Inner.Writing.{handed}
 use Rattle.sheets.proofs.TableHanded.{accepted}
 use Rattle.sheets.proofs.printing.write_table.Statement.{statement}
 use Rattle.sheets.proofs.printing.write_table.Tie as tie
@@ -13,21 +14,24 @@ check-table-requires c κs = tt
 enum-known-checked : tie.Need-enum-known-checked
 enum-known-checked c = search needs
 
+refused-at-requires : tie.Need-refused-at-requires
+refused-at-requires c κs = tt
+
 returns : tie.Need-returns
-returns c = (rw (rw (c .before .checked .given .1) at (c .before .before .before .check-table .ensures)), refl)
+returns c = rw (c .refused-at .ensures, rw (c .before .before .checked .given .1) at (c .before .before .before .before .check-table .ensures)) (refl, refl)
 
 enum-told : tie.Need-enum-told
 enum-told c = search needs
 
 -- the table passed
-told :
+passed :
     (c : tie.After-enum-told)
     → let a = c .before .before .before .before .before .args in
-    calls.tableHanded (a .k) (a .total) (a .table .now) ≡ got (record { k = a .k; total = a .total; lines = calls.linesFrom (a .table .now) })
-told c = rw (c .enum-told .given .1) at (c .before .before .check-table .ensures)
+    calls.tableHanded (a .k) (a .total) (a .table .now) ≡ got (handed (a .k) (a .total) (a .table .now))
+passed c = rw (c .enum-told .given .1) at (c .before .before .check-table .ensures)
 
 print-requires : tie.Need-print-requires
-print-requires c κs = let A = accepted _ _ _ _ (told (c .before)) in (A .few, A .limits)
+print-requires c κs = let A = accepted _ _ _ _ (passed (c .before)) in (A .few, A .ruled)
 
 same-length : tie.Need-same-length
 same-length c = search needs
@@ -35,7 +39,7 @@ same-length c = search needs
 returns-2 : tie.Need-returns-2
 returns-2 c =
     let p = c .before .before .print .ensures in
-    let e = told (c .before .before .before .before) in
+    let e = passed (c .before .before .before .before) in
     let A = accepted _ _ _ _ e in
     (rw (e, ← A .table) (p .0), rw (e, ← A .table) (p .1))
 
@@ -45,6 +49,7 @@ write-table-spec =
     (tie.spec
     check-table-requires
     enum-known-checked
+    refused-at-requires
     returns
     enum-told
     print-requires

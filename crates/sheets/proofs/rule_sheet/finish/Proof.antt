@@ -8,16 +8,17 @@ use native.Mathlib.Omega.{arith}
 use lib.ListN.{length, length-reverse}
 use borrow.Author.Tests.{le-ltb, lt-ltb, eq-eqb, ne-eqb}
 use Rattle.sheets.specs.Reading.{unless}
-use Rattle.sheets.specs.Rows.{sheetAnswer}
+use Rattle.sheets.specs.Inner.TableReader.{sheetAnswer}
 use Rattle.sheets.specs.declared.order.Last.{Last}
+use Rattle.sheets.specs.declared.rule_sheet.SheetLines.the-variants.{Refused}
 use Rattle.sheets.proofs.Following.{last-count}
 use Rattle.sheets.proofs.Reader.{whole-by}
 use borrow.Author.Needs.{needs}
 use Rattle.sheets.proofs.rule_sheet.finish.Statement.{statement}
 use Rattle.sheets.proofs.rule_sheet.finish.Tie as tie
 
-refused-requires : tie.Need-refused-requires
-refused-requires c κs = search needs
+refused-at-requires : tie.Need-refused-at-requires
+refused-at-requires c κs = search needs
 
 some : (c : tie.After-struct-known2) → ltb 0 (c .before .before .before .args .last .count) ≡ true
 some c = let h : 0 < c .before .before .before .args .last .count = omega (arith, c .before .if1 .left) in lt-ltb 0 _ h
@@ -27,29 +28,29 @@ unfolding unless sheetAnswer
 returns c =
     λ all e.
     let none : c .before .before .before .args .last .count ≤ 0 = omega (arith, c .before .if1 .taken) in
-    c .refused .ensures ∙ sym (ap sheetAnswer (whole-by _ all _ e) ∙ simp (le-ltb 0 _ none))
+    ap Refused (c .refused-at .ensures) ∙ sym (ap sheetAnswer (whole-by _ all _ e) ∙ simp (le-ltb 0 _ none))
 
-refused-requires-2 : tie.Need-refused-requires-2
-refused-requires-2 c κs = search needs
+refused-at-requires-2 : tie.Need-refused-at-requires-2
+refused-at-requires-2 c κs = search needs
 
 returns-2 : tie.Need-returns-2
 unfolding unless sheetAnswer
 returns-2 c =
     λ all e.
-    c .refused2 .ensures
+    ap Refused (c .refused-at2 .ensures)
     ∙ sym (ap sheetAnswer (whole-by _ all _ e) ∙ simp (some (c .before .before .before), ne-eqb _ _ (c .before .if2 .taken)))
 
-add-refused : tie.Need-add-refused
-add-refused c = search needs
+add-refused-at : tie.Need-add-refused-at
+add-refused-at c = search needs
 
-refused-requires-3 : tie.Need-refused-requires-3
-refused-requires-3 c κs = search needs
+refused-at-requires-3 : tie.Need-refused-at-requires-3
+refused-at-requires-3 c κs = search needs
 
 returns-3 : tie.Need-returns-3
 unfolding unless sheetAnswer
 returns-3 c =
     λ all e.
-    c .refused3 .ensures
+    ap Refused (c .refused-at3 .ensures)
     ∙ sym (ap sheetAnswer (whole-by _ all _ e) ∙ simp (some (c .before .before .before .before .before .before), eq-eqb _ _ (c .before .before .before .before .if2 .left), ne-eqb _ _ (c .before .before .if3 .taken)))
 
 returns-4 : tie.Need-returns-4
@@ -66,11 +67,11 @@ pub finish-spec : {M : Type 1} → statement M
 finish-spec =
     tie.close
     (tie.spec
-    refused-requires
+    refused-at-requires
     returns
-    refused-requires-2
+    refused-at-requires-2
     returns-2
-    add-refused
-    refused-requires-3
+    add-refused-at
+    refused-at-requires-3
     returns-3
     returns-4)

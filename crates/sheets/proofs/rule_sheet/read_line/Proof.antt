@@ -1,11 +1,11 @@
 -- `rule_sheet::read_line` meets its contract: each return by the fields that led to it, behind any lines.
-use Prim.Native.Nat.{ℕ, _-_}
+use Prim.Native.Nat.{ℕ}
 use mathlib.Core.Path.{_≡_, sym, ap, _∙_}
 use mathlib.Core.List.{List}
-use native.Mathlib.Omega.{arith}
 use lib.Seq.{slice}
 use borrow.Author.Tests.{eq-eqb, ne-eqb}
 use Rattle.numerals.specs.Decimal.{number}
+use Rattle.numerals.specs.Limits.{mostBackends, mostServices}
 use Rattle.numerals.specs.Suffix.{suffix}
 use Rattle.numerals.specs.Text.{split}
 use Rattle.numerals.proofs.Decimal.{Numeral, only-text}
@@ -13,7 +13,7 @@ use Rattle.numerals.proofs.Suffix.{suffix-only}
 use Rattle.packing.specs.Count.{Line}
 use Rattle.sheets.specs.Reading.{Reading, got, field, unless, onField}
 use Rattle.sheets.specs.RuleSheet.{onSuffix, placed, ruleFields}
-use Rattle.sheets.specs.Behind.{line}
+use Rattle.sheets.specs.Inner.TableNumbers.{line}
 use Rattle.sheets.proofs.TableChecks.{is-formed}
 use borrow.Author.Needs.{needs}
 use Rattle.sheets.proofs.rule_sheet.read_line.Statement.{statement}
@@ -29,7 +29,7 @@ returns c = λ before at. simp (ne-eqb _ 3 (λ e. c .if1 .taken (c .before .coun
 -- what is left of a line once its service was read, and once its suffix was
 abbrev giving : List Line → ℕ → List (List ℕ) → ℕ → ℕ → ℕ → Reading Line
 giving before at fs s l v =
-    onField (number 1 32 (field fs 2)) at (λ b. placed before (line (s - 1) l v (b - 1)) at (got (line (s - 1) l v (b - 1))))
+    onField (number 1 mostBackends (field fs 2)) at (λ b. placed before (line s l v b) at (got (line s l v b)))
 
 abbrev matching : ℕ → List Line → ℕ → List (List ℕ) → ℕ → Reading Line
 matching k before at fs s = onSuffix (suffix k (field fs 1)) at (giving before at fs s)
@@ -38,7 +38,7 @@ three :
     (c : tie.Else1) (before : List Line) (at : ℕ)
     → let a = c .before .before .before .args in
     let fs = split 32 (slice (a .from) (a .to) (a .text .now)) in
-    ruleFields (a .k) before at fs ≡ onField (number 1 64 (field fs 0)) at (matching (a .k) before at fs)
+    ruleFields (a .k) before at fs ≡ onField (number 1 mostServices (field fs 0)) at (matching (a .k) before at fs)
 unfolding ruleFields unless
 three c before at = simp (eq-eqb _ 3 (sym (c .before .count-fields .ensures) ∙ c .if1 .left))
 
@@ -116,7 +116,7 @@ service :
     (c : tie.After-known-told3)
     → let d = c .before .before .before .before .before .before .before .before .before in
     let a = d .before .before .before .before .before .before .before .args in
-    Numeral 1 64 (d .before .service .given .0 .0) (field (split 32 (slice (a .from) (a .to) (a .text .now))) 0)
+    Numeral 1 mostServices (d .before .service .given .0 .0) (field (split 32 (slice (a .from) (a .to) (a .text .now))) 0)
 service c =
     let d = c .before .before .before .before .before .before .before .before .before in
     only-text _ _ _ _ (sym (d .before .before .before .number-in .ensures) ∙ d .before .service .given .1)
@@ -125,14 +125,8 @@ backend :
     (c : tie.After-known-told3)
     → let d = c .before .before .before .before .before .before .before .before .before in
     let a = d .before .before .before .before .before .before .before .args in
-    Numeral 1 32 (c .before .backend .given .0 .0) (field (split 32 (slice (a .from) (a .to) (a .text .now))) 2)
+    Numeral 1 mostBackends (c .before .backend .given .0 .0) (field (split 32 (slice (a .from) (a .to) (a .text .now))) 2)
 backend c = only-text _ _ _ _ (sym (c .before .before .before .number-in2 .ensures) ∙ c .before .backend .given .1)
-
-sub-t19 : tie.Need-sub-t19
-sub-t19 c = omega (arith, service c .low)
-
-sub-t21 : tie.Need-sub-t21
-sub-t21 c = omega (arith, backend c .low)
 
 returns-5 : tie.Need-returns-5
 unfolding onField
@@ -141,10 +135,12 @@ returns-5 c =
     let short = suffix-only _ _ _ _ (bits (read .before .before .before) ∙ read .before .len .given .1) in (
       is-formed _ _
           (record {
-            service = omega (arith, service c .low, service c .high);
-            short = omega (arith, short .short);
+            numbered = service c .low;
+            service = service c .high;
+            short = short .short;
             bits = short .small;
-            backend = omega (arith, backend c .low, backend c .high);
+            labelled = backend c .low;
+            backend = backend c .high;
           }),
       λ before at. matched read before at ∙ rw (sym (c .before .before .before .number-in2 .ensures) ∙ c .before .backend .given .1),
     )
@@ -168,6 +164,4 @@ read-line-spec =
     enum-known-backend
     enum-told-3
     returns-4
-    sub-t19
-    sub-t21
     returns-5)

@@ -6,12 +6,12 @@ use lib.ListN.{length}
 use lib.Seq.{slice}
 use Rattle.numerals.specs.Text.{split}
 use Rattle.packing.specs.Count.{Line}
-use Rattle.sheets.specs.Behind.{PlacedAs}
-use Rattle.sheets.specs.Rows.{lineOf, LineAs, Passed}
+use Rattle.sheets.specs.Inner.Order.{PlacedAs}
+use Rattle.sheets.specs.Inner.TableReader.{lineOf, LineAs, Passed}
 use Rattle.sheets.specs.declared.order.Placed.the-variants.{Next}
 use Rattle.sheets.specs.declared.rule_sheet.LineRead.the-variants as line-read
 use Rattle.sheets.proofs.TableChecks.{formed}
-use Rattle.sheets.proofs.Following.{placed-next, placed-turned}
+use Rattle.sheets.proofs.Following.{placed-next, placed-refused}
 use Rattle.sheets.proofs.Reader.{passed-few, passed-room, passed-next}
 use borrow.Author.Needs.{needs}
 use Rattle.sheets.proofs.rule_sheet.take_line.Statement.{statement}
@@ -72,7 +72,7 @@ returns-2 c =
     λ before passed.
     let l = c .before .before .before .before .before .before .before .before .read2 .given .0 .0 in
     read-as (c .before .before .before .before .before .before .before) .1 before (length before + 2)
-    ∙ placed-turned before (lineOf l) _ _ _
+    ∙ placed-refused before (lineOf l) _ _ _
     (rw (c .before .placed .given .1) at (c .before .before .before .before .before .place-line .ensures before (l .value) (l .backend) (passed .behind)))
 
 same-length-2 : tie.Need-same-length-2

@@ -1,8 +1,8 @@
 -- `tables::churn` meets its contract: the refusal of a sheet, or what is found between the two tables.
 use mathlib.Core.Path.{_≡_, sym, ap, _∙_}
 use native.Mathlib.Omega.{arith}
-use Rattle.sheets.specs.Calls.{churnOf, churnAnswer}
-use Rattle.sheets.proofs.HadTables.{Had, had, had-not, had-both}
+use Rattle.sheets.specs.Calls.{churnAnswer}
+use Rattle.sheets.proofs.HeldTables.{TableHeld, table-held, sheet-refused, both-held}
 use borrow.Author.Needs.{needs}
 use Rattle.sheets.proofs.tables.churn.Statement.{statement}
 use Rattle.sheets.proofs.tables.churn.Tie as tie
@@ -23,25 +23,25 @@ refused-sheet-requires : tie.Need-refused-sheet-requires
 refused-sheet-requires c κs = search needs
 
 -- the sheets were read
-had-old :
+old-held :
     (c : tie.After-known-told)
-    → Had (c .before .before .before .before .before .before .before .before .args .old .now) (c .before .old-read .given .0 .0) (c .before .before .before .before .read-sheet-lines .last .1 .0)
-had-old c =
+    → TableHeld (c .before .before .before .before .before .before .before .before .args .old .now) (c .before .old-read .given .0 .0) (c .before .before .before .before .read-sheet-lines .last .1 .0)
+old-held c =
     let read = c .before .before .before .before .read-sheet-lines in
-    had _ _ _ (read .kept .1 .0) (sym (c .before .old-read .given .1) ∙ read .ensures .0) (read .ensures .1)
+    table-held _ _ _ (read .kept .1 .0) (sym (c .before .old-read .given .1) ∙ read .ensures .0) (read .ensures .1)
 
-had-new :
+new-held :
     (c : tie.After-known-told2)
-    → Had (c .before .before .before .before .before .before .before .before .before .before .before .before .before .before .args .new .now) (c .before .new-read .given .0 .0) (c .before .before .before .before .read-sheet-lines2 .last .1 .0)
-had-new c =
+    → TableHeld (c .before .before .before .before .before .before .before .before .before .before .before .before .before .before .args .new .now) (c .before .new-read .given .0 .0) (c .before .before .before .before .read-sheet-lines2 .last .1 .0)
+new-held c =
     let read = c .before .before .before .before .read-sheet-lines2 in
-    had _ _ _ (read .kept .1 .0) (sym (c .before .new-read .given .1) ∙ read .ensures .0) (read .ensures .1)
+    table-held _ _ _ (read .kept .1 .0) (sym (c .before .new-read .given .1) ∙ read .ensures .0) (read .ensures .1)
 
 returns : tie.Need-returns
-unfolding churnAnswer churnOf
+unfolding churnAnswer
 returns c =
-    let told = c .before .enum-told .given .1 in
-    c .refused-sheet .ensures _ told ∙ sym (rw (had-not _ _ (sym told ∙ c .before .before .before .before .read-sheet-lines .ensures .0)))
+    let is = c .before .enum-told .given .1 in
+    c .refused-sheet .ensures _ is ∙ sym (rw (sheet-refused _ _ (sym is ∙ c .before .before .before .before .read-sheet-lines .ensures .0)))
 
 slice-aggregate-read-sheet-lines-2 : tie.Need-slice-aggregate-read-sheet-lines-2
 slice-aggregate-read-sheet-lines-2 c = search needs
@@ -59,11 +59,11 @@ refused-sheet-requires-2 : tie.Need-refused-sheet-requires-2
 refused-sheet-requires-2 c κs = search needs
 
 returns-2 : tie.Need-returns-2
-unfolding churnAnswer churnOf
+unfolding churnAnswer
 returns-2 c =
-    let told = c .before .enum-told2 .given .1 in
-    c .refused-sheet2 .ensures _ told
-    ∙ sym (rw (had-old (c .before .before .before .before .before .before) .read, had-not _ _ (sym told ∙ c .before .before .before .before .read-sheet-lines2 .ensures .0)))
+    let is = c .before .enum-told2 .given .1 in
+    c .refused-sheet2 .ensures _ is
+    ∙ sym (rw (old-held (c .before .before .before .before .before .before) .read, sheet-refused _ _ (sym is ∙ c .before .before .before .before .read-sheet-lines2 .ensures .0)))
 
 slice-aggregate-compare : tie.Need-slice-aggregate-compare
 slice-aggregate-compare c = search needs
@@ -73,12 +73,12 @@ slice-aggregate-compare-2 c = search needs
 
 compare-requires : tie.Need-compare-requires
 compare-requires c κs =
-    let old = had-old (c .before .before .before .before .before .before .before .before) in
+    let old = old-held (c .before .before .before .before .before .before .before .before) in
     let k : c .before .before .before .before .before .before .before .before .before .old-read .given .0 .0 .k ≡ old .table .k = ap (λ x. x .k) (old .head) in
-    (old .limited, (had-new (c .before .before) .limited, omega (arith, old .proper .few-bits)))
+    (old .ruled, (new-held (c .before .before) .ruled, omega (arith, old .proper .few-bits)))
 
 returns-3 : tie.Need-returns-3
-returns-3 c = c .compare .ensures ∙ had-both _ _ _ _ _ _ (had-old (c .before .before .before .before .before .before .before .before .before)) (had-new (c .before .before .before)) _
+returns-3 c = c .compare .ensures ∙ both-held _ _ _ _ _ _ (old-held (c .before .before .before .before .before .before .before .before .before)) (new-held (c .before .before .before)) _
 
 pub churn-spec : {M : Type 1} → statement M
 churn-spec =

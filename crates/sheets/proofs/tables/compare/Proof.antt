@@ -5,10 +5,11 @@ use mathlib.Core.Bool.{true, false}
 use native.Mathlib.Omega.{arith}
 use lib.Dec.{ltb}
 use borrow.Author.Tests.{le-ltb, lt-ltb, eq-eqb, ne-eqb}
-use Rattle.numerals.proofs.Powers.{shifted}
-use Rattle.sheets.specs.Writing.{linesIn}
-use Rattle.sheets.specs.Rows.{movedOf, comparedOf}
-use Rattle.sheets.specs.declared.answer.Churned.the-variants.{Moved, Refused}
+use Rattle.expansion.specs.FirstMatch.{firstMatch}
+use Rattle.packing.specs.Count.{ownRules}
+use Rattle.sheets.specs.Inner.TableNumbers.{linesIn}
+use Rattle.sheets.specs.Inner.Churn.{compared}
+use Rattle.sheets.specs.declared.answer.Answer.the-variants.{Value, Refused}
 use borrow.Author.Needs.{needs}
 use Rattle.sheets.proofs.tables.compare.Statement.{statement}
 use Rattle.sheets.proofs.tables.compare.Tie as tie
@@ -23,58 +24,52 @@ has {r} {f} e n = lt-ltb 0 f (omega arith)
 first-backend-requires : tie.Need-first-backend-requires
 first-backend-requires c κs = search needs
 
-unknown-requires : tie.Need-unknown-requires
-unknown-requires c κs = search needs
-
 returns : tie.Need-returns
-unfolding comparedOf
-returns c = ap (λ w. Refused w 1) (c .unknown .ensures) ∙ sym (rw (lacks (c .before .before .first-backend .ensures) (c .before .if1 .taken)))
+unfolding compared
+returns c = sym (rw (lacks (c .before .first-backend .ensures) (c .if1 .taken)))
 
 first-backend-requires-2 : tie.Need-first-backend-requires-2
 first-backend-requires-2 c κs = search needs
 
-unknown-requires-2 : tie.Need-unknown-requires-2
-unknown-requires-2 c κs = search needs
-
 returns-2 : tie.Need-returns-2
-unfolding comparedOf
+unfolding compared
 returns-2 c =
-    ap (λ w. Refused w 2) (c .unknown2 .ensures)
-    ∙ sym (rw (has (c .before .before .before .before .first-backend .ensures) (c .before .before .before .if1 .left), lacks (c .before .before .first-backend2 .ensures) (c .before .if2 .taken)))
+    sym (rw (has (c .before .before .before .first-backend .ensures) (c .before .before .if1 .left), lacks (c .before .first-backend2 .ensures) (c .if2 .taken)))
+
+refused-at-requires : tie.Need-refused-at-requires
+refused-at-requires c κs = search needs
+
+-- both tables have the service
+old-there : (c : tie.Else1) → ltb 0 (firstMatch (ownRules (c .before .before .before .before .args .service) (linesIn (c .before .before .before .before .args .old .now) (c .before .before .before .before .args .a .n))) 0) ≡ true
+old-there c = has (c .before .first-backend .ensures) (c .if1 .left)
+
+new-there : (c : tie.Else2) → ltb 0 (firstMatch (ownRules (c .before .before .before .before .before .before .args .service) (linesIn (c .before .before .before .before .before .before .args .new .now) (c .before .before .before .before .before .before .args .b .n))) 0) ≡ true
+new-there c = has (c .before .first-backend2 .ensures) (c .if2 .left)
 
 returns-3 : tie.Need-returns-3
-unfolding comparedOf
+unfolding compared
 returns-3 c =
-    sym (rw (has (c .before .before .before .before .before .before .first-backend .ensures) (c .before .before .before .before .before .if1 .left), has (c .before .before .before .before .first-backend2 .ensures) (c .before .before .before .if2 .left), ne-eqb _ _ (c .if3 .taken)))
-
-shl-all : tie.Need-shl-all
-shl-all c = omega (arith, c .before .before .before .before .before .before .before .before .before .before .pre .1 .1)
+    let d = c .before .before .before .before in
+    ap Refused (c .refused-at .ensures) ∙ sym (rw (old-there (d .before .before), new-there d, ne-eqb _ _ (c .before .if3 .taken)))
 
 count-moved-requires : tie.Need-count-moved-requires
 count-moved-requires c κs = search needs
 
 returns-4 : tie.Need-returns-4
-unfolding comparedOf
+unfolding compared
 returns-4 c =
-    let start = c .before .before .before .before .before .before .before .before .before .before .before in
-    let x = start .args in
-    let old = linesIn (x .old .now) (x .a .n) in
-    let new = linesIn (x .new .now) (x .b .n) in
-    let all = shifted (x .a .k) (start .pre .1 .1) in
-    ap Moved (c .count-moved .ensures ∙ ap (λ (n : ℕ). movedOf n old new (x .service)) all)
-    ∙ sym (rw (has (c .before .before .before .before .before .before .before .before .first-backend .ensures) (c .before .before .before .before .before .before .before .if1 .left), has (c .before .before .before .before .before .before .first-backend2 .ensures) (c .before .before .before .before .before .if2 .left), eq-eqb _ _ (c .before .before .if3 .left)))
+    let d = c .before .before .before .before in
+    ap Value (c .count-moved .ensures) ∙ sym (rw (old-there (d .before .before), new-there d, eq-eqb _ _ (c .before .if3 .left)))
 
 pub compare-spec : {M : Type 1} → statement M
 compare-spec =
     tie.close
     (tie.spec
     first-backend-requires
-    unknown-requires
     returns
     first-backend-requires-2
-    unknown-requires-2
     returns-2
+    refused-at-requires
     returns-3
-    shl-all
     count-moved-requires
     returns-4)

@@ -7,25 +7,25 @@ use native.Mathlib.Omega.{arith}
 use lib.ListN.{getD}
 use lib.Pow.{pow-pos}
 use lib.Seq.{slice}
-use mir.Syntax.{w64}
-use mir.Val.{Fits}
 use Rattle.numerals.proofs.Powers.{shifted}
-use Rattle.packing.specs.Count.{Line}
+use Rattle.numerals.specs.Limits.{mostBits}
+use Rattle.expansion.specs.FirstMatch.{firstMatch}
+use Rattle.packing.specs.Count.{Line, ownRules}
 use Rattle.sheets.specs.Calls.{linesFrom}
-use Rattle.sheets.specs.Writing.{linesIn}
-use Rattle.sheets.specs.Rows.{lineAt, firstOf}
-use Rattle.sheets.proofs.Rows.{rows-more, rows-none}
-use Rattle.sheets.proofs.FirstLine.{of-here, of-other, of-miss, of-none}
+use Rattle.sheets.specs.Inner.TableNumbers.{lineAt, linesIn}
+use Rattle.sheets.proofs.TableNumbers.{rows-more, rows-none}
+use Rattle.sheets.proofs.TableChecks.{formed}
+use Rattle.sheets.proofs.FirstMatch.{of-here, of-other, of-miss, of-none}
 use Rattle.sheets.proofs.tables.first_backend.Statement.{statement}
 use Rattle.sheets.proofs.tables.first_backend.Tie as tie
 
 -- the first match from line i on
 abbrev from : List ℕ → ℕ → ℕ → ℕ → ℕ → ℕ
-from table n service address i = firstOf (linesFrom (slice (4 * i) (4 * n) table)) service address
+from table n service address i = firstMatch (ownRules service (linesFrom (slice (4 * i) (4 * n) table))) address
 
 abbrev Inv-loop : tie.InvT-loop
 Inv-loop table n service address left₀ left =
-    (left ≤ n) × (firstOf (linesIn table n) service address ≡ from table n service address (n - left))
+    (left ≤ n) × (firstMatch (ownRules service (linesIn table n)) address ≡ from table n service address (n - left))
 
 abbrev μ-loop : tie.MeasureT-loop
 μ-loop table n service address left₀ left = left
@@ -41,25 +41,22 @@ turn :
     (c : tie.In-loop Inv-loop μ-loop)
     → let a = c .before .before .args in
     let i = a .n - c .before .loop .left in
-    firstOf (linesIn (a .table .now) (a .n)) (a .service) (a .address)
-    ≡ firstOf (lineAt (a .table .now) i ∷ linesFrom (slice (4 * (i + 1)) (4 * a .n) (a .table .now))) (a .service) (a .address)
+    firstMatch (ownRules (a .service) (linesIn (a .table .now) (a .n))) (a .address)
+    ≡ firstMatch (ownRules (a .service) (lineAt (a .table .now) i ∷ linesFrom (slice (4 * (i + 1)) (4 * a .n) (a .table .now)))) (a .address)
 turn c =
     let a = c .before .before .args in
     c .before .loop .inv .1
-    ∙ ap (λ (ls : List Line). firstOf ls (a .service) (a .address)) (rows-more (a .table .now) (a .n) (c .before .before .pre .room) (a .n - c .before .loop .left) (omega arith))
+    ∙ ap (λ (ls : List Line). firstMatch (ownRules (a .service) ls) (a .address)) (rows-more (a .table .now) (a .n) (c .before .before .pre .room) (a .n - c .before .loop .left) (omega arith))
 
 -- the line's suffix is short
-short : (c : tie.In-loop Inv-loop μ-loop) → getD (c .before .before .args .table .now) (4 * (c .before .before .args .n - c .before .loop .left) + 1) 0 ≤ 12
-short c = c .before .before .pre .short (c .before .before .args .n - c .before .loop .left) (omega arith)
+short : (c : tie.In-loop Inv-loop μ-loop) → getD (c .before .before .args .table .now) (4 * (c .before .before .args .n - c .before .loop .left) + 1) 0 ≤ mostBits
+short c = formed mostBits _ (c .before .before .pre .each (c .before .before .args .n - c .before .loop .left) (omega arith)) .short
 
--- numbers in their limits: one more fits, and a suffix of so few bits has a power of two
-next : (m : ℕ) {x : ℕ} → m ≤ 64 → x < m → Fits w64 (x + 1)
-next m {x} few h = omega arith
-
-below : {l : ℕ} → l ≤ 12 → l < 64
+-- a suffix of so few bits has a power of two
+below : {l : ℕ} → l ≤ mostBits → l < 64
 below {l} h = omega arith
 
-divisor : (l : ℕ) → l ≤ 12 → 0 < 1 * 2 ^ l % 2 ^ 64
+divisor : (l : ℕ) → l ≤ mostBits → 0 < 1 * 2 ^ l % 2 ^ 64
 divisor l h = rw (shifted l h) (pow-pos l)
 
 sub-i : tie.Need-sub-i Inv-loop μ-loop
@@ -74,9 +71,6 @@ mul-if1-2 c = omega arith
 shared-slice-read-if1 : tie.Need-shared-slice-read-if1 Inv-loop μ-loop
 shared-slice-read-if1 c = omega arith
 
-add-if1 : tie.Need-add-if1 Inv-loop μ-loop
-add-if1 c = next 64 (omega arith) (c .before .before .before .pre .service _ (omega arith))
-
 mul-all : tie.Need-mul-all Inv-loop μ-loop
 mul-all c = omega arith
 
@@ -90,10 +84,10 @@ shared-slice-read-all : tie.Need-shared-slice-read-all Inv-loop μ-loop
 shared-slice-read-all c = omega arith
 
 shl-all : tie.Need-shl-all Inv-loop μ-loop
-shl-all c = below (c .before .before .before .before .before .pre .short _ (omega arith))
+shl-all c = below (short (c .before .before .before))
 
 rem-if2 : tie.Need-rem-if2 Inv-loop μ-loop
-rem-if2 c = divisor _ (c .before .before .before .before .before .pre .short _ (omega arith))
+rem-if2 c = divisor _ (short (c .before .before .before))
 
 mul-if2 : tie.Need-mul-if2 Inv-loop μ-loop
 mul-if2 c = omega arith
@@ -118,9 +112,6 @@ mul-result-2 c = omega arith
 
 shared-slice-read-result : tie.Need-shared-slice-read-result Inv-loop μ-loop
 shared-slice-read-result c = omega arith
-
-add-result-2 : tie.Need-add-result-2 Inv-loop μ-loop
-add-result-2 c = next 32 (omega arith) (c .before .before .before .before .before .before .before .before .pre .backend _ (omega arith))
 
 returns : tie.Need-returns Inv-loop μ-loop
 returns c =
@@ -148,7 +139,7 @@ returns-2 c =
     let a = c .before .before .args in
     sym
     (c .before .loop .inv .1
-    ∙ ap (λ (ls : List Line). firstOf ls (a .service) (a .address)) (rows-none (a .table .now) (a .n) (c .before .before .pre .room) (a .n - c .before .loop .left) (omega arith))
+    ∙ ap (λ (ls : List Line). firstMatch (ownRules (a .service) ls) (a .address)) (rows-none (a .table .now) (a .n) (c .before .before .pre .room) (a .n - c .before .loop .left) (omega arith))
     ∙ of-none (a .service) (a .address))
 
 pub first-backend-spec : {M : Type 1} → statement M
@@ -162,7 +153,6 @@ first-backend-spec =
     mul-if1
     mul-if1-2
     shared-slice-read-if1
-    add-if1
     mul-all
     add-all
     mul-all-2
@@ -177,7 +167,6 @@ first-backend-spec =
     add-result
     mul-result-2
     shared-slice-read-result
-    add-result-2
     returns
     sub-left
     loop-less

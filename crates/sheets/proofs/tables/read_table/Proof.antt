@@ -5,8 +5,9 @@ use lib.Seq.{sets}
 use Rattle.packing.specs.Answer.{cells}
 use Rattle.sheets.specs.Reading.{Reading}
 use Rattle.sheets.specs.RuleSheet.{Table}
-use Rattle.sheets.specs.Calls.{textOf, readIn, readAnswer}
-use Rattle.sheets.proofs.HadTables.{Had, had, had-not, read-made, read-short}
+use Rattle.sheets.specs.Calls.{valuesOf, readAnswer}
+use Rattle.sheets.specs.declared.answer.TableRead.the-variants.{Refused}
+use Rattle.sheets.proofs.HeldTables.{TableHeld, table-held, refused-answer, read-made, read-short}
 use borrow.Author.Needs.{needs}
 use Rattle.sheets.proofs.tables.read_table.Statement.{statement}
 use Rattle.sheets.proofs.tables.read_table.Tie as tie
@@ -26,16 +27,19 @@ enum-known-read-2 c = search needs
 -- the sheet was read
 has :
     (c : tie.After-known-told2)
-    → Had (c .before .before .before .before .before .before .before .before .args .text .now) (c .before .read2 .given .0 .0) (c .before .before .before .before .read-sheet-lines .last .1 .0)
+    → TableHeld (c .before .before .before .before .before .before .before .before .args .text .now) (c .before .read2 .given .0 .0) (c .before .before .before .before .read-sheet-lines .last .1 .0)
 has c =
     let read = c .before .before .before .before .read-sheet-lines in
-    had _ _ _ (read .kept .1 .0) (sym (c .before .read2 .given .1) ∙ read .ensures .0) (read .ensures .1)
+    table-held _ _ _ (read .kept .1 .0) (sym (c .before .read2 .given .1) ∙ read .ensures .0) (read .ensures .1)
 
 mul-if1 : tie.Need-mul-if1
-mul-if1 c = omega (arith, has c .limited .room, c .before .before .before .before .read-sheet-lines .kept .1 .0)
+mul-if1 c = omega (arith, has c .ruled .room, c .before .before .before .before .read-sheet-lines .kept .1 .0)
+
+refused-at-requires : tie.Need-refused-at-requires
+refused-at-requires c κs = search needs
 
 returns : tie.Need-returns
-returns c = (read-short _ _ _ (has (c .before)) _ (c .if1 .taken), refl)
+returns c = rw (c .refused-at .ensures) (read-short _ _ _ (has (c .before .before)) _ (c .before .if1 .taken), refl)
 
 slice-aggregate-copy : tie.Need-slice-aggregate-copy
 slice-aggregate-copy c = search needs
@@ -44,13 +48,13 @@ mul-copy : tie.Need-mul-copy
 mul-copy c = search needs
 
 copy-requires : tie.Need-copy-requires
-copy-requires c κs = (omega (arith, has (c .before .before .before) .limited .room), omega arith)
+copy-requires c κs = (omega (arith, has (c .before .before .before) .ruled .room), omega arith)
 
 returns-2 : tie.Need-returns-2
-unfolding readAnswer readIn
+unfolding readAnswer
 returns-2 c =
     let read = c .before .before .before .before .read-sheet-lines in
-    (sym (rw (had-not _ _ (sym (c .before .read .given .1) ∙ read .ensures .0))), refl)
+    (refused-answer Refused _ _ _ (sym (c .before .read .given .1) ∙ read .ensures .0), refl)
 
 same-length : tie.Need-same-length
 same-length c = search needs
@@ -58,7 +62,7 @@ same-length c = search needs
 returns-3 : tie.Need-returns-3
 returns-3 c =
     let h = has (c .before .before .before .before .before .before) in
-    (read-made _ _ _ h _ (c .before .before .before .before .before .if1 .left), c .before .before .copy .ensures ∙ ap (sets (c .before .before .before .before .before .before .before .before .before .before .before .before .before .before .args .table .now) 0) (h .stored ∙ sym (ap (λ (r : Reading Table). textOf r (λ t. cells (t .lines))) (h .read))))
+    (read-made _ _ _ h _ (c .before .before .before .before .before .if1 .left), c .before .before .copy .ensures ∙ ap (sets (c .before .before .before .before .before .before .before .before .before .before .before .before .before .before .args .table .now) 0) (h .stored ∙ sym (ap (λ (r : Reading Table). valuesOf r (λ t. cells (t .lines))) (h .read))))
 
 pub read-table-spec : {M : Type 1} → statement M
 read-table-spec =
@@ -69,6 +73,7 @@ read-table-spec =
     enum-known-read
     enum-known-read-2
     mul-if1
+    refused-at-requires
     returns
     slice-aggregate-copy
     mul-copy

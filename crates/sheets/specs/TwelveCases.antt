@@ -8,9 +8,10 @@ use Rattle.numerals.specs.Percentage.{percentage}
 use Rattle.numerals.specs.Suffix.{suffix, place}
 use Rattle.expansion.specs.Cases.{Worked, Shows, p1, p2, p3, p4, p5, p6}
 use Rattle.expansion.specs.Imbalance.{largestExcess, largestShortfall}
+use Rattle.numerals.specs.Limits.{mostBits, decimals}
 use Rattle.numerals.specs.Refusals.{no2}
-use Rattle.packing.specs.Table.{granted}
-use Rattle.sheets.specs.Reading.{Reading, got, turned, onField}
+use Rattle.packing.specs.Table.{granted, oneEach}
+use Rattle.sheets.specs.Reading.{Reading, got, refused, onField}
 use Rattle.sheets.specs.RuleSheet.{onSuffix}
 use Rattle.sheets.specs.PercentageSheet.{Sheet, readSheet}
 use Rattle.sheets.specs.Calls.{servicesIn, sheetText}
@@ -29,15 +30,15 @@ pub record Packs (text grants printed : List ℕ) : Type 0 where
   pub sheet : Sheet
   pub read : readSheet text ≡ got sheet
   pub services : length grants ≡ length (sheet .volumes)
-  pub grant : (s : ℕ) → s < length grants → granted (servicesIn sheet) (sheet .tolerance) (sheet .capacity) s ≡ getD grants s 0
+  pub grant : (s : ℕ) → s < length grants → granted (servicesIn sheet) (sheet .tolerance) oneEach (sheet .capacity) s ≡ getD grants s 0
   pub rules : sheetText sheet ≡ printed
 
 abbrev pub Right : Figure → Type 0
 Right (makes w) = Shows w
-Right (leaves w o u) = Shows w × ((largestExcess (w .given) (w .rules) ≡ o) × (largestShortfall (w .given) (w .rules) ≡ u))
+Right (leaves w o u) = Shows w × ((largestExcess (w .given .targets) (w .rules) ≡ o) × (largestShortfall (w .given .targets) (w .rules) ≡ u))
 Right (packs text grants printed) = Packs (bytes text) grants (bytes printed)
-Right (stands text p) = onSuffix (suffix 12 (bytes text)) 1 (λ l v. got (place l v)) ≡ got p
-Right (reads text is) = onField (percentage 4 (bytes text)) 1 got ≡ is
+Right (stands text p) = onSuffix (suffix mostBits (bytes text)) 1 (λ l v. got (place l v)) ≡ got p
+Right (reads text is) = onField (percentage decimals (bytes text)) 1 got ≡ is
 
 abbrev pub AllOf : List Figure → Type 0
 AllOf [] = Unit {0}
@@ -54,8 +55,8 @@ twelve =
     ∷ packs "SHEET 5 2 5\nSERVICE 55 16.6667 33.3333 50\nSERVICE 45 25 25 50\n" (2 ∷ 3 ∷ [])
     "TABLE 5 5 293333920\n1 *0 2\n1 * 3\n2 *00 2\n2 *0 1\n2 * 3\n"
     ∷ stands "*00100" 4
-    ∷ reads "18.4.2" (turned no2 1)
+    ∷ reads "18.4.2" (refused no2 1)
     ∷ reads "100.0000" (got 1000000)
-    ∷ reads "100.0001" (turned no2 1)
-    ∷ reads "018.4" (turned no2 1)
+    ∷ reads "100.0001" (refused no2 1)
+    ∷ reads "018.4" (refused no2 1)
     ∷ []

@@ -1,19 +1,20 @@
 -- The writer of the rule sheet in its parts: what each writes, how many bytes that has, and what the check of a table in numbers answers.
-use Prim.Native.Nat.{ℕ, _+_, _*_, _<_, min}
+use Prim.Native.Nat.{ℕ, _+_, _<_, min}
 use mathlib.Core.Path.{_≡_}
 use mathlib.Core.List.{List, [], _∷_, _++_}
 use lib.ListN.{length}
-use lib.Seq.{sets, slice}
+use lib.Seq.{sets}
 use Rattle.numerals.specs.Decimal.{width, decimal}
 use Rattle.numerals.specs.declared.digits.Written.{Written}
 use Rattle.numerals.specs.declared.digits.Written.the-variants.{End, Refused as NotWritten}
 use Rattle.expansion.specs.declared.call.Checked.{Checked}
 use Rattle.expansion.specs.declared.call.Checked.the-variants.{Sound, Refused}
 use Rattle.packing.specs.Count.{Line}
-use Rattle.sheets.specs.Reading.{Reading, got, turned, then}
+use Rattle.sheets.specs.Reading.{Reading, got, refused, then}
 use Rattle.sheets.specs.RuleSheet.{Table, tableWord, checkLines, checkEnd}
-use Rattle.sheets.specs.Behind.{Behind}
-use Rattle.sheets.specs.Calls.{linesFrom}
+use Rattle.sheets.specs.Calls.{linesFrom, brokenFrom}
+use Rattle.sheets.specs.Inner.Order.{Behind}
+use Rattle.sheets.specs.declared.order.Last.{Last}
 use Rattle.sheets.specs.declared.order.Placed.{Placed}
 use Rattle.sheets.specs.declared.order.Placed.the-variants.{Next, Refused as NotNext}
 
@@ -41,19 +42,12 @@ counted n = min n 65537
 
 -- how many bytes a rule line has
 abbrev pub lineWidth : ℕ → ℕ → ℕ → ℕ
-lineWidth service len backend = width (service + 1) + width (backend + 1) + len + 4
+lineWidth service len backend = width service + width backend + len + 4
 
--- the lines that the first numbers are, four of each
-abbrev pub linesIn : List ℕ → ℕ → List Line
-linesIn cs n = linesFrom (slice 0 (4 * n) cs)
-
-abbrev pub tableIn : ℕ → ℕ → List ℕ → ℕ → Table
-tableIn k total cs n = record { k = k; total = total; lines = linesIn cs n }
-
--- a check passes what is read, and tells why it isn't
+-- a check passes what is read, and answers its refusal
 abbrev pub CheckedAs : {A : Type 0} → Checked → Reading A → A → Type 0
 CheckedAs Sound r a = r ≡ got a
-CheckedAs (Refused why) r a = r ≡ turned why 0
+CheckedAs (Refused why) r a = r ≡ refused why 0
 
 -- the lines behind these, the last of them first, each in its limits and in order; then a line of too few fields, where `broken` is one; and the last a `*`
 unfoldable pub checkedFrom : ℕ → ℕ → List Line → List Line → Reading (Unit {0})
@@ -63,4 +57,16 @@ checkedFrom k broken before ls = then (checkLines k before ls) (checkEnd broken 
 abbrev pub CheckedLine : ℕ → List Line → Line → Placed → List ℕ → Type 0
 CheckedLine k before l (Next last) tally =
     ((broken : ℕ) (ls : List Line) → checkedFrom k broken before (l ∷ ls) ≡ checkedFrom k broken (l ∷ before) ls) × Behind (l ∷ before) last tally
-CheckedLine k before l (NotNext why) tally = (broken : ℕ) (ls : List Line) → checkedFrom k broken before (l ∷ ls) ≡ turned why 0
+CheckedLine k before l (NotNext why) tally = (broken : ℕ) (ls : List Line) → checkedFrom k broken before (l ∷ ls) ≡ refused why 0
+
+-- the check of line l, behind any lines
+abbrev pub Checking : ℕ → Last → Line → List ℕ → Placed → List ℕ → Type 0
+Checking k last l tally r tally′ = (before : List Line) → Behind before last tally → CheckedLine k before l r tally′
+
+-- all lines that the numbers are
+abbrev pub checkedCells : ℕ → List ℕ → Reading (Unit {0})
+checkedCells k cs = checkedFrom k (length (brokenFrom cs)) [] (linesFrom cs)
+
+-- the table that they are
+abbrev pub handed : ℕ → ℕ → List ℕ → Table
+handed k total cs = record { k = k; total = total; lines = linesFrom cs }

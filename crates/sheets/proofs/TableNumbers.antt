@@ -9,7 +9,7 @@ use Rattle.numerals.proofs.Slice.{slice-more, slice-length}
 use Rattle.packing.specs.Count.{Line}
 use Rattle.packing.specs.Answer.{cells}
 use Rattle.sheets.specs.Calls.{linesFrom}
-use Rattle.sheets.specs.Rows.{lineAt}
+use Rattle.sheets.specs.Inner.TableNumbers.{lineAt}
 
 -- the numbers of a line, and those behind it up to a position
 pub four-more :

@@ -1,21 +1,18 @@
--- What the reader of the percentage sheet answers and leaves in memory, by cases of its answers: line 1, the weights of a line, a line of a service, the whole sheet.
+-- What the reader of the percentage sheet answers and leaves in memory, by cases of its answers: the weights of a line, a line of a service, the whole sheet.
 use Prim.Native.Nat.{ℕ, _+_, _*_, _≤_, _<_}
 use mathlib.Core.Path.{_≡_}
 use mathlib.Core.List.{List, [], _∷_, _++_}
 use lib.Dec.{leb, ltb, eqb}
 use lib.ListN.{length, take, drop}
-use lib.Seq.{slice}
 use Rattle.numerals.specs.Pick.{pick}
-use Rattle.numerals.specs.Text.{split}
-use Rattle.numerals.specs.Limits.{unit}
+use Rattle.numerals.specs.Limits.{mostBackends, mostServices, unit}
 use Rattle.numerals.specs.Refusals.{no3, no5, no6}
-use Rattle.sheets.specs.Reading.{Reading, got, turned, then, unless}
-use Rattle.sheets.specs.PercentageSheet.{Sheet, Service, headFields, weightFields, serviceFields, serviceLines, sum}
-use Rattle.sheets.specs.PercentageSheet as sheet
+use Rattle.sheets.specs.Reading.{Reading, got, refused, then, unless}
+use Rattle.sheets.specs.PercentageSheet.{Sheet, Service, weightFields, serviceFields, serviceLines, sum, whole}
 use Rattle.sheets.specs.Calls.{refusedAt}
+use Rattle.sheets.specs.Inner.Fields.{linesAt}
+use Rattle.sheets.specs.Inner.FirstLine.{RefusedAs}
 use Rattle.sheets.specs.declared.percentage_sheet.Head.{Head}
-use Rattle.sheets.specs.declared.percentage_sheet.HeadRead as head-read
-use Rattle.sheets.specs.declared.percentage_sheet.HeadRead.the-variants as head-variants
 use Rattle.sheets.specs.declared.percentage_sheet.WeightsRead as weights-read
 use Rattle.sheets.specs.declared.percentage_sheet.WeightsRead.the-variants as weights-variants
 use Rattle.sheets.specs.declared.percentage_sheet.VolumeRead as volume-read
@@ -27,32 +24,24 @@ use Rattle.sheets.specs.declared.percentage_sheet.LineRead.the-variants 
 use Rattle.sheets.specs.declared.percentage_sheet.SheetRead as sheet-read
 use Rattle.sheets.specs.declared.percentage_sheet.SheetRead.the-variants as sheet-variants
 
--- line 1, as it was answered
-abbrev pub headOf : Head → sheet.Head
-headOf h = record { k = h .k; tolerance = h .tolerance; capacity = h .capacity }
-
-abbrev pub HeadOf : head-read.HeadRead → List (List ℕ) → Type 0
-HeadOf (head-variants.Head h) fs = headFields fs ≡ got (headOf h)
-HeadOf (head-variants.Refused why) fs = headFields fs ≡ turned why 1
-
 -- the weights of a line, read behind the first `at` places of the row
 pub record Weighed (before after : List ℕ) (at : ℕ) (fs : List (List ℕ)) (count amount : ℕ) : Type 0 where
   pub weights : List ℕ
   pub read : (line : ℕ) → weightFields line fs ≡ got weights
   pub size : length weights ≡ count
-  pub few : count ≤ 32
+  pub few : count ≤ mostBackends
   pub total : sum weights ≡ amount
   pub row : take (at + count) after ≡ take at before ++ weights
 
 abbrev pub WeightsOf : weights-read.WeightsRead → List ℕ → List ℕ → ℕ → List (List ℕ) → Type 0
 WeightsOf (weights-variants.Weights count amount) before after at fs = Weighed before after at fs count amount
-WeightsOf (weights-variants.Refused why) before after at fs = (line : ℕ) → weightFields line fs ≡ turned why line
+WeightsOf (weights-variants.Refused why) before after at fs = (line : ℕ) → weightFields line fs ≡ refused why line
 
 -- the line of service i up to its weights: its word, the number of its fields and its volume were found right
 pub record Opened (i : ℕ) (fs : List (List ℕ)) (v : ℕ) : Type 0 where
-  pub place : i < 64
+  pub place : i < mostServices
   pub some : 3 ≤ length fs
-  pub few : length fs ≤ 34
+  pub few : length fs ≤ 2 + mostBackends
   pub rest :
       serviceFields i fs
       ≡ then (weightFields (i + 2) (drop 2 fs)) (λ ws.
@@ -60,13 +49,13 @@ pub record Opened (i : ℕ) (fs : List (List ℕ)) (v : ℕ) : Type 0 where
 
 abbrev pub VolumeOf : volume-read.VolumeRead → ℕ → List (List ℕ) → Type 0
 VolumeOf (volume-variants.Volume v) i fs = Opened i fs v
-VolumeOf (volume-variants.Refused why) i fs = serviceFields i fs ≡ turned why (i + 2)
+VolumeOf (volume-variants.Refused why) i fs = serviceFields i fs ≡ refused why (i + 2)
 
 -- service i, with n weights, stands behind the first i volumes and the first `at` places of the row
 pub record Stored (service : Service) (vs vs′ ws ws′ : List ℕ) (at i n : ℕ) : Type 0 where
-  pub place : i < 64
+  pub place : i < mostServices
   pub size : length (service .weights) ≡ n
-  pub few : n ≤ 32
+  pub few : n ≤ mostBackends
   pub volumes : take (i + 1) vs′ ≡ take i vs ++ service .volume ∷ []
   pub row : take (at + n) ws′ ≡ take at ws ++ service .weights
 
@@ -79,14 +68,14 @@ pub record Served (vs vs′ ws ws′ : List ℕ) (at i : ℕ) (fs : List (List �
 abbrev pub ServiceOf : service-read.ServiceRead → List ℕ → List ℕ → List ℕ → List ℕ → ℕ → ℕ → List (List ℕ) → Type 0
 ServiceOf (service-variants.Weights n) vs vs′ ws ws′ at i fs =
     Served vs vs′ ws ws′ at i fs n
-ServiceOf (service-variants.Refused why) vs vs′ ws ws′ at i fs = serviceFields i fs ≡ turned why (i + 2)
+ServiceOf (service-variants.Refused why) vs vs′ ws ws′ at i fs = serviceFields i fs ≡ refused why (i + 2)
 
 -- the line of service i, the one at position `start`, was read and stored; the next one begins at `next`
 pub record Followed (text vs vs′ ws ws′ : List ℕ) (at i start count next : ℕ) : Type 0 where
   pub service : Service
   pub read :
-      serviceLines i (split 10 (slice start (length text) text))
-      ≡ then (serviceLines (i + 1) (split 10 (slice next (length text) text))) (λ ss. got (service ∷ ss))
+      serviceLines i (linesAt text start)
+      ≡ then (serviceLines (i + 1) (linesAt text next)) (λ ss. got (service ∷ ss))
   pub after : start < next
   pub within : next ≤ length text
   pub stored : Stored service vs vs′ ws ws′ at i count
@@ -94,7 +83,7 @@ pub record Followed (text vs vs′ ws ws′ : List ℕ) (at i start count next :
 abbrev pub LineOf : line-read.LineRead → List ℕ → List ℕ → List ℕ → List ℕ → List ℕ → ℕ → ℕ → ℕ → Type 0
 LineOf (line-variants.Service count next) text vs vs′ ws ws′ at i start = Followed text vs vs′ ws ws′ at i start count next
 LineOf (line-variants.Refused why) text vs vs′ ws ws′ at i start =
-    serviceLines i (split 10 (slice start (length text) text)) ≡ turned why (i + 2)
+    serviceLines i (linesAt text start) ≡ refused why (i + 2)
 
 -- how many weights each service has, and all weights in one row
 unfoldable pub sizesOf : List (List ℕ) → List ℕ
@@ -108,14 +97,14 @@ rowOf (ws ∷ wss) = ws ++ rowOf wss
 -- the memory holds the volumes and the weights of n services: n volumes, n sizes, and the weights in one row
 pub record Holds (volumes : List ℕ) (weights : List (List ℕ)) (vs zs ws : List ℕ) (n row : ℕ) : Type 0 where
   pub services : length volumes ≡ n
-  pub few : n ≤ 64
-  pub short : row ≤ 32 * n
+  pub few : n ≤ mostServices
+  pub short : row ≤ mostBackends * n
   pub held-volumes : take n vs ≡ volumes
   pub held-sizes : take n zs ≡ sizesOf weights
   pub held-weights : take row ws ≡ rowOf weights
 
 -- a sheet was read, its numbers are the answer's, and the memory holds it
-pub record SheetKept (reading : Reading Sheet) (vs zs ws : List ℕ) (head : Head) (n row : ℕ) : Type 0 where
+pub record SheetHeld (reading : Reading Sheet) (vs zs ws : List ℕ) (head : Head) (n row : ℕ) : Type 0 where
   pub sheet : Sheet
   pub read : reading ≡ got sheet
   pub k : sheet .k ≡ head .k
@@ -124,8 +113,16 @@ pub record SheetKept (reading : Reading Sheet) (vs zs ws : List ℕ) (head : Hea
   pub holds : Holds (sheet .volumes) (sheet .weights) vs zs ws n row
 
 abbrev pub SheetOf : sheet-read.SheetRead → Reading Sheet → List ℕ → List ℕ → List ℕ → Type 0
-SheetOf (sheet-variants.Sheet head n row) reading vs zs ws = SheetKept reading vs zs ws head n row
-SheetOf (sheet-variants.Refused r) reading vs zs ws = reading ≡ turned (r .why) (r .line)
+SheetOf (sheet-variants.Sheet head n row) reading vs zs ws = SheetHeld reading vs zs ws head n row
+SheetOf (sheet-variants.Refused r) reading vs zs ws = RefusedAs r reading
+
+-- what line 1 and all services come to
+abbrev pub sheetOf : Head → List Service → Reading Sheet
+sheetOf head ss = whole (head .k) (head .tolerance) (head .capacity) ss
+
+-- the sheet of the services on these lines
+unfoldable pub sheetFrom : Head → List (List ℕ) → Reading Sheet
+sheetFrom head ls = then (serviceLines 0 ls) (sheetOf head)
 
 -- what is answered after the lines: no service, then a capacity below their number
 unfoldable pub finished : Head → ℕ → ℕ → sheet-read.SheetRead

@@ -9,14 +9,15 @@ use lib.Seq.{slice}
 use Rattle.numerals.specs.Decimal.{width}
 use Rattle.numerals.proofs.Decimal.{width-least, length-decimal}
 use Rattle.numerals.proofs.Slice.{slice-more, slice-none, slice-length}
+use Rattle.numerals.specs.Limits.{mostBits, mostCapacity, textLimit}
 use Rattle.packing.specs.Count.{Line}
 use Rattle.sheets.specs.Calls.{linesFrom, brokenFrom, brokenText, linesHanded, handedText}
 use Rattle.sheets.specs.RuleSheet.{lineText, linesText, tableText}
-use Rattle.sheets.specs.Rows.{lineAt, Limited}
-use Rattle.sheets.specs.Writing.{lineWidth, counted, headText, linesIn, tableIn}
-use Rattle.sheets.proofs.Rows.{four-more, rows-more, rows-none}
+use Rattle.sheets.specs.Inner.TableNumbers.{lineAt, linesIn, tableIn, RuleLines}
+use Rattle.sheets.specs.Inner.Writing.{lineWidth, counted, headText}
+use Rattle.sheets.proofs.TableNumbers.{four-more, rows-more, rows-none}
 use Rattle.sheets.proofs.TableTexts.{linesWidth, line-short, length-lines, length-table, length-head, head-lines}
-use Rattle.sheets.proofs.TableChecks.{Formed, formed, InOrder}
+use Rattle.sheets.proofs.TableChecks.{Formed, formed, is-formed, InOrder}
 
 -- as many lines as numbers by four, and a broken one where some are left over
 pub count-lines : (cs : List ℕ) → length (linesFrom cs) ≡ length cs / 4
@@ -78,7 +79,7 @@ length-handed k total cs =
       ap width (count-handed cs),
     )
 
-last-width : (s : ℕ) (cs : List ℕ) → length cs < 3 → handedWidth (s ∷ cs) ≡ width (s + 1) + 1
+last-width : (s : ℕ) (cs : List ℕ) → length cs < 3 → handedWidth (s ∷ cs) ≡ width s + 1
 unfolding handedWidth linesFrom linesWidth brokenFrom brokenText
 last-width s [] h = simp (length-append, length-decimal) (omega arith)
 last-width s (a ∷ []) h = simp (length-append, length-decimal) (omega arith)
@@ -98,7 +99,7 @@ module _ (table : List ℕ) (to : ℕ) (room : to ≤ length table) where
   unfolding handedWidth linesFrom linesWidth brokenFrom brokenText
   handed-none i e = ap handedWidth (slice-none (4 * i) to table (omega arith))
 
-  pub handed-last : (i : ℕ) → 4 * i < to → to < 4 * i + 4 → handedWidth (slice (4 * i) to table) ≡ width (getD table (4 * i) 0 + 1) + 1
+  pub handed-last : (i : ℕ) → 4 * i < to → to < 4 * i + 4 → handedWidth (slice (4 * i) to table) ≡ width (getD table (4 * i) 0) + 1
   handed-last i h m =
       ap handedWidth (slice-more (4 * i) to table h (omega arith))
       ∙ last-width (getD table (4 * i) 0) (slice (4 * i + 1) to table) (omega (arith, slice-length (4 * i + 1) to table))
@@ -125,20 +126,26 @@ module _ (table : List ℕ) (n : ℕ) (room : 4 * n ≤ length table) where
   formed-from k before (suc m) i j e h s =
       formed-from k (lineAt table i ∷ before) m (i + 1) j (omega arith) h (first-two k before i (omega arith) s .1)
 
-  -- lines that passed are in their limits
-  pub limited : (k : ℕ) → k ≤ 12 → InOrder k [] (linesIn table n) → Limited table n
-  limited k few s =
-      let at : (j : ℕ) → j < n → Formed k (lineAt table j) = λ j h. formed-from k [] j 0 j (omega arith) h s in
+  -- lines that passed are rule lines
+  pub rule-lines : (k : ℕ) → k ≤ mostBits → InOrder k [] (linesIn table n) → RuleLines table n
+  rule-lines k few s =
       record {
         room = room;
-        service = λ j h. at j h .service;
-        short = λ j h. omega (arith, at j h .short);
-        bits = λ j h. at j h .bits;
-        backend = λ j h. at j h .backend;
+        each = λ j h.
+            let f : Formed k (lineAt table j) = formed-from k [] j 0 j (omega arith) h s in
+            is-formed mostBits (lineAt table j)
+            (record {
+              numbered = f .numbered;
+              service = f .service;
+              short = omega (arith, f .short);
+              bits = f .bits;
+              labelled = f .labelled;
+              backend = f .backend;
+            });
       }
 
 -- how many bytes the lines from number i on have
-module _ (table : List ℕ) (n : ℕ) (L : Limited table n) where
+module _ (table : List ℕ) (n : ℕ) (L : RuleLines table n) where
   abbrev left : ℕ → List Line
   left i = linesFrom (slice (4 * i) (4 * n) table)
 
@@ -147,7 +154,8 @@ module _ (table : List ℕ) (n : ℕ) (L : Limited table n) where
 
   pub width-short : (i : ℕ) → i < n → widthAt i ≤ 20
   width-short i h =
-      line-short (getD table (4 * i) 0) (getD table (4 * i + 1) 0) (getD table (4 * i + 3) 0) (L .service i h) (L .short i h) (L .backend i h)
+      let f = formed mostBits (lineAt table i) (L .each i h) in
+      line-short (getD table (4 * i) 0) (getD table (4 * i + 1) 0) (getD table (4 * i + 3) 0) (f .service) (f .short) (f .backend)
 
   pub width-more : (i : ℕ) → i < n → linesWidth (left i) ≡ widthAt i + linesWidth (left (i + 1))
   unfolding linesWidth
@@ -178,7 +186,8 @@ module _ (table : List ℕ) (n : ℕ) (L : Limited table n) where
       omega (arith, length-table (tableIn k total table n), length-head k n total, ap width lines-count)
 
   -- no longer than a text may be
-  pub table-short : (k total : ℕ) → n ≤ 2048 → k < 2 ^ 64 → total < 2 ^ 64 → length (tableText (tableIn k total table n)) ≤ 65536
+  pub table-short : (k total : ℕ) → n ≤ mostCapacity → k < 2 ^ 64 → total < 2 ^ 64 → length (tableText (tableIn k total table n)) ≤ textLimit
+  unfolding textLimit
   table-short k total few h j =
       omega (
         arith,
@@ -192,8 +201,9 @@ module _ (table : List ℕ) (n : ℕ) (L : Limited table n) where
 
   -- so all its bytes are counted
   pub table-counted :
-      (k total : ℕ) → n ≤ 2048 → k < 2 ^ 64 → total < 2 ^ 64
+      (k total : ℕ) → n ≤ mostCapacity → k < 2 ^ 64 → total < 2 ^ 64
       → counted (length (handedText k total (slice 0 (4 * n) table))) ≡ length (tableText (tableIn k total table n))
+  unfolding textLimit
   table-counted k total few h j =
       let cs = slice 0 (4 * n) table in
       let whole : length (brokenFrom cs) ≡ 0 = omega (arith, count-broken cs, slice-length 0 (4 * n) table, L .room) in

@@ -1,7 +1,7 @@
--- `percentage_sheet::number_in` meets its contract: the number in the part that the field is.
+-- `fields::number_in` meets its contract: the number in the part that the field is.
 use borrow.Author.Needs.{needs}
-use Rattle.sheets.proofs.percentage_sheet.number_in.Statement.{statement}
-use Rattle.sheets.proofs.percentage_sheet.number_in.Tie as tie
+use Rattle.sheets.proofs.fields.number_in.Statement.{statement}
+use Rattle.sheets.proofs.fields.number_in.Tie as tie
 
 field-at-requires : tie.Need-field-at-requires
 field-at-requires c κs = search needs

@@ -1,0 +1,10 @@
+-- The contracts of inner functions: what each answers, and leaves in memory. No public contract cites them.
+pub mod Fields
+pub mod FirstLine
+pub mod SheetReader
+pub mod Order
+pub mod TableNumbers
+pub mod TableReader
+pub mod Writing
+pub mod Churn
+pub mod Planning
