@@ -11,7 +11,7 @@ use Rattle.numerals.specs.Text.{split, indexOf}
 use Rattle.numerals.specs.declared.digits.Number.{Number}
 use Rattle.numerals.specs.declared.digits.Number.the-variants.{Value, Bad}
 use Rattle.numerals.proofs.Decimal.{only-text}
-use Rattle.sheets.proofs.Parts.{fieldsLeft, left-all, left-none, left-more}
+use Rattle.sheets.proofs.FieldParts.{fieldsLeft, left-all, left-none, left-more}
 use Rattle.commands.specs.Address.{byte, quad}
 
 -- what v is once the bytes of these fields are put behind it

@@ -8,18 +8,21 @@ use borrow.Author.Tests.{le-leb, leb-true}
 use Rattle.sheets.specs.Reading.{Reading, got, refused}
 use Rattle.sheets.specs.PercentageSheet.{Sheet, readSheet}
 use Rattle.numerals.specs.Limits.{textLimit}
-use Rattle.sheets.specs.RuleSheet.{readTable}
+use Rattle.sheets.specs.FirstLine.{firstLine}
+use Rattle.sheets.specs.RuleSheet.{tableLine, readTable}
 use Rattle.sheets.specs.Calls.{printText, printRead, valuesOf, sheetText}
 use Rattle.sheets.specs.declared.answer.Refused as answer
 use Rattle.sheets.specs.declared.answer.Answer.the-variants.{Value, Refused}
-use Rattle.sheets.proofs.Readings.{unless-got, not-got}
+use Rattle.sheets.proofs.Readings.{unless-got, then-got, not-got}
 use Rattle.sheets.proofs.DemandThree.{demand-three}
 use Rattle.commands.specs.Refused.{refusedText}
 use Rattle.commands.specs.Split.{splitOf, splitPrints}
 
 sheet-fits : (text : List ℕ) (S : Sheet) → readSheet text ≡ got S → length (sheetText S) ≤ 65536
-unfolding readTable textLimit
-sheet-fits text S e = leb-true (length (sheetText S)) 65536 (unless-got _ _ _ _ (demand-three text S e .table-read) .0)
+unfolding readTable tableLine firstLine textLimit
+sheet-fits text S e =
+    let line = then-got (tableLine (sheetText S)) _ (demand-three text S e .table-read) in
+    leb-true (length (sheetText S)) 65536 (unless-got _ _ _ _ (line .1) .0)
 
 module _ (text : List ℕ) where
   prints : (S : Sheet) → readSheet text ≡ got S → printText (sheetText S) 65536 ≡ Value (length (sheetText S))

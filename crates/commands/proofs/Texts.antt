@@ -11,7 +11,7 @@ use lib.Seq.{sets, drop-cons}
 use Rattle.numerals.specs.Decimal.{decimal}
 use Rattle.numerals.proofs.Decimal.{length-decimal, width-least}
 use Rattle.sheets.specs.Reading.{same}
-use Rattle.sheets.specs.Writing.{Wrote}
+use Rattle.sheets.specs.Inner.Writing.{Wrote}
 use Rattle.sheets.proofs.Words.{same-more, same-other}
 use Rattle.commands.specs.Said.{Said, prints, noNumber, outcome, filled}
 use Rattle.commands.specs.declared.answer.Outcome.the-variants.{Answer, NoNumber}

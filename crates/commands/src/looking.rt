@@ -7,7 +7,7 @@ use sheets::Refused;
 ghost use mathlib.Core.Path.{_≡_};
 ghost use Prim.Native.Nat.{_≤_};
 ghost use lib.ListN.{length};
-ghost use Rattle.sheets.specs.Writing.{Wrote};
+ghost use Rattle.sheets.specs.Inner.Writing.{Wrote};
 ghost use Rattle.commands.specs.Said.{outcome, filled};
 ghost use Rattle.commands.specs.Lookup.{lookupText, lookupSays};
 

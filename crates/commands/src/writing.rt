@@ -6,7 +6,7 @@ ghost use mathlib.Core.List.{[], _∷_, _++_};
 ghost use Prim.Native.Nat.{_+_, _≤_};
 ghost use lib.ListN.{length};
 ghost use Rattle.numerals.specs.Decimal.{decimal};
-ghost use Rattle.sheets.specs.Writing.{Wrote};
+ghost use Rattle.sheets.specs.Inner.Writing.{Wrote};
 ghost use Rattle.commands.specs.Refused.{numberText, refusal, refusedText, refusedOfText};
 
 // A text at a position; the position after it.

@@ -4,7 +4,7 @@ use native.Mathlib.Omega.{arith}
 use lib.ListN.{length}
 use borrow.Author.Needs.{needs}
 use Rattle.numerals.specs.Decimal.{decimal}
-use Rattle.sheets.specs.Writing.{Wrote, Before, endAt}
+use Rattle.sheets.specs.Inner.Writing.{Wrote, Before, endAt}
 use Rattle.sheets.proofs.Writes.{chain, byte, text, before-end}
 use Rattle.commands.proofs.Texts.{digits-most, ends-soon}
 use Rattle.commands.proofs.writing.put_number.Statement.{statement}
