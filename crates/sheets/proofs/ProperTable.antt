@@ -28,7 +28,7 @@ use Rattle.packing.proofs.Demand.{granted-fitting, one-fits}
 use Rattle.packing.proofs.Tables.{length-table}
 use Rattle.sheets.specs.Reading.{got}
 use Rattle.sheets.specs.PercentageSheet.{Sheet, readSheet}
-use Rattle.sheets.specs.RuleSheet.{checkTable}
+use Rattle.sheets.specs.Inner.TableNumbers.{checkTable}
 use Rattle.sheets.specs.Calls.{servicesIn, tableFor}
 use Rattle.sheets.proofs.Ladder.{Ladder, ladder, ladder-some, all-labelled, Granted, Ready, table-sorted}
 use Rattle.sheets.proofs.SheetLimits.{Limits, limits, sum-places}

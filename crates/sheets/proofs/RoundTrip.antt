@@ -14,9 +14,9 @@ use Rattle.packing.specs.Answer.{cells}
 use Rattle.sheets.specs.Reading.{Reading, got, refused, unless, field}
 use Rattle.sheets.specs.FirstLine.{Opening}
 use Rattle.numerals.specs.Limits.{mostBits, mostBackends, mostServices, mostCapacity, textLimit, totalLimit}
-use Rattle.sheets.specs.RuleSheet.{Table, tableWord, tableText, placed, ruleFields, ruleLines, wholeTable, tableLine, readTable, checkTable}
+use Rattle.sheets.specs.RuleSheet.{Table, tableWord, tableText, placed, ruleFields, ruleLines, wholeTable, tableLine, readTable}
 use Rattle.sheets.specs.Calls.{linesFrom, brokenFrom, handedText, tableHanded}
-use Rattle.sheets.specs.Inner.TableNumbers.{line}
+use Rattle.sheets.specs.Inner.TableNumbers.{line, checkTable}
 use Rattle.sheets.proofs.Readings.{not-got, got-same, unless-got, onField-got, onSuffix-got, then-got}
 use Rattle.sheets.proofs.OpeningLine.{Opened, opened}
 use Rattle.sheets.proofs.Joins.{join, join-split, by-number}
