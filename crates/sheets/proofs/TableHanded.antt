@@ -15,7 +15,8 @@ use Rattle.packing.specs.Count.{Line}
 use Rattle.sheets.specs.Reading.{Reading, got, refused, then, unless}
 use Rattle.numerals.specs.Limits.{mostBits, mostCapacity, textLimit, totalLimit}
 use Rattle.expansion.specs.Answer.{inLimits}
-use Rattle.sheets.specs.RuleSheet.{Table, closed, checkLines, checkEnd, checkSheet, checkTable}
+use Rattle.sheets.specs.RuleSheet.{Table, closed, checkLines, checkEnd, checkSheet}
+use Rattle.sheets.specs.Inner.Premises.{checkTable}
 use Rattle.sheets.specs.Calls.{linesFrom, brokenFrom, handedText, tableHanded}
 use Rattle.sheets.specs.Inner.TableNumbers.{linesIn, tableIn, RuleLines}
 use Rattle.sheets.specs.Inner.Writing.{CheckedAs, checkedFrom, checkedCells, handed}

@@ -28,7 +28,8 @@ use Rattle.packing.specs.Cases.{line}
 use Rattle.sheets.specs.Reading.{Reading, got, refused, then, unless, onField, same}
 use Rattle.sheets.specs.PercentageSheet.{Sheet, weightFields, sum, serviceFields, serviceLines, volumesOf, weightsOf as rowsOf, whole, sheetLine, readSheet}
 use Rattle.sheets.specs.FirstLine.{openingFields, openingLines, firstLine}
-use Rattle.sheets.specs.RuleSheet.{Table, lineText, linesText, tableText, onSuffix, countOf, inOrder, placed, ruleFields, ruleLines, closed, wholeTable, tableLine, readTable, isLine, checkLines, checkEnd, checkSheet, checkTable}
+use Rattle.sheets.specs.RuleSheet.{Table, lineText, linesText, tableText, onSuffix, countOf, inOrder, placed, ruleFields, ruleLines, closed, wholeTable, tableLine, readTable, isLine, checkLines, checkEnd, checkSheet}
+use Rattle.sheets.specs.Inner.Premises.{checkTable}
 use Rattle.sheets.specs.Calls.{about, servicesIn, tableFor, planOf, planAnswer, figuresFor, sheetText, printText, printRead}
 use Rattle.sheets.specs.Demand.{Demand3}
 use Rattle.sheets.specs.Cases.{bytes, cases}

@@ -172,16 +172,16 @@ lookupIn t n address = pick (hasService t n) (Value (firstMatch (ownRules n (t .
 unfoldable pub lookupAnswer : List ℕ → ℕ → ℕ → Answer
 lookupAnswer text n address = answered Refused 0 (readTable text) (λ t. lookupIn t n address)
 
--- the number of k-bit suffixes for which service n has another backend in the new lines than in the old
+-- the number of suffixes, of as many as there are, for which service n has another backend in the new lines than in the old
 unfoldable pub moved : ℕ → List Line → List Line → ℕ → ℕ
-moved k old new n = countTo (2 ^ k) (λ v. not (eqb (firstMatch (ownRules n old) v) (firstMatch (ownRules n new) v)))
+moved all old new n = countTo all (λ v. not (eqb (firstMatch (ownRules n old) v) (firstMatch (ownRules n new) v)))
 
 -- churn: 8 is about the first sheet that lacks the service, 12 about neither
 unfoldable pub churnOf : Table → Table → ℕ → Answer
 churnOf old new n =
     pick (hasService old n)
     (pick (hasService new n)
-    (pick (eqb (old .k) (new .k)) (Value (moved (old .k) (old .lines) (new .lines) n))
+    (pick (eqb (old .k) (new .k)) (Value (moved (2 ^ (old .k)) (old .lines) (new .lines) n))
     (Refused (refusedAt no12 0)))
     (Refused (about 2 no8 0)))
     (Refused (about 1 no8 0))

@@ -125,7 +125,3 @@ checkSheet t broken =
     (unless (inLimits 1 mostCapacity (length (t .lines) + broken)) no2 0
     (unless (leb (t .total) totalLimit) no2 0
     (then (checkLines (t .k) [] (t .lines)) (checkEnd broken t))))
-
--- a table of whole lines
-unfoldable pub checkTable : Table → Reading Table
-checkTable t = checkSheet t 0

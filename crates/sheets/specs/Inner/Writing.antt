@@ -36,9 +36,12 @@ endAt (NotWritten why) = 0
 unfoldable pub headText : ℕ → ℕ → ℕ → List ℕ
 headText k n total = tableWord ++ 32 ∷ decimal k ++ 32 ∷ decimal n ++ 32 ∷ decimal total ++ 10 ∷ []
 
--- a number of bytes, counted up to one more than a text may have
+-- one byte more than a text may have, and a number of bytes counted up to that
+abbrev pub overLong : ℕ
+overLong = 65537
+
 abbrev pub counted : ℕ → ℕ
-counted n = min n 65537
+counted n = min n overLong
 
 -- how many bytes a rule line has
 abbrev pub lineWidth : ℕ → ℕ → ℕ → ℕ
