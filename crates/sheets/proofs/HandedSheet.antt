@@ -27,7 +27,7 @@ use Rattle.packing.specs.Count.{Line}
 use Rattle.sheets.specs.Reading.{Reading, got, then, unless, onField}
 use Rattle.sheets.specs.FirstLine.{Opening, openingFields, openingLines, firstLine}
 use Rattle.numerals.specs.Limits.{mostBits, mostBackends, mostServices, mostRules, mostCapacity, textLimit, totalLimit}
-use Rattle.sheets.specs.RuleSheet.{Table, tableWord, lineText, linesText, onSuffix, countOf, inOrder, placed, ruleFields, ruleLines, closed, wholeTable, tableLine, readTable, isLine, checkLines, checkEnd, checkSheet}
+use Rattle.sheets.specs.RuleSheet.{Table, tableWord, headText, lineText, linesText, onSuffix, countOf, inOrder, placed, ruleFields, ruleLines, closed, wholeTable, tableLine, readTable, isLine, checkLines, checkEnd, checkSheet}
 use Rattle.sheets.specs.Calls.{linesFrom, brokenFrom, brokenText, linesHanded, handedText, tableHanded}
 use Rattle.sheets.specs.Inner.Premises.{ValuesFit, atNoLine}
 use Rattle.sheets.proofs.Words.{same-refl}
@@ -75,7 +75,7 @@ broken-split (s ∷ ss) =
 handed-split :
     (k total : ℕ) (cs : List ℕ)
     → split 10 (handedText k total cs) ≡ join 32 (headRow k (linesHanded cs) total) ∷ rowsBefore (linesFrom cs) (brokenRows (brokenFrom cs))
-unfolding handedText join
+unfolding handedText headText join
 handed-split k total cs =
     let head = headRow k (linesHanded cs) total in
     let rest = linesText (linesFrom cs) ++ brokenText (brokenFrom cs) in

@@ -18,7 +18,7 @@ use Rattle.packing.specs.Table.{problem, granted, oneEach}
 use Rattle.packing.specs.Answer.{linesMade, figuresMade, cells, noBuffer, figuresBuffer, tableBuffer}
 use Rattle.sheets.specs.Reading.{Reading, got, refused, unless}
 use Rattle.sheets.specs.PercentageSheet.{Sheet, readSheet}
-use Rattle.sheets.specs.RuleSheet.{Table, tableWord, linesText, tableText, countOf, readTable, checkSheet}
+use Rattle.sheets.specs.RuleSheet.{Table, headText, linesText, tableText, countOf, readTable, checkSheet}
 use Rattle.sheets.specs.declared.answer.Refused.{Refused as Why}
 use Rattle.sheets.specs.declared.answer.Answer.{Answer}
 use Rattle.sheets.specs.declared.answer.Answer.the-variants.{Value, Refused}
@@ -137,13 +137,7 @@ linesHanded cs = length (linesFrom cs) + length (brokenFrom cs)
 
 -- the text that a table in numbers makes
 unfoldable pub handedText : ℕ → ℕ → List ℕ → List ℕ
-handedText k total cs =
-    tableWord
-    ++ 32 ∷ decimal k
-    ++ 32 ∷ decimal (linesHanded cs)
-    ++ 32 ∷ decimal total
-    ++ 10 ∷ linesText (linesFrom cs)
-    ++ brokenText (brokenFrom cs)
+handedText k total cs = headText k (linesHanded cs) total ++ (linesText (linesFrom cs) ++ brokenText (brokenFrom cs))
 
 -- a table that was handed in numbers, checked as its sheet would be: that text's length, line 1, line by line, the end
 unfoldable pub tableHanded : ℕ → ℕ → List ℕ → Reading Table
@@ -172,7 +166,7 @@ lookupIn t n address = pick (hasService t n) (Value (firstMatch (ownRules n (t .
 unfoldable pub lookupAnswer : List ℕ → ℕ → ℕ → Answer
 lookupAnswer text n address = answered Refused 0 (readTable text) (λ t. lookupIn t n address)
 
--- the number of suffixes, of as many as there are, for which service n has another backend in the new lines than in the old
+-- of the suffixes below `all`, the number for which service n has another backend in the new lines than in the old
 unfoldable pub moved : ℕ → List Line → List Line → ℕ → ℕ
 moved all old new n = countTo all (λ v. not (eqb (firstMatch (ownRules n old) v) (firstMatch (ownRules n new) v)))
 

@@ -17,9 +17,9 @@ ghost use lib.Seq.{slice};
 ghost use Rattle.numerals.specs.Limits.{mostBits, mostServices, mostCapacity};
 ghost use Rattle.numerals.specs.Decimal.{decimal};
 ghost use Rattle.numerals.specs.Suffix.{suffixText};
-ghost use Rattle.sheets.specs.RuleSheet.{tableText, lineText, isLine};
+ghost use Rattle.sheets.specs.RuleSheet.{headText, lineText, tableText, isLine};
 ghost use Rattle.sheets.specs.Inner.TableNumbers.{line, lineAt, tableIn, RuleLines};
-ghost use Rattle.sheets.specs.Inner.Writing.{Wrote, Before, endAt, headText, lineWidth, counted, CheckedAs, checkedCells, Checking, handed};
+ghost use Rattle.sheets.specs.Inner.Writing.{Wrote, Before, endAt, lineWidth, counted, CheckedAs, checkedCells, Checking, handed};
 ghost use Rattle.sheets.specs.Calls as calls;
 
 // One byte more than a text may have. Widths are counted up to it, so that no sum wraps.
