@@ -7,14 +7,14 @@ use Rattle.numerals.specs.Decimal.{noLeadingZero, isNumeral, number, widthIn, w
 use Rattle.numerals.specs.Suffix.{suffix}
 use Rattle.numerals.specs.Text.{onto, split}
 use Rattle.numerals.specs.Refusals.{numberOf}
-use Rattle.expansion.specs.FirstMatch.{matches}
+use Rattle.expansion.specs.FirstMatch.{matches, firstMatch}
 use Rattle.numerals.specs.Sums.{sumTo, countTo}
-use Rattle.packing.specs.Count.{matchesLine}
+use Rattle.packing.specs.Count.{ownRules}
 use Rattle.sheets.specs.Reading.{then, unless, onField, same}
 use Rattle.numerals.specs.Limits.{textLimit, totalLimit}
 use Rattle.sheets.specs.RuleSheet.{tableFields, onSuffix, countOf, inOrder, placed, ruleFields, ruleLines, closed}
 use Rattle.sheets.specs.RuleSheet.{wholeTable, tableLines, readTable}
-use Rattle.sheets.specs.Calls.{firstBackend, hasService, lookupIn, lookupAnswer, moved, churnOf, churnAnswer}
+use Rattle.sheets.specs.Calls.{hasService, lookupIn, lookupAnswer, moved, churnOf, churnAnswer}
 use Rattle.sheets.specs.Cases.{bytes}
 use Rattle.commands.specs.Said.{Said, prints, noNumber, onNumber}
 use Rattle.commands.specs.Refused.{numberText, refusal, refusedText, refusedOfText}
@@ -76,7 +76,7 @@ AllRight [] = Unit {0}
 AllRight (c ∷ cs) = (lookupSays (bytes (c .first)) (bytes (c .service)) (bytes (c .address)) ≡ c .said) × AllRight cs
 
 pub right : AllRight cases
-unfolding lookupSays onNumber numeral addressOf orElse quad byte lookupText lookedText numberText refusedText refusal numberOf decimal width widthIn lowest onValue lookupAnswer lookupIn hasService firstBackend matchesLine matches bytes readTable textLimit tableLines wholeTable closed ruleLines ruleFields placed inOrder countOf onSuffix tableFields totalLimit same onField unless then number isNumeral noLeadingZero allDigits isDigit value valueFrom suffix split onto
+unfolding lookupSays onNumber numeral addressOf orElse quad byte lookupText lookedText numberText refusedText refusal numberOf decimal width widthIn lowest onValue lookupAnswer lookupIn hasService firstMatch ownRules matches bytes readTable textLimit tableLines wholeTable closed ruleLines ruleFields placed inOrder countOf onSuffix tableFields totalLimit same onField unless then number isNumeral noLeadingZero allDigits isDigit value valueFrom suffix split onto
 right = (refl, (refl, (refl, (refl, (refl, (refl, (refl, (refl, (refl, (refl, (refl, (refl, (refl, (refl, (refl, (refl, (refl, (refl, (refl, tt)))))))))))))))))))
 
 -- Churn: what moved, and the sheet that a refusal is about.
@@ -93,5 +93,5 @@ pub record Churns : Type 0 where
   pub no-number : churns cut cut "-1" ≡ noNumber 3
 
 pub all-churns : Churns
-unfolding churnSays onNumber numeral churnedText numberText refusedOfText refusal numberOf decimal width widthIn lowest churnAnswer churnOf moved sumTo countTo hasService firstBackend matchesLine matches bytes readTable textLimit tableLines wholeTable closed ruleLines ruleFields placed inOrder countOf onSuffix tableFields totalLimit same onField unless then number isNumeral noLeadingZero allDigits isDigit value valueFrom suffix split onto
+unfolding churnSays onNumber numeral churnedText numberText refusedOfText refusal numberOf decimal width widthIn lowest churnAnswer churnOf moved sumTo countTo hasService firstMatch ownRules matches bytes readTable textLimit tableLines wholeTable closed ruleLines ruleFields placed inOrder countOf onSuffix tableFields totalLimit same onField unless then number isNumeral noLeadingZero allDigits isDigit value valueFrom suffix split onto
 all-churns = record { half = refl; none = refl; unknown = refl; depth = refl; second = refl; no-number = refl }

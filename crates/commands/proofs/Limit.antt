@@ -7,7 +7,7 @@ use Rattle.numerals.specs.Digits.{onValue}
 use Rattle.numerals.specs.declared.digits.Number.{Number}
 use Rattle.numerals.specs.declared.digits.Number.the-variants.{Value, Bad}
 use Rattle.numerals.proofs.Decimal.{only-text}
-use Rattle.commands.specs.Numeral.{capped}
+use Rattle.commands.specs.Inner.Numeral.{capped}
 use Rattle.commands.specs.Address.{addressLimit, byte, quad}
 
 no-value : (v : ℕ) {P : Type 0} → Bad ≡ Value v → P

@@ -9,66 +9,67 @@ use borrow.Author.Tests.{le-leb, lt-leb}
 use Rattle.numerals.specs.Pick.{pick}
 use Rattle.numerals.proofs.Choice.{by-less}
 use Rattle.numerals.specs.Refusals.{no2}
-use Rattle.sheets.specs.Reading.{Reading, got, turned}
+use Rattle.sheets.specs.Reading.{Reading, got, refused}
 use Rattle.sheets.specs.RuleSheet.{Table, readTable}
 use Rattle.sheets.specs.Calls.{refusedAt, hasService, lookupIn, lookupAnswer}
 use Rattle.sheets.specs.declared.answer.Refused as answer
-use Rattle.sheets.specs.declared.answer.Looked.{Looked}
-use Rattle.sheets.specs.declared.answer.Looked.the-variants.{Backend, Refused}
+use Rattle.sheets.specs.declared.answer.Answer.{Answer}
+use Rattle.sheets.specs.declared.answer.Answer.the-variants as told
 use Rattle.numerals.specs.declared.digits.Number.the-variants.{Value, Bad}
 use Rattle.commands.specs.Said.{prints, noNumber, onNumber}
 use Rattle.commands.specs.Refused.{numberText, refusedText}
-use Rattle.commands.specs.Numeral.{numeral, capped}
+use Rattle.commands.specs.Numeral.{numeral}
+use Rattle.commands.specs.Inner.Numeral.{capped}
 use Rattle.commands.specs.Address.{addressLimit, addressOf}
 use Rattle.commands.specs.Lookup.{lookedText, lookupText, lookupSays}
 use Rattle.commands.proofs.Numerals.{capped-value, capped-bad}
 use Rattle.commands.proofs.Services.{lookup-capped}
 
 -- two answers that differ by the backend at most
-data Alike : Looked → Looked → Type 0 where
-  refusals : {r : answer.Refused} → Alike (Refused r) (Refused r)
-  backends : {b c : ℕ} → Alike (Backend b) (Backend c)
+data Alike : Answer → Answer → Type 0 where
+  refusals : {r : answer.Refused} → Alike (told.Refused r) (told.Refused r)
+  backends : {b c : ℕ} → Alike (told.Value b) (told.Value c)
 
 alike : (text : List ℕ) (n a b : ℕ) → Alike (lookupAnswer text n a) (lookupAnswer text n b)
 unfolding lookupAnswer lookupIn
 alike text n a b = go (readTable text)
   where
-    by : (t : Bool) (r : answer.Refused) (x y : ℕ) → Alike (pick t (Backend x) (Refused r)) (pick t (Backend y) (Refused r))
+    by : (t : Bool) (r : answer.Refused) (x y : ℕ) → Alike (pick t (told.Value x) (told.Refused r)) (pick t (told.Value y) (told.Refused r))
     by true r x y = backends
     by false r x y = refusals
 
     go : (r : Reading Table) → Alike (lookupIn r n a) (lookupIn r n b)
-    go (turned why line) = refusals
+    go (refused why line) = refusals
     go (got t) = by (hasService t n) _ _ _
 
-not-both : {b : ℕ} {r : answer.Refused} {P : Type 0} → Backend b ≡ Refused r → P
+not-both : {b : ℕ} {r : answer.Refused} {P : Type 0} → told.Value b ≡ told.Refused r → P
 not-both h = absurd (let z : _≡_ {A = ℕ} 0 1 = cc in omega arith)
 
 module _ (text : List ℕ) (n a b : ℕ) where
-  pub refused-too : (r : answer.Refused) → Refused r ≡ lookupAnswer text n b → lookupText text n a ≡ refusedText r
+  pub refused-too : (r : answer.Refused) → told.Refused r ≡ lookupAnswer text n b → lookupText text n a ≡ refusedText r
   unfolding lookupText lookedText
   refused-too r = go (alike text n a b)
     where
-      go : {x y : Looked} → Alike x y → Refused r ≡ y → lookedText x a ≡ refusedText r
+      go : {x y : Answer} → Alike x y → told.Refused r ≡ y → lookedText x a ≡ refusedText r
       go refusals h = cc
       go backends h = not-both (sym h)
 
-  pub above : (x : ℕ) → Backend x ≡ lookupAnswer text n b → addressLimit < a → lookupText text n a ≡ refusedText (refusedAt no2 0)
+  pub above : (x : ℕ) → told.Value x ≡ lookupAnswer text n b → addressLimit < a → lookupText text n a ≡ refusedText (refusedAt no2 0)
   unfolding lookupText lookedText
   above x e over = go (alike text n a b) e
     where
-      go : {y z : Looked} → Alike y z → Backend x ≡ z → lookedText y a ≡ refusedText (refusedAt no2 0)
+      go : {y z : Answer} → Alike y z → told.Value x ≡ z → lookedText y a ≡ refusedText (refusedAt no2 0)
       go refusals h = not-both h
       go backends h = rw (lt-leb a addressLimit over)
 
-pub inside : (text : List ℕ) (n a x : ℕ) → Backend x ≡ lookupAnswer text n a → a ≤ addressLimit → lookupText text n a ≡ numberText x
+pub inside : (text : List ℕ) (n a x : ℕ) → told.Value x ≡ lookupAnswer text n a → a ≤ addressLimit → lookupText text n a ≡ numberText x
 unfolding lookupText lookedText
 inside text n a x e h = rw (← e, le-leb a addressLimit h)
 
 -- a service above 64 as 65, an address above 32 bits as 2^32
 service-capped : (text : List ℕ) (n a : ℕ) → lookupText text (min n 65) a ≡ lookupText text n a
 unfolding lookupText
-service-capped text n a = ap (λ (l : Looked). lookedText l a) (lookup-capped text n a)
+service-capped text n a = ap (λ (l : Answer). lookedText l a) (lookup-capped text n a)
 
 address-capped : (text : List ℕ) (n a : ℕ) → lookupText text n (min a 4294967296) ≡ lookupText text n a
 unfolding lookupText lookedText
@@ -79,7 +80,7 @@ address-capped text n a =
     let is : min a 4294967296 ≡ a = omega arith in
     ap (lookupText text n) is)
   where
-    go : addressLimit < a → {x y : Looked} → Alike x y → lookedText x (min a 4294967296) ≡ lookedText y a
+    go : addressLimit < a → {x y : Answer} → Alike x y → lookedText x (min a 4294967296) ≡ lookedText y a
     go h refusals = refl
     go h backends =
         let over : addressLimit < min a 4294967296 = omega arith in

@@ -15,7 +15,8 @@ use Rattle.numerals.specs.Decimal.{noLeadingZero, isNumeral, number}
 use Rattle.numerals.specs.declared.digits.Number.{Number}
 use Rattle.numerals.specs.declared.digits.Number.the-variants.{Value, Bad}
 use Rattle.numerals.proofs.Choice.{both-false, by-less}
-use Rattle.commands.specs.Numeral.{numeral, capped}
+use Rattle.commands.specs.Numeral.{numeral}
+use Rattle.commands.specs.Inner.Numeral.{capped}
 use Rattle.commands.specs.Address.{orElse}
 
 no-value : {v : ℕ} {P : Type 0} → Bad ≡ Value v → P

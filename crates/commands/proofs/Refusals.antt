@@ -16,6 +16,6 @@ pub parts : (r : Refused) (c : ℕ) → word ++ ((decimal (numberOf (r .why)) ++
 unfolding refusal bytes
 parts r c = simp append-assoc
 
-pub parts-of : (r : Refused) (sheet : ℕ) → (refusal r ++ 32 ∷ []) ++ (decimal sheet ++ 10 ∷ []) ≡ refusedOfText r sheet
+pub parts-of : (r : Refused) → (refusal r ++ 32 ∷ []) ++ (decimal (r .of) ++ 10 ∷ []) ≡ refusedOfText r
 unfolding refusedOfText numberText
-parts-of r sheet = simp append-assoc
+parts-of r = simp append-assoc

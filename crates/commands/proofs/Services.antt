@@ -8,11 +8,11 @@ use lib.Dec.{ltb}
 use borrow.Author.Tests.{ne-eqb}
 use Rattle.numerals.proofs.Choice.{both-false, by-less}
 use Rattle.packing.specs.Count.{Line}
-use Rattle.sheets.specs.Reading.{Reading, got, turned}
+use Rattle.sheets.specs.Reading.{Reading, got, refused}
 use Rattle.sheets.specs.RuleSheet.{Table, countOf, readTable}
 use Rattle.sheets.specs.Calls.{hasService, lookupIn, lookupAnswer, churnOf, churnAnswer}
 use Rattle.sheets.proofs.TableChecks.{InOrder, formed}
-use Rattle.sheets.proofs.Standing.{read-proper}
+use Rattle.sheets.proofs.OrderedLines.{read-proper}
 
 none-above : (k s : ℕ) (before ls : List Line) → InOrder k before ls → 64 ≤ s → countOf s ls ≡ 0
 unfolding countOf InOrder
@@ -38,7 +38,7 @@ lookup-capped text n a =
   where
     go : 64 < n → (r : Reading Table) → readTable text ≡ r → lookupIn r (min n 65) a ≡ lookupIn r n a
     go h (got t) e = rw (unknown text t e n h, unknown text t e (min n 65) (omega arith))
-    go h (turned why line) e = refl
+    go h (refused why line) e = refl
 
 pub churn-capped : (old new : List ℕ) (n : ℕ) → churnAnswer old new (min n 65) ≡ churnAnswer old new n
 unfolding churnAnswer churnOf
@@ -48,6 +48,6 @@ churn-capped old new n =
     (λ h. ap (λ (m : ℕ). churnAnswer old new m) (kept n h))
   where
     go : 64 < n → (r s : Reading Table) → readTable old ≡ r → churnOf r s (min n 65) ≡ churnOf r s n
-    go h (turned why line) s e = refl
-    go h (got t) (turned why line) e = refl
+    go h (refused why line) s e = refl
+    go h (got t) (refused why line) e = refl
     go h (got t) (got u) e = rw (unknown old t e n h, unknown old t e (min n 65) (omega arith))

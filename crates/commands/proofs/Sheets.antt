@@ -5,15 +5,15 @@ use mathlib.Core.List.{List}
 use native.Mathlib.Omega.{arith}
 use lib.ListN.{length}
 use borrow.Author.Tests.{le-leb, leb-true}
-use Rattle.sheets.specs.Reading.{Reading, got, turned}
+use Rattle.sheets.specs.Reading.{Reading, got, refused}
 use Rattle.sheets.specs.PercentageSheet.{Sheet, readSheet}
 use Rattle.numerals.specs.Limits.{textLimit}
 use Rattle.sheets.specs.RuleSheet.{readTable}
-use Rattle.sheets.specs.Calls.{printText, printRead, textOf, sheetText}
+use Rattle.sheets.specs.Calls.{printText, printRead, valuesOf, sheetText}
 use Rattle.sheets.specs.declared.answer.Refused as answer
-use Rattle.sheets.specs.declared.answer.Printed.the-variants.{End, Refused}
+use Rattle.sheets.specs.declared.answer.Answer.the-variants.{Value, Refused}
 use Rattle.sheets.proofs.Readings.{unless-got, not-got}
-use Rattle.sheets.proofs.Owed.{demand-three}
+use Rattle.sheets.proofs.DemandThree.{demand-three}
 use Rattle.commands.specs.Refused.{refusedText}
 use Rattle.commands.specs.Split.{splitOf, splitPrints}
 
@@ -22,32 +22,32 @@ unfolding readTable textLimit
 sheet-fits text S e = leb-true (length (sheetText S)) 65536 (unless-got _ _ _ _ (demand-three text S e .table-read) .0)
 
 module _ (text : List ℕ) where
-  prints : (S : Sheet) → readSheet text ≡ got S → printText (sheetText S) 65536 ≡ End (length (sheetText S))
+  prints : (S : Sheet) → readSheet text ≡ got S → printText (sheetText S) 65536 ≡ Value (length (sheetText S))
   unfolding printText
   prints S e = rw (le-leb (length (sheetText S)) 65536 (sheet-fits text S e))
 
   -- the rule sheet was printed
   pub ended :
-      (n : ℕ) → End n ≡ printRead (readSheet text) sheetText 65536
-      → (n ≡ length (splitPrints text)) × (textOf (readSheet text) sheetText ≡ splitPrints text)
+      (n : ℕ) → Value n ≡ printRead (readSheet text) sheetText 65536
+      → (n ≡ length (splitPrints text)) × (valuesOf (readSheet text) sheetText ≡ splitPrints text)
   unfolding splitPrints splitOf
   ended n = go (readSheet text) refl
     where
       go :
-          (r : Reading Sheet) → readSheet text ≡ r → End n ≡ printRead r sheetText 65536
-          → (n ≡ length (splitOf r)) × (textOf r sheetText ≡ splitOf r)
+          (r : Reading Sheet) → readSheet text ≡ r → Value n ≡ printRead r sheetText 65536
+          → (n ≡ length (splitOf r)) × (valuesOf r sheetText ≡ splitOf r)
       go (got S) e h = (cc (prints S e), refl)
-      go (turned why line) e h = absurd (let z : _≡_ {A = ℕ} 0 1 = cc in omega arith)
+      go (refused why line) e h = absurd (let z : _≡_ {A = ℕ} 0 1 = cc in omega arith)
 
-  -- it was turned back
-  pub refused :
+  -- it was refused
+  pub not-printed :
       (r : answer.Refused) → Refused r ≡ printRead (readSheet text) sheetText 65536
       → (splitPrints text ≡ refusedText r) × ((S : Sheet) → readSheet text ≡ got S → ⊥)
   unfolding splitPrints splitOf
-  refused w = go (readSheet text) refl
+  not-printed w = go (readSheet text) refl
     where
       go :
           (r : Reading Sheet) → readSheet text ≡ r → Refused w ≡ printRead r sheetText 65536
           → (splitOf r ≡ refusedText w) × ((S : Sheet) → r ≡ got S → ⊥)
       go (got S) e h = absurd (let z : _≡_ {A = ℕ} 0 1 = cc (prints S e) in omega arith)
-      go (turned why line) e h = (cc, λ S g. not-got g)
+      go (refused why line) e h = (cc, λ S g. not-got g)

@@ -1,4 +1,4 @@
--- What each command prints, from the bytes of its files and of its other words.
+-- What each command prints, from the bytes of its files and of its other words: what a reader must believe. The contracts of inner functions stand in `Inner`.
 pub mod Said
 pub mod Refused
 pub mod Numeral
@@ -7,3 +7,4 @@ pub mod Split
 pub mod Lookup
 pub mod Churn
 pub mod Help
+pub mod Inner

@@ -16,6 +16,6 @@ refusal r = bytes "REFUSED " ++ decimal (numberOf (r .why)) ++ 32 ∷ decimal (r
 unfoldable pub refusedText : Refused → List ℕ
 refusedText r = refusal r ++ 10 ∷ []
 
--- sheet: 1, 2, or 0 for neither
-unfoldable pub refusedOfText : Refused → ℕ → List ℕ
-refusedOfText r sheet = refusal r ++ 32 ∷ numberText sheet
+-- the sheet that it is about: 1, 2, or 0 for neither
+unfoldable pub refusedOfText : Refused → List ℕ
+refusedOfText r = refusal r ++ 32 ∷ numberText (r .of)

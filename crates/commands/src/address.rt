@@ -2,7 +2,7 @@
 use numerals::Number;
 ghost use mathlib.Core.Path.{_≡_};
 ghost use Rattle.numerals.specs.Text.{split};
-ghost use Rattle.commands.specs.Numeral.{capped};
+ghost use Rattle.commands.specs.Inner.Numeral.{capped};
 ghost use Rattle.commands.specs.Address.{quad, addressLimit, addressOf};
 
 // The address that a dotted quad is, the last byte lowest.

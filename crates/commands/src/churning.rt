@@ -1,7 +1,7 @@
 // churn OLD NEW SERVICE
 use crate::answer::Outcome;
 use numerals::Number;
-use sheets::Churned;
+use sheets::Answer;
 ghost use mathlib.Core.Path.{_≡_};
 ghost use Prim.Native.Nat.{_≤_};
 ghost use lib.ListN.{length};
@@ -17,13 +17,13 @@ fn compare(old: &[u8], new: &[u8], service: u64, out: &mut [u8]) -> usize
 {
     let churned = sheets::churn(old, new, service as usize);
     match churned {
-        Churned::Moved(n) => crate::writing::put_answer(out, n),
-        Churned::Refused(r, sheet) => crate::writing::put_refused_of(out, r, sheet),
+        Answer::Value(n) => crate::writing::put_answer(out, n),
+        Answer::Refused(r) => crate::writing::put_refused_of(out, r),
     }
 }
 
 // How many suffixes of a service have another backend in the new rule sheet than in the old.
-pub fn churn(old: &[u8], new: &[u8], service: &[u8], out: &mut [u8; 65536]) -> Outcome
+pub fn churn(old: &[u8], new: &[u8], service: &[u8], out: &mut [u8; crate::ROOM]) -> Outcome
     ensures answer { λ r. ⌜ r ≡ outcome (churnSays (now (old .entry)) (now (new .entry)) (now (service .entry))) ⌝ }
     ensures buffer { λ _. ⌜ now (out .exit) ≡ filled (churnSays (now (old .entry)) (now (new .entry)) (now (service .entry))) (now (out .entry)) ⌝ }
 {

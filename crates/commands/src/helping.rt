@@ -44,7 +44,7 @@ pub fn command(word: &[u8]) -> Command
 }
 
 // The commands, each with a line and an example.
-pub fn help(out: &mut [u8; 65536]) -> usize
+pub fn help(out: &mut [u8; crate::ROOM]) -> usize
     ensures answer { λ r. ⌜ r ≡ length helpText ⌝ }
     ensures buffer { λ _. ⌜ now (out .exit) ≡ sets (now (out .entry)) 0 helpText ⌝ }
 {
@@ -62,7 +62,7 @@ What isn't proper prints REFUSED number line (churn: number line sheet).\n",
 }
 
 // The usage line of a command, or of all, for standard error.
-pub fn usage(command: Command, out: &mut [u8; 65536]) -> usize
+pub fn usage(command: Command, out: &mut [u8; crate::ROOM]) -> usize
     ensures answer { λ r. ⌜ r ≡ length (usageText command) ⌝ }
     ensures buffer { λ _. ⌜ now (out .exit) ≡ sets (now (out .entry)) 0 (usageText command) ⌝ }
 {

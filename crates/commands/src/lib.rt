@@ -18,4 +18,4 @@ pub use looking::lookup;
 pub use splitting::split;
 
 // The bytes of a lent buffer, and the limit of a text: no answer is longer.
-pub const ROOM: usize = 65536;
+pub const ROOM: usize = numerals::TEXT_LIMIT;

@@ -2,7 +2,7 @@
 use crate::answer::Outcome;
 use numerals::Number;
 use numerals::Refusal;
-use sheets::Looked;
+use sheets::Answer;
 use sheets::Refused;
 ghost use mathlib.Core.Path.{_≡_};
 ghost use Prim.Native.Nat.{_≤_};
@@ -18,12 +18,13 @@ fn look(table: &[u8], service: u64, address: u64, out: &mut [u8]) -> usize
 {
     let looked = sheets::lookup(table, service as usize, (address % 4294967296) as u32);
     match looked {
-        Looked::Refused(r) => crate::writing::put_refused(out, r),
-        Looked::Backend(b) => {
+        Answer::Refused(r) => crate::writing::put_refused(out, r),
+        Answer::Value(b) => {
             if 4294967295 < address {
                 let r = Refused {
                     why: Refusal::BadField,
                     line: 0,
+                    of: 0,
                 };
                 return crate::writing::put_refused(out, r);
             }
@@ -33,7 +34,7 @@ fn look(table: &[u8], service: u64, address: u64, out: &mut [u8]) -> usize
 }
 
 // The backend that a rule sheet gives a service's address to.
-pub fn lookup(table: &[u8], service: &[u8], address: &[u8], out: &mut [u8; 65536]) -> Outcome
+pub fn lookup(table: &[u8], service: &[u8], address: &[u8], out: &mut [u8; crate::ROOM]) -> Outcome
     ensures answer { λ r. ⌜ r ≡ outcome (lookupSays (now (table .entry)) (now (service .entry)) (now (address .entry))) ⌝ }
     ensures buffer { λ _. ⌜ now (out .exit) ≡ filled (lookupSays (now (table .entry)) (now (service .entry)) (now (address .entry))) (now (out .entry)) ⌝ }
 {

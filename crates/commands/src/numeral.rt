@@ -3,7 +3,8 @@ use numerals::Number;
 ghost use mathlib.Core.Path.{_≡_};
 ghost use Prim.Native.Nat.{_≤_};
 ghost use Rattle.numerals.specs.Decimal.{isNumeral};
-ghost use Rattle.commands.specs.Numeral.{numeral, capped};
+ghost use Rattle.commands.specs.Numeral.{numeral};
+ghost use Rattle.commands.specs.Inner.Numeral.{capped};
 
 // Whether a text is a numeral, however long.
 pub fn is_numeral(s: &[u8]) -> bool

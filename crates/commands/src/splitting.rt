@@ -1,5 +1,5 @@
 // split SHEET
-use sheets::Printed;
+use sheets::Answer;
 ghost use mathlib.Core.Path.{_≡_};
 ghost use lib.ListN.{length, take};
 ghost use lib.Seq.{sets};
@@ -9,14 +9,14 @@ ghost use Rattle.sheets.specs.Demand.{Demand3};
 ghost use Rattle.commands.specs.Split.{splitPrints};
 
 // The rule sheet of a percentage sheet, or its refusal. No rule sheet is longer than the buffer.
-pub fn split(sheet: &[u8], out: &mut [u8; 65536]) -> usize
+pub fn split(sheet: &[u8], out: &mut [u8; crate::ROOM]) -> usize
     ensures answer { λ r. ⌜ r ≡ length (splitPrints (now (sheet .entry))) ⌝ }
     ensures buffer { λ _. ⌜ now (out .exit) ≡ sets (now (out .entry)) 0 (splitPrints (now (sheet .entry))) ⌝ }
     ensures demand { λ r. ⌜ ((S : Sheet) → readSheet (now (sheet .entry)) ≡ got S → Demand3 (now (sheet .entry)) (take r (now (out .exit)))) ⌝ }
 {
     let printed = sheets::split_sheet(sheet, out);
     match printed {
-        Printed::End(n) => n,
-        Printed::Refused(r) => crate::writing::put_refused(out, r),
+        Answer::Value(n) => n,
+        Answer::Refused(r) => crate::writing::put_refused(out, r),
     }
 }

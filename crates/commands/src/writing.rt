@@ -74,10 +74,10 @@ pub fn put_refused(out: &mut [u8], r: Refused) -> usize
 }
 
 // A refusal where two sheets are read, and the sheet that it is about.
-pub fn put_refused_of(out: &mut [u8], r: Refused, sheet: usize) -> usize
+pub fn put_refused_of(out: &mut [u8], r: Refused) -> usize
     requires { ⌜ 71 ≤ length (now out) ⌝ }
-    ensures { λ end. ⌜ Wrote (now (out .entry)) (now (out .exit)) 0 end (refusedOfText r sheet) ⌝ }
+    ensures { λ end. ⌜ Wrote (now (out .entry)) (now (out .exit)) 0 end (refusedOfText r) ⌝ }
 {
     let at = put_refusal(out, r, 32);
-    put_number(out, at, sheet as u64, 10)
+    put_number(out, at, r.of as u64, 10)
 }

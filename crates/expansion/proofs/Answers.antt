@@ -1,4 +1,4 @@
--- What a call answers, by its cases: turned back by a check, too little room, or the list that the program made.
+-- What a call answers, by its cases: refused by a check, too little room, or the list that the program made.
 use Prim.Native.Nat.{ℕ, zero, suc, _+_, _-_, _≤_, _<_}
 use mathlib.Core.Bool.{true, false}
 use mathlib.Core.List.{List, [], _∷_, _++_, reverse, map}
@@ -17,14 +17,14 @@ use Rattle.expansion.specs.declared.rule.Rule.{Rule}
 use Rattle.numerals.specs.declared.refusal.Refusal.{Refusal}
 use Rattle.numerals.specs.declared.refusal.Refusal.the-variants.{ShortLoan}
 use Rattle.expansion.specs.declared.run.Run.{Run}
-use Rattle.expansion.specs.declared.call.Checked.the-variants.{Sound as Passed, Refused as Turned}
+use Rattle.expansion.specs.declared.call.Checked.the-variants.{Sound as Passed, Refused as Failed}
 use Rattle.expansion.specs.declared.call.Expanded.the-variants.{Made as Answered, Refused}
 use Rattle.expansion.proofs.Listing.{length-newest, column-newest}
 
-pub answer-turned : (k tolerance budget : ℕ) (ws : List ℕ) (at room : ℕ) (why : Refusal) → checkCall k tolerance budget ws ≡ Turned why
+pub answer-refused : (k tolerance budget : ℕ) (ws : List ℕ) (at room : ℕ) (why : Refusal) → checkCall k tolerance budget ws ≡ Failed why
     → answer k tolerance budget ws at room ≡ Refused why
 unfolding answer
-answer-turned k tolerance budget ws at room why e = rw e
+answer-refused k tolerance budget ws at room why e = rw e
 
 -- the first stairs of a listing
 stairs-taken : (F : Frame) (rs : List Rule) (xs : List ℕ) (c : ℕ) → c ≤ length xs

@@ -8,7 +8,7 @@ use Rattle.numerals.specs.Sums.{sumTo}
 use Rattle.expansion.specs.FirstMatch.{share}
 use Rattle.expansion.specs.Imbalance.{backends, label, weight, has, wants, excess, shortfall, imbalance, giver, receiver, largestExcess, largestShortfall}
 use Rattle.expansion.specs.Steps.{Frame}
-use Rattle.expansion.specs.Sound.{Complete, Sound}
+use Rattle.expansion.specs.Inner.Sound.{Complete, Sound}
 use Rattle.expansion.specs.declared.rule.Rule.{Rule}
 use Rattle.numerals.proofs.Sums.{sum-ext, sum-add, sum-mul, sum-zero, sum-at}
 use Rattle.numerals.proofs.Searches.{argmax-is}

@@ -12,7 +12,7 @@ use Rattle.numerals.specs.Sums.{sumTo, listTo, argmax}
 use Rattle.expansion.specs.FirstMatch.{nobody, matches, gives, share}
 use Rattle.expansion.specs.Imbalance.{backends, label, weight, imbalance}
 use Rattle.expansion.specs.Steps.{firstRule, frame, after, listOf, stair}
-use Rattle.expansion.specs.Sound.{Lengths, Distinct, Complete, AllFormed, Falling, Sound}
+use Rattle.expansion.specs.Inner.Sound.{Lengths, Distinct, Labelled, Complete, AllFormed, Falling, Sound}
 use Rattle.numerals.proofs.Sums.{count-ext, count-const, list-at}
 use Rattle.numerals.proofs.Searches.{argmax-is}
 use Rattle.expansion.proofs.FirstMatch.{is-rule, gives-matched}
@@ -27,6 +27,9 @@ parts-there (suc n) f h = omega arith
 -- backends that are labelled by their number from 1
 pub numbers-distinct : (n : ℕ) → Distinct (λ b. getD (listTo n suc) b nobody) n
 numbers-distinct n a b l m e = omega (arith, list-at n suc a nobody l, list-at n suc b nobody m)
+
+pub numbers-named : (n : ℕ) → Labelled (λ b. getD (listTo n suc) b nobody) n
+numbers-named n b l e = omega (arith, list-at n suc b nobody l)
 
 -- a list of the one rule `*` gives its backend everything
 pub star-share : (k b c : ℕ) → share k (record { len = 0; value = 0; backend = b } ∷ []) c ≡ pick (eqb b c) (2 ^ k) 0
@@ -49,13 +52,14 @@ module _ (k unit tolerance : ℕ) (labels ws : List ℕ) (one : 1 ≤ k) (positi
       let l : ℕ = getD labels b nobody in
       (b, first-known, gives-matched (record { len = 0; value = 0; backend = l }) [] s l (eq-eqb (s % 1) 0 (mod-one s)) ∙ eq-eqb l l refl)
 
-  pub base-sound : Sound (frame k unit tolerance labels ws)
+  pub base-sound : Labelled (λ b. getD labels b nobody) (length ws) → Sound (frame k unit tolerance labels ws)
   unfolding frame backends label weight firstRule Lengths
-  base-sound =
+  base-sound named =
       record {
         positive = positive;
         balanced = balanced;
         distinct = distinct;
+        named = named;
         below = omega arith;
         short = (omega arith, tt);
         complete = base-complete;

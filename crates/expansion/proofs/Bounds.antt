@@ -8,7 +8,7 @@ use lib.ListN.{List·getD-eq-default}
 use Rattle.expansion.specs.FirstMatch.{gives, share}
 use Rattle.expansion.specs.Imbalance.{backends, label, weight, has, wants, excess, shortfall, imbalance, receiver, largestExcess, largestShortfall}
 use Rattle.expansion.specs.Steps.{reductionAt, Frame}
-use Rattle.expansion.specs.Sound.{Complete, Sound}
+use Rattle.expansion.specs.Inner.Sound.{Complete, Sound}
 use Rattle.expansion.specs.declared.rule.Rule.{Rule}
 use Rattle.numerals.proofs.Sums.{sum-le, sum-at, count-le}
 use Rattle.expansion.proofs.Balance.{has-sum}

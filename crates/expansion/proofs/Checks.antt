@@ -10,22 +10,22 @@ use borrow.Author.Tests.{leb-true, ltb-true, eqb-true, lt-ltb, le-ltb, lt-leb, l
 use Rattle.numerals.specs.Sums.{sumTo, listTo, allTo, argmax}
 use Rattle.expansion.specs.Imbalance.{backends}
 use Rattle.expansion.specs.Steps.{frame, firstRule}
-use Rattle.expansion.specs.Sound.{Sound}
+use Rattle.expansion.specs.Inner.Sound.{Sound}
 use Rattle.expansion.specs.Answer.{andThen, orElse, inLimits, checkWeights, checkCall}
 use Rattle.numerals.specs.Limits.{mostBits, mostBackends, mostRules, unit}
 use Rattle.expansion.specs.Inner.Run.{Valid, Fits}
 use Rattle.numerals.specs.declared.refusal.Refusal.{Refusal}
 use Rattle.numerals.specs.declared.refusal.Refusal.the-variants.{BadField, Unbalanced, TooMany}
 use Rattle.expansion.specs.declared.call.Checked.{Checked}
-use Rattle.expansion.specs.declared.call.Checked.the-variants.{Sound as Passed, Refused as Turned}
-use Rattle.expansion.proofs.Base.{numbers-distinct, first-known, base-sound}
+use Rattle.expansion.specs.declared.call.Checked.the-variants.{Sound as Passed, Refused as Failed}
+use Rattle.expansion.proofs.Base.{numbers-distinct, numbers-named, first-known, base-sound}
 use Rattle.numerals.proofs.Sums.{length-list}
 use Rattle.numerals.proofs.Searches.{both-true, all-true, all-false}
 
 -- both checks passed
 pub both-passed : (a b : Checked) → andThen a b ≡ Passed → (a ≡ Passed) × (b ≡ Passed)
 both-passed Passed b e = (refl, e)
-both-passed (Turned why) b e = (cc, cc)
+both-passed (Failed why) b e = (cc, cc)
 
 -- the test of a check that passed
 pub test-passed : (t : Bool) (why : Refusal) → orElse t why ≡ Passed → t ≡ true
@@ -45,16 +45,16 @@ pub record Weighed (ws : List ℕ) : Type 0 where
   pub each : (b : ℕ) → b < length ws → getD ws b 0 ≤ unit
   pub balanced : sumTo (length ws) (λ b. getD ws b 0) ≡ unit
 
-pub weights-none : (ws : List ℕ) → length ws ≡ 0 → checkWeights ws ≡ Turned BadField
+pub weights-none : (ws : List ℕ) → length ws ≡ 0 → checkWeights ws ≡ Failed BadField
 unfolding checkWeights
 weights-none ws e = simp (le-ltb 0 (length ws) (omega arith))
 
 module _ (ws : List ℕ) (some : 0 < length ws) where
-  pub weights-many : mostBackends < length ws → checkWeights ws ≡ Turned TooMany
+  pub weights-many : mostBackends < length ws → checkWeights ws ≡ Failed TooMany
   unfolding checkWeights
   weights-many h = simp (lt-ltb 0 (length ws) some, lt-leb (length ws) mostBackends h)
 
-  pub weights-over : length ws ≤ mostBackends → (b : ℕ) → b < length ws → unit < getD ws b 0 → checkWeights ws ≡ Turned BadField
+  pub weights-over : length ws ≤ mostBackends → (b : ℕ) → b < length ws → unit < getD ws b 0 → checkWeights ws ≡ Failed BadField
   unfolding checkWeights
   weights-over few b l h =
       simp (
@@ -88,16 +88,16 @@ weights-passed ws e =
 
 -- the checks of a call, one after the other
 module _ (k tolerance budget : ℕ) (ws : List ℕ) where
-  pub call-bits : inLimits 1 mostBits k ≡ false → checkCall k tolerance budget ws ≡ Turned BadField
+  pub call-bits : inLimits 1 mostBits k ≡ false → checkCall k tolerance budget ws ≡ Failed BadField
   unfolding checkCall
   call-bits e = simp e
 
-  pub call-tolerance : inLimits 1 mostBits k ≡ true → unit < tolerance → checkCall k tolerance budget ws ≡ Turned BadField
+  pub call-tolerance : inLimits 1 mostBits k ≡ true → unit < tolerance → checkCall k tolerance budget ws ≡ Failed BadField
   unfolding checkCall
   call-tolerance e l = simp (e, lt-leb tolerance unit l)
 
   pub call-budget : inLimits 1 mostBits k ≡ true → tolerance ≤ unit → inLimits 1 mostRules budget ≡ false
-      → checkCall k tolerance budget ws ≡ Turned BadField
+      → checkCall k tolerance budget ws ≡ Failed BadField
   unfolding checkCall
   call-budget e l f = simp (e, le-leb tolerance unit l, f)
 
@@ -126,6 +126,7 @@ call-passed k tolerance budget ws e =
         balanced = w .balanced;
         labelled = length-list (length ws) suc;
         distinct = numbers-distinct (length ws);
+        named = numbers-named (length ws);
       },
       rules .0,
       rules .1,
@@ -139,12 +140,12 @@ some-unit = lit< tt
 -- the frame of a call that passed
 module _ (k tolerance : ℕ) (labels ws : List ℕ) (valid : Valid k tolerance labels ws) where
   pub sound : Sound (frame k unit tolerance labels ws)
-  sound = base-sound k unit tolerance labels ws (valid .some-bits) some-unit (valid .balanced) (valid .distinct)
+  sound = base-sound k unit tolerance labels ws (valid .some-bits) some-unit (valid .balanced) (valid .distinct) (valid .named)
 
   pub fits : Fits (frame k unit tolerance labels ws)
   unfolding frame backends firstRule
   fits =
-      record { millionths = refl; few-bits = valid .few-bits; tolerable = valid .tolerable; few = valid .few; labelled = valid .labelled; started = omega arith; sound = sound }
+      record { millionths = refl; few-bits = valid .few-bits; tolerable = valid .tolerable; few = valid .few; labelled = valid .labelled; sound = sound }
 
   pub first-lt : argmax (λ b. getD ws b 0) (length ws) < length ws
   first-lt = first-known k unit tolerance labels ws (valid .some-bits) some-unit (valid .balanced) (valid .distinct)

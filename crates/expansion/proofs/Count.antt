@@ -13,7 +13,7 @@ use borrow.Author.Tests.{eqb-true, eq-eqb, ne-eqb}
 use Rattle.numerals.specs.Sums.{sumTo, countTo}
 use Rattle.expansion.specs.FirstMatch.{matches, gives, share}
 use Rattle.expansion.specs.Steps.{isWhole}
-use Rattle.expansion.specs.Sound.{Distinct, Complete, Lengths}
+use Rattle.expansion.specs.Inner.Sound.{Distinct, Complete, Lengths}
 use Rattle.expansion.specs.declared.rule.Rule.{Rule}
 use Rattle.numerals.proofs.Sums.{sum-ext, sum-add, sum-const, sum-swap, sum-split, count-ext, count-single, bit}
 use Rattle.numerals.proofs.Searches.{all-true, true-all}

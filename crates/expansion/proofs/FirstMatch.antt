@@ -10,7 +10,7 @@ use lib.Pow.{mod-mod-pow}
 use borrow.Author.Tests.{leb-true, ltb-true, eqb-true, le-leb, lt-ltb}
 use Rattle.numerals.specs.Pick.{pick}
 use Rattle.expansion.specs.FirstMatch.{isRule, matches, firstMatch, gives}
-use Rattle.expansion.specs.Sound.{Lengths}
+use Rattle.expansion.specs.Inner.Sound.{Lengths}
 use Rattle.expansion.specs.declared.rule.Rule.{Rule}
 use Rattle.numerals.proofs.Searches.{both-true, true-both}
 

@@ -18,7 +18,7 @@ use Rattle.numerals.specs.Sums.{firstTo, argmax}
 use Rattle.expansion.specs.FirstMatch.{nobody, matches, gives}
 use Rattle.expansion.specs.Imbalance.{Targets, backends, label}
 use Rattle.expansion.specs.Steps.{firstRule, isWhole}
-use Rattle.expansion.specs.Sound.{Lengths, Distinct}
+use Rattle.expansion.specs.Inner.Sound.{Lengths, Distinct}
 use Rattle.expansion.specs.Inner.Holders.{heldBy, lowestHeld, Holds, Given, lowered}
 use Rattle.expansion.specs.declared.rule.Rule.{Rule}
 use Rattle.numerals.proofs.Searches.{clash, same-test, all-true, true-all, all-false, IsFirst, first-unique, first-is}

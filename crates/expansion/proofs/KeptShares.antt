@@ -13,7 +13,7 @@ use Rattle.numerals.specs.Sums.{sumTo, argmax, lastmax}
 use Rattle.expansion.specs.FirstMatch.{share}
 use Rattle.expansion.specs.Imbalance.{backends, label, weight, has, wants, excess, shortfall, imbalance, giver, receiver, largestExcess, largestShortfall}
 use Rattle.expansion.specs.Steps.{isWithin, reduction, reductionAt, term, isNoGain, Frame}
-use Rattle.expansion.specs.Sound.{Sound}
+use Rattle.expansion.specs.Inner.Sound.{Sound}
 use Rattle.numerals.specs.Limits.{mostBits, mostSuffixes, unit}
 use Rattle.expansion.specs.Inner.Ledger.{over, under, Small, noBackend, entryAt, errorAt, entryOf, lessOf, moreOf, largestOf, Keeps}
 use Rattle.expansion.specs.Inner.Terms.{nextFor, nextOf}

@@ -13,7 +13,7 @@ use Rattle.numerals.specs.Sums.{sumTo, firstTo}
 use Rattle.expansion.specs.FirstMatch.{gives, share}
 use Rattle.expansion.specs.Imbalance.{backends, label, has, wants, excess, shortfall, imbalance, giver, receiver, largestExcess, largestShortfall}
 use Rattle.expansion.specs.Steps.{reduction, reductionAt, term, isNoGain, isWhole, termLength, lowestPlace, newRule, Frame}
-use Rattle.expansion.specs.Sound.{Lengths, Complete, Formed, Sound}
+use Rattle.expansion.specs.Inner.Sound.{Lengths, Complete, Formed, Sound}
 use Rattle.expansion.specs.declared.rule.Rule.{Rule}
 use Rattle.numerals.proofs.Sums.{sum-two, count-some}
 use Rattle.numerals.proofs.Searches.{first-is, first-le}

@@ -12,7 +12,7 @@ use Rattle.numerals.specs.Suffix.{place}
 use Rattle.numerals.specs.Sums.{lastmax}
 use Rattle.expansion.specs.Imbalance.{backends, label, excess, shortfall, giver, receiver, largestExcess, largestShortfall}
 use Rattle.expansion.specs.Steps.{Frame, reduction, isWithin, isNoGain, term, termLength, lowestPlace, newRule, step, endOf}
-use Rattle.expansion.specs.Sound.{Sound}
+use Rattle.expansion.specs.Inner.Sound.{Sound}
 use Rattle.numerals.specs.Limits.{mostBackends, mostSuffixes, unit}
 use Rattle.expansion.specs.Inner.Ledger.{over, entryAt, movedOf, Keeps}
 use Rattle.expansion.specs.Inner.Terms.{nextFor}

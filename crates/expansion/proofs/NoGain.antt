@@ -9,7 +9,7 @@ use native.Mathlib.Omega.{arith}
 use borrow.Author.Tests.{eqb-true, eqb-false}
 use Rattle.expansion.specs.Imbalance.{backends, label, largestExcess, largestShortfall}
 use Rattle.expansion.specs.Steps.{reduction, reductionAt, term, isNoGain, Frame}
-use Rattle.expansion.specs.Sound.{Complete, Sound}
+use Rattle.expansion.specs.Inner.Sound.{Complete, Sound}
 use Rattle.expansion.specs.declared.rule.Rule.{Rule}
 use Rattle.numerals.proofs.Searches.{lastmax-is}
 use Rattle.expansion.proofs.Balance.{excess-none, shortfall-none, excess-most, shortfall-most}

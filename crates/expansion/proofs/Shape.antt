@@ -4,7 +4,7 @@ use mathlib.Core.List.{List, [], _∷_, _++_}
 use mathlib.Core.Path.{_≡_, refl, ap, sym, _∙_, subst}
 use native.Mathlib.Omega.{arith}
 use Rattle.expansion.specs.Steps.{termLength, newRule, step, after, Frame}
-use Rattle.expansion.specs.Sound.{Lengths, Falling, NoStar, Sound}
+use Rattle.expansion.specs.Inner.Sound.{Lengths, Falling, NoStar, Sound}
 use Rattle.expansion.specs.declared.rule.Rule.{Rule}
 use Rattle.expansion.proofs.NoGain.{term-le}
 use Rattle.expansion.proofs.Turns.{Turn, stays, moves, turn, good-after}

@@ -8,7 +8,7 @@ use native.Mathlib.Omega.{arith}
 use lib.ListN.{length}
 use Rattle.expansion.specs.Imbalance.{imbalance}
 use Rattle.expansion.specs.Steps.{reductionAt, term, isNoGain, step, after, listOf, stair, Frame}
-use Rattle.expansion.specs.Sound.{Sound}
+use Rattle.expansion.specs.Inner.Sound.{Sound}
 use Rattle.expansion.specs.declared.rule.Rule.{Rule}
 use Rattle.expansion.proofs.Moves.{Good, imbalance-falls, reduction-falls, term-falls}
 use Rattle.expansion.proofs.Turns.{Going, Turn, stays, moves, turn, step-moves, good-after, oldest-after}

@@ -2,6 +2,7 @@
 use Prim.Native.Nat.{ℕ, suc, _+_, _-_, _^_, _≤_, _<_, min}
 use mathlib.Core.Bool.{Bool, true, false}
 use mathlib.Core.List.{List, [], _∷_}
+use mathlib.Core.Logic.{_≢_}
 use mathlib.Core.Path.{_≡_, refl, ap, sym, _∙_, subst}
 use native.Mathlib.Decide.{ℕ-discrete}
 use native.Mathlib.Numerals.{add-one}
@@ -9,11 +10,11 @@ use native.Mathlib.Omega.{arith}
 use lib.Dec.{ltb, eqb, lit<, lit≤}
 use lib.ListN.{length, getD, set, replicate, length-set, length-replicate, getD-replicate}
 use lib.Seq.{getD-set-same, getD-set-other}
-use borrow.Author.Tests.{ltb-true, ltb-false, eq-eqb, ne-eqb}
+use borrow.Author.Tests.{ltb-true, ltb-false, eqb-true, eq-eqb, ne-eqb}
 use Rattle.numerals.specs.Pick.{pick}
 use Rattle.numerals.specs.Suffix.{place}
 use Rattle.numerals.specs.Sums.{sumTo, argmax}
-use Rattle.expansion.specs.FirstMatch.{nobody, share}
+use Rattle.expansion.specs.FirstMatch.{nobody, firstMatch, gives, share}
 use Rattle.expansion.specs.Imbalance.{backends, label, weight, imbalance}
 use Rattle.expansion.specs.Steps.{Frame, firstRule, frame, newRule, after, endOf, stair, listOf}
 use Rattle.numerals.specs.Limits.{mostBackends, mostRules, mostSuffixes, unit}
@@ -49,12 +50,23 @@ in-budget (Go w) c budget m n = go (ltb c budget) refl n
     go true p q = (q, ltb-true c budget p)
     go false p q = absurd (let z : _≡_ {A = ℕ} 0 1 = cc in omega arith)
 
+-- what gives a suffix to a backend has a rule
+some-rule : (rs : List Rule) (s b : ℕ) → b ≢ nobody → gives rs s b ≡ true → 1 ≤ length rs
+unfolding gives firstMatch
+some-rule [] s b named e = absurd (named (sym (eqb-true nobody b e)))
+some-rule (r ∷ rs) s b named e = omega arith
+
 module _ (F : Frame) (fits : Fits F) where
   pub small : (rs : List Rule) (L : Ledger) → Keeps (F .targets) rs L → (b : ℕ) → b < backends (F .targets) → Small (errorAt L b)
   small rs L K = kept-small F rs L K (fits .sound) (fits .millionths) (fits .few-bits)
 
   pub someone : 0 < backends (F .targets)
   someone = omega (arith, giver-lt F (fits .sound) (F .start))
+
+  start-some : 1 ≤ length (F .start)
+  start-some =
+      let c = fits .sound .complete 0 in
+      some-rule (F .start) 0 (label (F .targets) (c .0)) (fits .sound .named (c .0) (c .1)) (c .2)
 
   -- the start
   pub keeps-start : (shares : List ℕ) → Shared F shares → (L : Ledger)
@@ -112,7 +124,7 @@ module _ (F : Frame) (fits : Fits F) where
           ∙ s
           ∙ ap (λ (i : ℕ). imbalance (F .targets) (after F i)) (sym d)
       stair y l (no d) =
-          getD-set-other (list .stairs) (list .count) (length (F .start) + y - 1) sum 0 (λ e. omega (arith, L .count, fits .started))
+          getD-set-other (list .stairs) (list .count) (length (F .start) + y - 1) sum 0 (λ e. omega (arith, L .count, start-some))
           ∙ L .stairs y (omega arith)
 
 module _ (F : Frame) (x : ℕ) (holder low : List ℕ) (st : State) (S : Stands F x holder low st) where

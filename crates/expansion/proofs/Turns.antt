@@ -10,7 +10,7 @@ use lib.ListN.{length, drop, length-drop}
 use Rattle.numerals.specs.Pick.{pick}
 use Rattle.expansion.specs.Imbalance.{label, backends}
 use Rattle.expansion.specs.Steps.{isWithin, isNoGain, termLength, newRule, step, after, endOf, listOf, oldest, Frame}
-use Rattle.expansion.specs.Sound.{Lengths, Formed, AllFormed, Sound}
+use Rattle.expansion.specs.Inner.Sound.{Lengths, Formed, AllFormed, Sound}
 use Rattle.expansion.specs.declared.rule.Rule.{Rule}
 use Rattle.expansion.specs.declared.rule.Ended.the-variants.{Within, NoGain, Budget}
 use Rattle.expansion.proofs.FirstMatch.{lengths-mono}

@@ -9,7 +9,7 @@ use borrow.Author.Tests.{leb-true, le-leb}
 use Rattle.numerals.specs.Pick.{both}
 use Rattle.expansion.specs.Imbalance.{backends, excess, shortfall, giver, receiver, largestExcess, largestShortfall}
 use Rattle.expansion.specs.Steps.{isWithin, Frame}
-use Rattle.expansion.specs.Sound.{Sound}
+use Rattle.expansion.specs.Inner.Sound.{Sound}
 use Rattle.expansion.specs.declared.rule.Rule.{Rule}
 use Rattle.numerals.proofs.Searches.{both-true, true-both, all-true, true-all, same-test}
 use Rattle.expansion.proofs.Balance.{giver-lt, receiver-lt, excess-le, shortfall-le}

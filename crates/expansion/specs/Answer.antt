@@ -4,7 +4,6 @@ use mathlib.Core.Bool.{Bool, true, false}
 use mathlib.Core.List.{List, reverse, map}
 use lib.Dec.{leb, ltb, eqb}
 use lib.ListN.{length, getD}
-use lib.Seq.{sets}
 use Rattle.numerals.specs.Pick.{pick, both}
 use Rattle.numerals.specs.Limits.{mostBits, mostBackends, mostRules, unit}
 use Rattle.numerals.specs.Sums.{sumTo, listTo, allTo}
@@ -14,24 +13,24 @@ use Rattle.expansion.specs.declared.rule.Record.{Record}
 use Rattle.numerals.specs.declared.refusal.Refusal.{Refusal}
 use Rattle.numerals.specs.Refusals.{no2, no3, no4, no7}
 use Rattle.expansion.specs.declared.call.Checked.{Checked}
-use Rattle.expansion.specs.declared.call.Checked.the-variants.{Sound as Passed, Refused as Turned}
+use Rattle.expansion.specs.declared.call.Checked.the-variants.{Sound as Passed, Refused as Failed}
 use Rattle.expansion.specs.declared.call.Expanded.{Expanded}
 use Rattle.expansion.specs.declared.call.Expanded.the-variants.{Made, Refused}
 
 -- the next check, where the ones before passed
 abbrev pub andThen : Checked → Checked → Checked
 andThen Passed next = next
-andThen (Turned why) next = Turned why
+andThen (Failed why) next = Failed why
 
 -- what is answered where all checks passed
 abbrev pub onChecked : Checked → Expanded → Expanded
 onChecked Passed made = made
-onChecked (Turned why) made = Refused why
+onChecked (Failed why) made = Refused why
 
--- turned back, unless the test passes
+-- refused, unless the test passes
 abbrev pub orElse : Bool → Refusal → Checked
 orElse true why = Passed
-orElse false why = Turned why
+orElse false why = Failed why
 
 -- least ≤ x ≤ most
 unfoldable pub inLimits : ℕ → ℕ → ℕ → Bool
@@ -79,10 +78,10 @@ answer k tolerance budget ws at room =
     onChecked (checkCall k tolerance budget ws)
     (pick (leb (at + length (listMade k tolerance budget ws)) room) (Made (recordMade k tolerance budget ws)) (Refused no7))
 
--- a lent buffer afterwards: the values from that position on, where the list was made; else as it was
-abbrev pub filled : Expanded → List ℕ → ℕ → List ℕ → List ℕ
-filled (Made r) out at vs = sets out at vs
-filled (Refused why) out at vs = out
+-- a list was made; only then are the lent buffers filled
+abbrev pub isMade : Expanded → Bool
+isMade (Made r) = true
+isMade (Refused why) = false
 
 -- the rules, the oldest first, as the three buffers have them
 unfoldable pub lensMade : ℕ → ℕ → ℕ → List ℕ → List ℕ

@@ -2,7 +2,6 @@
 pub mod FirstMatch
 pub mod Imbalance
 pub mod Steps
-pub mod Sound
 pub mod Cases
 pub mod Answer
 pub mod Inner

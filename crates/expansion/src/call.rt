@@ -13,9 +13,10 @@ ghost use lib.Dec.{leb};
 ghost use lib.ListN.{length, take};
 ghost use lib.Seq.{sets};
 ghost use Rattle.numerals.specs.Limits.{mostRules};
-ghost use Rattle.expansion.specs.Answer.{inLimits, checkWeights, checkCall, answer, filled, lensMade, valuesMade, backendsMade, stairsMade};
+ghost use Rattle.numerals.specs.Buffer.{filled};
+ghost use Rattle.expansion.specs.Answer.{inLimits, checkWeights, checkCall, answer, isMade, lensMade, valuesMade, backendsMade, stairsMade};
 
-// What the expansion answers: the record of the list, or why it is turned back.
+// What the expansion answers: the record of the list, or why it is refused.
 pub enum Expanded {
     Made(Record),
     Refused(Refusal),
@@ -89,7 +90,8 @@ fn copy_out(
     backends: &mut [usize],
     stairs: &mut [u64],
 )
-    requires { ⌜ (list .count ≤ mostRules) × ((at + list .count ≤ length (now lens)) × ((at + list .count ≤ length (now values)) × ((at + list .count ≤ length (now backends)) × (at + list .count ≤ length (now stairs))))) ⌝ }
+    requires { ⌜ (list .count ≤ mostRules) × ((at + list .count ≤ length (now lens)) × ((at + list .count ≤ length (now values))
+        × ((at + list .count ≤ length (now backends)) × (at + list .count ≤ length (now stairs))))) ⌝ }
     ensures lens { λ _. ⌜ now (lens .exit) ≡ sets (now (lens .entry)) at (map (λ r. r .len) (take (list .count) (list .rules))) ⌝ }
     ensures values { λ _. ⌜ now (values .exit) ≡ sets (now (values .entry)) at (map (λ r. r .value) (take (list .count) (list .rules))) ⌝ }
     ensures backends { λ _. ⌜ now (backends .exit) ≡ sets (now (backends .entry)) at (map (λ r. r .backend) (take (list .count) (list .rules))) ⌝ }
@@ -120,8 +122,8 @@ fn has_room(len: usize, at: usize, n: usize) -> bool
     if len < at { false } else { n <= len - at }
 }
 
-// The list of one service: its rules, the oldest first, by length, value and backend, and the imbalance after each,
-// into lent buffers from a position on.
+// The list of one service: its rules, the oldest first, by length, value and backend, which has its printed number, and the
+// imbalance after each, into lent buffers from a position on.
 pub fn expand(
     k: usize,
     tolerance: u64,
@@ -133,11 +135,12 @@ pub fn expand(
     backends: &mut [usize],
     stairs: &mut [u64],
 ) -> Expanded
-    ensures answer { λ r. ⌜ r ≡ answer k tolerance budget (now (weights .entry)) at (min (min (length (now (lens .entry))) (length (now (values .entry)))) (min (length (now (backends .entry))) (length (now (stairs .entry))))) ⌝ }
-    ensures lens { λ r. ⌜ now (lens .exit) ≡ filled r (now (lens .entry)) at (lensMade k tolerance budget (now (weights .entry))) ⌝ }
-    ensures values { λ r. ⌜ now (values .exit) ≡ filled r (now (values .entry)) at (valuesMade k tolerance budget (now (weights .entry))) ⌝ }
-    ensures backends { λ r. ⌜ now (backends .exit) ≡ filled r (now (backends .entry)) at (backendsMade k tolerance budget (now (weights .entry))) ⌝ }
-    ensures stairs { λ r. ⌜ now (stairs .exit) ≡ filled r (now (stairs .entry)) at (stairsMade k tolerance budget (now (weights .entry))) ⌝ }
+    ensures answer { λ r. ⌜ r ≡ answer k tolerance budget (now (weights .entry)) at
+        (min (min (length (now (lens .entry))) (length (now (values .entry)))) (min (length (now (backends .entry))) (length (now (stairs .entry))))) ⌝ }
+    ensures lens { λ r. ⌜ now (lens .exit) ≡ filled (isMade r) (now (lens .entry)) at (lensMade k tolerance budget (now (weights .entry))) ⌝ }
+    ensures values { λ r. ⌜ now (values .exit) ≡ filled (isMade r) (now (values .entry)) at (valuesMade k tolerance budget (now (weights .entry))) ⌝ }
+    ensures backends { λ r. ⌜ now (backends .exit) ≡ filled (isMade r) (now (backends .entry)) at (backendsMade k tolerance budget (now (weights .entry))) ⌝ }
+    ensures stairs { λ r. ⌜ now (stairs .exit) ≡ filled (isMade r) (now (stairs .entry)) at (stairsMade k tolerance budget (now (weights .entry))) ⌝ }
 {
     let checked = check_call(k, tolerance, budget, weights);
     if let Checked::Refused(why) = checked {

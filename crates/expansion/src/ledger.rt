@@ -48,7 +48,8 @@ pub fn entry(weight: u64, share: u64, k: usize) -> Backend
 pub fn opened(weights: &[u64], shares: &[u64], k: usize) -> Ledger
     requires { ⌜ (k ≤ mostBits) × ((length (now weights) ≤ mostBackends) × (length (now weights) ≤ length (now shares))) ⌝ }
     requires { ⌜ ((b : ℕ) → b < length (now weights) → (getD (now weights) b 0 ≤ unit) × (getD (now shares) b 0 ≤ mostSuffixes)) ⌝ }
-    ensures { λ r. ⌜ ((b : ℕ) → b < length (now (weights .entry)) → kept.entryAt r b ≡ kept.entryOf unit k (getD (now (weights .entry)) b 0) (getD (now (shares .entry)) b 0)) ⌝ }
+    ensures { λ r. ⌜ ((b : ℕ) → b < length (now (weights .entry)) → kept.entryAt r b
+        ≡ kept.entryOf unit k (getD (now (weights .entry)) b 0) (getD (now (shares .entry)) b 0)) ⌝ }
 {
     let mut ledger = Ledger {
         at: [entry(0, 0, 0); MOST_BACKENDS],

@@ -1,13 +1,13 @@
 // Rules, and what a list of them comes to.
 
-// A rule sends the suffix of `len` bits with this value to a backend, by its place in the ledger from 0.
+// A rule sends the suffix of `len` bits with this value to the backend with this label.
 pub struct Rule {
     pub len: usize,
     pub value: usize,
     pub backend: usize,
 }
 
-// A term of 2^index suffixes from giver to receiver.
+// A term of 2^index suffixes from giver to receiver, both by their place in the weights.
 pub struct Move {
     pub giver: usize,
     pub receiver: usize,

@@ -95,9 +95,12 @@ fn advance(
     tolerance: u64,
     m: Move,
 ) -> State
-    requires { ⌜ ((cap : ℕ) × (x : ℕ) × (start : List rule.Rule) × Stands (framed k cap tolerance (now labels) (now weights) start) x (now holder) (now low) state) ⌝ }
+    requires { ⌜ ((cap : ℕ) × (x : ℕ) × (start : List rule.Rule)
+        × Stands (framed k cap tolerance (now labels) (now weights) start) x (now holder) (now low) state) ⌝ }
     requires { ⌜ Places mostBits (now places) × (state .next ≡ Next.Go m) ⌝ }
-    ensures { λ r. ⌜ ((cap x : ℕ) (start : List rule.Rule) → let F = framed k cap tolerance (now (labels .entry)) (now (weights .entry)) start in Stands F x (now (holder .entry)) (now (low .entry)) state → Stands F (suc x) (now (holder .exit)) (now (low .exit)) r × Adds F x (r .rule)) ⌝ }
+    ensures { λ r. ⌜ ((cap x : ℕ) (start : List rule.Rule) → let F = framed k cap tolerance (now (labels .entry)) (now (weights .entry)) start
+        in Stands F x (now (holder .entry)) (now (low .entry)) state → Stands F (suc x) (now (holder .exit)) (now (low .exit)) r
+        × Adds F x (r .rule)) ⌝ }
 {
     let receiver = m.receiver;
     let label = labels[receiver];
@@ -128,8 +131,11 @@ fn begin(
     cap: usize,
     newest: Rule,
 ) -> State
-    requires { ⌜ ((labels : List ℕ) × (start : List rule.Rule) × let F = framed k cap tolerance labels (now weights) start in Fits F × Shared F (now shares)) ⌝ }
-    ensures stands { λ r. ⌜ ((labels : List ℕ) (start : List rule.Rule) (holder low : List ℕ) → let F = framed k cap tolerance labels (now (weights .entry)) start in Fits F → Shared F (now (shares .entry)) → Holds (F .targets) start holder low → length holder ≡ mostSuffixes → length low ≡ mostBackends → Stands F 0 holder low r) ⌝ }
+    requires { ⌜ ((labels : List ℕ) × (start : List rule.Rule) × let F = framed k cap tolerance labels (now weights) start in Fits F
+        × Shared F (now shares)) ⌝ }
+    ensures stands { λ r. ⌜ ((labels : List ℕ) (start : List rule.Rule) (holder low : List ℕ)
+        → let F = framed k cap tolerance labels (now (weights .entry)) start in Fits F → Shared F (now (shares .entry))
+        → Holds (F .targets) start holder low → length holder ≡ mostSuffixes → length low ≡ mostBackends → Stands F 0 holder low r) ⌝ }
     ensures newest { λ r. ⌜ r .rule ≡ newest ⌝ }
 {
     let n = weights.len();
@@ -170,9 +176,11 @@ fn go_on(
     tolerance: u64,
     budget: usize,
 ) -> Run
-    requires { ⌜ ((cap : ℕ) × (x : ℕ) × (start : List rule.Rule) × let F = framed k cap tolerance (now labels) (now weights) start in Stands F x (now holder) (now low) state × Listed F x list) ⌝ }
+    requires { ⌜ ((cap : ℕ) × (x : ℕ) × (start : List rule.Rule) × let F = framed k cap tolerance (now labels) (now weights) start
+        in Stands F x (now holder) (now low) state × Listed F x list) ⌝ }
     requires { ⌜ (list .count ≤ budget) × ((budget ≤ mostRules) × Places mostBits (now places)) ⌝ }
-    ensures { λ r. ⌜ ((cap x : ℕ) (start : List rule.Rule) → let F = framed k cap tolerance (now (labels .entry)) (now (weights .entry)) start in Stands F x (now (holder .entry)) (now (low .entry)) state → Listed F x list → Made F budget r) ⌝ }
+    ensures { λ r. ⌜ ((cap x : ℕ) (start : List rule.Rule) → let F = framed k cap tolerance (now (labels .entry)) (now (weights .entry)) start
+        in Stands F x (now (holder .entry)) (now (low .entry)) state → Listed F x list → Made F budget r) ⌝ }
 {
     loop {
         let n = list.count;

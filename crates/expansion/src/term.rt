@@ -35,7 +35,8 @@ fn reduction(u: i64, o: i64, t: i64) -> i64
 // Whether one of the errors is at least t. No smaller term then gains more than t.
 fn is_enough(u: i64, o: i64, t: i64) -> bool
     requires { ⌜ (u ≡ pos (kept.over u)) × ((o ≡ pos (kept.over o)) × (t ≡ pos (kept.over t))) ⌝ }
-    ensures { λ r. ⌜ (r ≡ true → (s : ℕ) → s ≤ kept.over t → steps.reduction (kept.over u) (kept.over o) s ≤ steps.reduction (kept.over u) (kept.over o) (kept.over t)) ⌝ }
+    ensures { λ r. ⌜ (r ≡ true → (s : ℕ) → s ≤ kept.over t
+        → steps.reduction (kept.over u) (kept.over o) s ≤ steps.reduction (kept.over u) (kept.over o) (kept.over t)) ⌝ }
 {
     if t <= u {
         return true;

@@ -8,7 +8,7 @@ use Rattle.numerals.specs.Refusals.{numberOf}
 use Rattle.numerals.specs.declared.refusal.Refusal.{Refusal}
 use Rattle.numerals.specs.declared.refusal.Refusal.the-variants.{Malformed, BadField, Unbalanced, TooMany, NoService, TableShort, ShortLoan, UnknownService, Order, Miscount, TooLong, Depth}
 use Rattle.sheets.specs.Demand.{Demand3, Demand3Of}
-use Rattle.sheets.specs.declared.answer.Answer as told
+use Rattle.sheets.specs.declared.answer.Answer as outcome
 use Rattle.sheets.specs.declared.answer.Answer.the-variants.{Value, Refused}
 use Rattle.gulmorzon.specs.Answers.{ofAnswer}
 use Rattle.gulmorzon.specs.declared.answer.Answer.{Answer}
@@ -29,7 +29,7 @@ not-zero TooLong e = omega arith
 not-zero Depth e = omega arith
 
 pub promised :
-    (p : told.Answer) (a : Answer) (text out : List ℕ) → a ≡ ofAnswer p → Demand3Of p text out → a .number ≡ 0
+    (p : outcome.Answer) (a : Answer) (text out : List ℕ) → a ≡ ofAnswer p → Demand3Of p text out → a .number ≡ 0
     → Demand3 text (take (a .value) out)
 promised (Value n) a text out e d z = subst⁻¹ (λ (x : Answer). Demand3 text (take (x .value) out)) e d
 promised (Refused r) a text out e d z = absurd (not-zero (r .why) (sym (ap (λ (x : Answer). x .number) e) ∙ z))

@@ -8,7 +8,7 @@ use Rattle.sheets.specs.declared.answer.Refused.{Refused as Why}
 use Rattle.sheets.specs.declared.answer.Plan.{Plan}
 use Rattle.sheets.specs.declared.answer.Planned as planned
 use Rattle.sheets.specs.declared.answer.Planned.the-variants as planned-variants
-use Rattle.sheets.specs.declared.answer.Answer as told
+use Rattle.sheets.specs.declared.answer.Answer as outcome
 use Rattle.sheets.specs.declared.answer.Answer.the-variants.{Value, Refused}
 use Rattle.gulmorzon.specs.declared.answer.Answer.{Answer}
 use Rattle.gulmorzon.specs.declared.answer.PlanAnswer.{PlanAnswer}
@@ -20,7 +20,7 @@ answered value = record { number = 0; line = 0; sheet = 0; value = value }
 abbrev pub refused : Why → Answer
 refused r = record { number = numberOf (r .why); line = r .line; sheet = r .of; value = 0 }
 
-abbrev pub ofAnswer : told.Answer → Answer
+abbrev pub ofAnswer : outcome.Answer → Answer
 ofAnswer (Value n) = answered n
 ofAnswer (Refused r) = refused r
 
@@ -38,7 +38,7 @@ ofPlanned (planned-variants.Made p) = planMade p
 ofPlanned (planned-variants.Refused r) = planRefused r
 
 -- what the call that prints answers, and its lent buffer afterwards
-abbrev pub splitAnswer : List ℕ → ℕ → told.Answer
+abbrev pub splitAnswer : List ℕ → ℕ → outcome.Answer
 splitAnswer text room = calls.printRead (readSheet text) calls.sheetText room
 
 abbrev pub splitFilled : List ℕ → ℕ → List ℕ → List ℕ

@@ -1,2 +1,2 @@
--- What a C caller is told.
+-- The answers that a C caller gets: what a reader must believe.
 pub mod Answers

@@ -4,9 +4,9 @@ use mathlib.Core.Bool.{Bool, true}
 use mathlib.Core.List.{List, [], _∷_, _++_}
 use lib.Dec.{leb, ltb}
 use lib.ListN.{length}
-use lib.Seq.{sets}
 use Rattle.numerals.specs.Pick.{pick, both}
 use Rattle.numerals.specs.Refusals.{no7}
+use Rattle.numerals.specs.Buffer.{filled}
 use Rattle.numerals.specs.declared.digits.Number.{Number}
 use Rattle.numerals.specs.declared.digits.Number.the-variants.{Value, Bad}
 use Rattle.numerals.specs.declared.digits.Written.{Written}
@@ -42,7 +42,7 @@ onValue Bad f = Bad
 
 -- a lent buffer after the text bs was to be written into it at a position: where bs fits, its bytes from there on, and nothing else changed; where it doesn't, the buffer as it was
 unfoldable pub put : List ℕ → ℕ → List ℕ → List ℕ
-put out at bs = pick (leb (at + length bs) (length out)) (sets out at bs) out
+put out at bs = filled (leb (at + length bs) (length out)) out at bs
 
 -- the answer of that: the position behind the text, or refusal 7
 unfoldable pub putEnd : List ℕ → ℕ → List ℕ → Written

@@ -3,6 +3,7 @@ pub mod Pick
 pub mod Limits
 pub mod Sums
 pub mod Refusals
+pub mod Buffer
 pub mod Digits
 pub mod Decimal
 pub mod Text

@@ -8,15 +8,13 @@ use Rattle.numerals.specs.Sums.{sumTo, listTo, countTo, allTo, firstTo, argmax,
 use Rattle.expansion.specs.FirstMatch.{matches, firstMatch, gives, share}
 use Rattle.expansion.specs.Imbalance.{backends, label, weight, has, wants, excess, shortfall, imbalance, giver, receiver, largestExcess, largestShortfall}
 use Rattle.expansion.specs.Steps.{firstRule, frame, isWithin, reduction, reductionAt, term, isNoGain, isWhole, termLength, lowestPlace, newRule, step, after, listOf, oldest, stair}
-use Rattle.expansion.specs.Sound.{Distinct}
-use Rattle.expansion.proofs.Base.{numbers-distinct}
+use Rattle.expansion.specs.Inner.Sound.{Distinct, Labelled}
+use Rattle.expansion.proofs.Base.{numbers-distinct, numbers-named}
 use Rattle.packing.specs.Grants.{saving, next, rules, total, more, grantStep, grantsAfter, packed}
 use Rattle.packing.specs.Count.{services, volume, targetsOf, ownRules, countedImbalance, counted}
 use Rattle.packing.specs.Table.{ruleBudget, frameOf, listFor, linesOf, tableOf, table, problem, granted, oneEach}
 use Rattle.packing.specs.Cases.{sample, P7}
 use Rattle.packing.specs.Demand.{Demand}
-use Rattle.packing.specs.Inner.Premises.{Labelled}
-use Rattle.packing.proofs.Checks.{numbers-labelled}
 use Rattle.packing.proofs.Demand.{demand}
 
 pub p7 : P7
@@ -44,7 +42,7 @@ p7-demand =
     distinct (suc zero) l = numbers-distinct 3
     distinct (suc (suc s)) l = absurd (omega arith)
 
-    labelled : (s : ℕ) → s < 2 → Labelled (targetsOf sample s)
-    labelled zero l = numbers-labelled 3
-    labelled (suc zero) l = numbers-labelled 3
+    labelled : (s : ℕ) → s < 2 → Labelled (label (targetsOf sample s)) (backends (targetsOf sample s))
+    labelled zero l = numbers-named 3
+    labelled (suc zero) l = numbers-named 3
     labelled (suc (suc s)) l = absurd (omega arith)

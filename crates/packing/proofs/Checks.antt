@@ -19,10 +19,10 @@ use Rattle.expansion.specs.Imbalance.{backends, label, weight}
 use Rattle.expansion.specs.FirstMatch.{nobody}
 use Rattle.numerals.proofs.Sums.{list-at}
 use Rattle.numerals.proofs.Searches.{true-both}
-use Rattle.expansion.proofs.Base.{numbers-distinct}
+use Rattle.expansion.proofs.Base.{numbers-distinct, numbers-named}
 use Rattle.packing.specs.Count.{services, targetsOf}
 use Rattle.packing.specs.Table.{ruleBudget}
-use Rattle.packing.specs.Answer.{chunks, servicesOf, checkService, checkFrom, checkServices, checkHead, checkAll}
+use Rattle.packing.specs.Answer.{numbered, chunks, servicesOf, checkService, checkFrom, checkServices, checkHead, checkAll}
 use Rattle.packing.specs.Inner.Premises.{Balanced}
 use Rattle.packing.specs.Inner.Lists.{start, Sized}
 
@@ -59,10 +59,6 @@ unfolding listTo
 labels-at sizes ws s l =
     List·getD-map (λ (own : List ℕ). listTo (length own) suc) (chunks sizes ws) s []
     ∙ ap (λ (own : List ℕ). listTo (length own) suc) (chunk-at sizes ws s l)
-
--- backends that are labelled by their number have a label
-pub numbers-labelled : (n b : ℕ) → b < n → getD (listTo n suc) b nobody ≡ nobody → ⊥
-numbers-labelled n b l e = omega (arith, list-at n suc b nobody l)
 
 -- the checks from service s on: its line, one too many, one without a volume or without a size, and none
 
@@ -286,14 +282,14 @@ module _ {k tolerance capacity : ℕ} {volumes sizes ws : List ℕ} (A : Accepte
 
   -- and they are such as the demands are about
   pub balanced : Balanced (servicesOf k volumes sizes ws)
-  unfolding servicesOf services targetsOf backends label weight unit
+  unfolding numbered services targetsOf backends label weight unit
   balanced =
       record {
         bits = A .some-bits;
         positive = omega arith;
         weigh = λ s l. let m : s < length sizes = omega (arith, A .same) in rw (chunk-at sizes ws s m) (weights-passed (take (getD sizes s 0) (drop (start sizes s) ws)) (A .each s m .known .weighed) .balanced);
         distinct = λ s l. let m : s < length sizes = omega (arith, A .same) in rw (chunk-at sizes ws s m, labels-at sizes ws s m) (numbers-distinct (length (take (getD sizes s 0) (drop (start sizes s) ws))));
-        labelled = λ s l. let m : s < length sizes = omega (arith, A .same) in rw (chunk-at sizes ws s m, labels-at sizes ws s m) (numbers-labelled (length (take (getD sizes s 0) (drop (start sizes s) ws))));
+        labelled = λ s l. let m : s < length sizes = omega (arith, A .same) in rw (chunk-at sizes ws s m, labels-at sizes ws s m) (numbers-named (length (take (getD sizes s 0) (drop (start sizes s) ws))));
       }
 
   pub volume-le : (s : ℕ) → s < length volumes → getD volumes s 0 ≤ mostVolume

@@ -2,7 +2,7 @@
 use Prim.Native.Nat.{ℕ, suc, _-_, _*_, _≤_, _<_}
 use native.Mathlib.Nat.{mul-le-mul-left, mul-sub, le-trans}
 use Rattle.expansion.specs.Steps.{frame, firstRule, stair}
-use Rattle.expansion.specs.Sound.{Sound}
+use Rattle.expansion.specs.Inner.Sound.{Sound}
 use Rattle.expansion.proofs.Stairs.{stair-falls, stair-convex}
 use Rattle.packing.specs.Grants.{Grants}
 use Rattle.packing.specs.Inner.Premises.{Convex}

@@ -9,7 +9,7 @@ use Rattle.numerals.specs.Pick.{pick}
 use Rattle.numerals.specs.Sums.{sumTo}
 use Rattle.expansion.specs.Imbalance.{backends, label, weight}
 use Rattle.expansion.specs.Steps.{Frame, firstRule, frame, isWithin, isNoGain, endOf, listOf}
-use Rattle.expansion.specs.Sound.{Sound}
+use Rattle.expansion.specs.Inner.Sound.{Sound}
 use Rattle.expansion.specs.declared.rule.Rule.{Rule}
 use Rattle.expansion.specs.declared.rule.Ended.the-variants.{Within, NoGain, Budget}
 use Rattle.numerals.proofs.Sums.{sum-const}
@@ -77,7 +77,7 @@ module _ (S : Services) (tolerance : ℕ) (balanced : Balanced S) where
   unfolding frameOf backends label weight targetsOf
   sound s l =
       base-sound (S .k) (S .unit) tolerance (targetsOf S s .labels) (targetsOf S s .weights) (balanced .bits)
-      (balanced .positive) (balanced .weigh s l) (balanced .distinct s l)
+      (balanced .positive) (balanced .weigh s l) (balanced .distinct s l) (balanced .labelled s l)
 
   -- a service with its whole list in the table, where that ended as no gain, is off by one suffix at most
   pub fine :

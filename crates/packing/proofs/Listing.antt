@@ -14,7 +14,8 @@ use Rattle.numerals.specs.Sums.{countTo}
 use Rattle.expansion.specs.FirstMatch.{nobody, firstMatch, gives, share}
 use Rattle.expansion.specs.Imbalance.{Targets, backends, label, has, excess, imbalance}
 use Rattle.expansion.specs.Steps.{Frame, firstRule, frame, endOf, listOf, oldest, stair, stairsTo}
-use Rattle.expansion.specs.Answer.{checkCall, answer, filled, frameMade, listMade, lensMade, valuesMade, backendsMade, stairsMade, recordMade}
+use Rattle.numerals.specs.Buffer.{filled}
+use Rattle.expansion.specs.Answer.{checkCall, answer, isMade, frameMade, listMade, lensMade, valuesMade, backendsMade, stairsMade, recordMade}
 use Rattle.numerals.specs.Limits.{mostRules, unit}
 use Rattle.expansion.specs.Inner.Lists.{noRule}
 use Rattle.expansion.specs.declared.rule.Rule.{Rule}
@@ -26,10 +27,11 @@ use Rattle.numerals.proofs.Sums.{sum-zero, count-const}
 use Rattle.expansion.proofs.Turns.{length-le}
 use Rattle.packing.specs.Count.{services, targetsOf}
 use Rattle.packing.specs.Table.{ruleBudget, frameOf, listFor}
-use Rattle.packing.specs.Answer.{servicesOf, endNumber}
+use Rattle.packing.specs.Answer.{numbered, servicesOf, endNumber}
 use Rattle.packing.specs.Inner.Lists.{stride, placeOf, ruleAt, ListedTo, start}
-use Rattle.packing.specs.Inner.Premises.{Labelled}
-use Rattle.packing.proofs.Checks.{chunk-at, labels-at, numbers-labelled}
+use Rattle.expansion.specs.Inner.Sound.{Labelled}
+use Rattle.expansion.proofs.Base.{numbers-named}
+use Rattle.packing.proofs.Checks.{chunk-at, labels-at}
 
 -- stores from a position on
 
@@ -85,7 +87,7 @@ none-given T b h =
     omega (arith, ap (λ (a : ℕ). a * T .unit) none, zero-mul (T .unit))
 
 -- the stair before any rule
-pub stair-none : (F : Frame) (rs : List Rule) → Labelled (F .targets) → stair F 0 rs ≡ 0
+pub stair-none : (F : Frame) (rs : List Rule) → Labelled (label (F .targets)) (backends (F .targets)) → stair F 0 rs ≡ 0
 unfolding stair oldest imbalance
 stair-none F rs labelled =
     let all : length rs - 0 ≡ length rs = omega arith in
@@ -93,9 +95,9 @@ stair-none F rs labelled =
     ∙ ap (imbalance (F .targets)) (drop-length rs)
     ∙ sum-zero (backends (F .targets)) (excess (F .targets) []) (λ b l. none-given (F .targets) b (labelled b l))
 
-made-labelled : (k tolerance : ℕ) (ws : List ℕ) → Labelled (frameMade k tolerance ws .targets)
+made-labelled : (k tolerance : ℕ) (ws : List ℕ) → Labelled (label (frameMade k tolerance ws .targets)) (backends (frameMade k tolerance ws .targets))
 unfolding frameMade frame backends label
-made-labelled k tolerance ws = numbers-labelled (length ws)
+made-labelled k tolerance ws = numbers-named (length ws)
 
 length-stairs : (F : Frame) (rs : List Rule) (c : ℕ) → length (stairsTo F rs c) ≡ c
 unfolding stairsTo
@@ -221,10 +223,10 @@ module _ (k tolerance : ℕ) (sizes ws : List ℕ) (s : ℕ) (lens values backen
       (m : Record) → r ≡ Made m → (counts ends : List ℕ) → s < min (length counts) (length ends)
       → Entries k tolerance sizes ws s lens values backends stairs counts ends
       → (lens′ values′ backends′ stairs′ : List ℕ)
-      → lens′ ≡ filled r lens (placeOf s 1) (lensMade k tolerance mostRules own)
-      → values′ ≡ filled r values (placeOf s 1) (valuesMade k tolerance mostRules own)
-      → backends′ ≡ filled r backends (placeOf s 1) (backendsMade k tolerance mostRules own)
-      → stairs′ ≡ filled r stairs (placeOf s 1) (stairsMade k tolerance mostRules own)
+      → lens′ ≡ filled (isMade r) lens (placeOf s 1) (lensMade k tolerance mostRules own)
+      → values′ ≡ filled (isMade r) values (placeOf s 1) (valuesMade k tolerance mostRules own)
+      → backends′ ≡ filled (isMade r) backends (placeOf s 1) (backendsMade k tolerance mostRules own)
+      → stairs′ ≡ filled (isMade r) stairs (placeOf s 1) (stairsMade k tolerance mostRules own)
       → Entries k tolerance sizes ws (s + 1) lens′ values′ backends′ (set stairs′ (stride * s) 0) (set counts s (m .rules)) (set ends s (endNumber (m .ended)))
   entries-more m e counts ends room E lens′ values′ backends′ stairs′ p q u v =
       let ws′ = part sizes ws s in
@@ -253,7 +255,7 @@ module _ (k tolerance : ℕ) (sizes ws : List ℕ) (s : ℕ) (lens values backen
 -- so service s has the list of the definitions
 module _ (k tolerance : ℕ) (volumes sizes ws : List ℕ) (s : ℕ) (inside : s < length sizes) where
   frame-of : frameOf (servicesOf k volumes sizes ws) tolerance s ≡ frameMade k tolerance (part sizes ws s)
-  unfolding frameOf servicesOf targetsOf part frameMade
+  unfolding frameOf numbered targetsOf part frameMade
   frame-of = ap₂ (frame k unit tolerance) (labels-at sizes ws s inside) (chunk-at sizes ws s inside)
 
   list-of : listFor (servicesOf k volumes sizes ws) tolerance s ≡ listMade k tolerance mostRules (part sizes ws s)
@@ -306,7 +308,7 @@ pub listed :
     (k tolerance : ℕ) (sizes ws : List ℕ) (n : ℕ) (lens values backends stairs counts ends : List ℕ) → n ≤ length sizes
     → Entries k tolerance sizes ws n lens values backends stairs counts ends
     → ListedTo k tolerance sizes ws n lens values backends stairs counts ends
-unfolding services servicesOf recordMade lensMade valuesMade backendsMade
+unfolding services numbered recordMade lensMade valuesMade backendsMade
 listed k tolerance sizes ws n lens values backends stairs counts ends inside E volumes same =
     let S = servicesOf k volumes sizes ws in
     let known : (s : ℕ) → s < length volumes → s < length sizes = λ s l. omega arith in

@@ -16,12 +16,12 @@ use Rattle.numerals.proofs.Sums.{sum-ext}
 use Rattle.packing.specs.Grants.{total}
 use Rattle.packing.specs.Count.{services, volume}
 use Rattle.packing.specs.Table.{problem, granted, oneEach}
-use Rattle.packing.specs.Answer.{servicesOf, checkAll, linesMade, packedOf, figuresOf, cellsOf, Demanded, noBuffer, figuresBuffer, tableBuffer, written, answer, onMade}
+use Rattle.packing.specs.Answer.{numbered, servicesOf, checkAll, linesMade, packedOf, figuresOf, cellsOf, Demanded, noBuffer, figuresBuffer, tableBuffer, written, answer, onMade}
 use Rattle.packing.specs.Inner.Lists.{places, Listed, Granted}
 use Rattle.packing.specs.Inner.Stored.{storedTotal, storedLines, storedFigures, storedTable, held, AllPayable, Started, Allotted, Counted, Writable}
-use Rattle.packing.specs.declared.call.Packed.{Packed}
-use Rattle.packing.specs.declared.call.Packing.{Packing}
-use Rattle.packing.specs.declared.call.Packing.the-variants.{Made, Refused}
+use Rattle.packing.specs.declared.answer.Packed.{Packed}
+use Rattle.packing.specs.declared.answer.Packing.{Packing}
+use Rattle.packing.specs.declared.answer.Packing.the-variants.{Made, Refused}
 use Rattle.packing.proofs.Demand.{granted-fitting, one-fits, demand}
 use Rattle.packing.proofs.Checks.{Accepted, balanced, volume-le}
 use Rattle.packing.proofs.StoredCosts.{granted-kept, total-kept, all-payable, all-started}
@@ -51,7 +51,7 @@ module _ (k tolerance capacity : ℕ) (volumes sizes ws : List ℕ) (figuresRoom
       → p ≡ packedOf (servicesOf k volumes sizes ws) tolerance capacity
       → written p (length volumes) figuresRoom tableRoom
       ≡ answer k tolerance capacity volumes sizes ws figuresRoom tableRoom
-  unfolding answer services servicesOf
+  unfolding answer services numbered
   answer-passed passed p e = rw (passed, e)
 
 -- the lists and the grants kept come to this
@@ -75,7 +75,7 @@ module _ (k tolerance capacity : ℕ) (volumes sizes ws lens values backends sta
     (A : Accepted k tolerance capacity volumes sizes ws)
     (L : Listed (servicesOf k volumes sizes ws) tolerance lens values backends stairs counts ends) where
   pub payable : length stairs ≡ places → length counts ≡ mostServices → AllPayable volumes stairs counts
-  unfolding servicesOf services volume
+  unfolding numbered services volume
   payable stored room =
       all-payable (servicesOf k volumes sizes ws) tolerance stairs counts (L .stepped) (balanced A) refl (A .few-bits)
       (omega (arith, A .few, A .same)) (volume-le A) stored (omega (arith, A .few, A .same))
@@ -84,7 +84,7 @@ module _ (k tolerance capacity : ℕ) (volumes sizes ws lens values backends sta
   pub started :
       (grants : List ℕ) → length grants ≡ mostServices → ((s : ℕ) → s < length volumes → getD grants s 0 ≡ 1)
       → Started volumes stairs counts grants
-  unfolding servicesOf services
+  unfolding numbered services
   started grants long ones =
       all-started (servicesOf k volumes sizes ws) tolerance stairs counts (L .stepped) (balanced A) refl (A .few-bits) grants
       (omega (arith, A .few, A .same)) (λ s l. omega (arith, ones s l))
@@ -93,7 +93,7 @@ module _ (k tolerance capacity : ℕ) (volumes sizes ws lens values backends sta
   pub ones-fit :
       (grants : List ℕ) → ((s : ℕ) → s < length volumes → getD grants s 0 ≡ 1)
       → sumTo (length volumes) (held grants) ≤ capacity
-  unfolding servicesOf services
+  unfolding numbered services
   ones-fit grants ones =
       omega (
         arith,
@@ -107,7 +107,7 @@ module _ (k tolerance capacity : ℕ) (volumes sizes ws lens values backends sta
       → length stairs ≡ places → length counts ≡ mostServices → length ends ≡ mostServices → length grants ≡ mostServices
       → Allotted (held from) capacity volumes stairs counts grants r
       → Outcome k tolerance capacity volumes sizes ws lens values backends stairs counts ends grants
-  unfolding servicesOf services packedOf linesMade
+  unfolding numbered services packedOf linesMade
   outcome from grants r ones e f g h i m j G =
       let S = servicesOf k volumes sizes ws in
       let few : length volumes ≤ mostServices = omega (arith, A .few, A .same) in

@@ -1,9 +1,9 @@
 -- The packing as a call (document 01, "Packing" and "Turned-back work"): what it checks, in the order of the sheet that would hold its numbers, what it answers, and what it writes.
 use Prim.Native.Nat.{ℕ, zero, suc, _*_}
+use mathlib.Core.Bool.{Bool, true, false}
 use mathlib.Core.List.{List, [], _∷_, _++_, map}
 use lib.Dec.{leb, ltb, eqb}
 use lib.ListN.{length, take, drop}
-use lib.Seq.{sets}
 use Rattle.numerals.specs.Pick.{pick}
 use Rattle.numerals.specs.Sums.{listTo}
 use Rattle.expansion.specs.Answer.{andThen, orElse, inLimits, checkWeights}
@@ -18,25 +18,28 @@ use Rattle.packing.specs.Grants.{total}
 use Rattle.packing.specs.Count.{Line, Services, services}
 use Rattle.packing.specs.Table.{frameOf, listFor, table, problem, granted, oneEach}
 use Rattle.packing.specs.Demand.{Demand}
-use Rattle.packing.specs.declared.call.Packed.{Packed}
-use Rattle.packing.specs.declared.call.Packing.{Packing}
-use Rattle.packing.specs.declared.call.Packing.the-variants.{Made, Refused}
+use Rattle.packing.specs.declared.answer.Packed.{Packed}
+use Rattle.packing.specs.declared.answer.Packing.{Packing}
+use Rattle.packing.specs.declared.answer.Packing.the-variants.{Made, Refused}
 
 -- the weights of each service: they stand in one row, as many of each as its size says
 unfoldable pub chunks : List ℕ → List ℕ → List (List ℕ)
 chunks [] ws = []
 chunks (n ∷ ns) ws = take n ws ∷ chunks ns (drop n ws)
 
--- backends are labelled by their number from 1
-unfoldable pub servicesOf : ℕ → List ℕ → List ℕ → List ℕ → Services
-servicesOf k volumes sizes ws =
+-- services whose backends are labelled by their number from 1
+unfoldable pub numbered : ℕ → List ℕ → List (List ℕ) → Services
+numbered k volumes weights =
     record {
       k = k;
       unit = unit;
       volumes = volumes;
-      labels = map (λ (own : List ℕ). listTo (length own) suc) (chunks sizes ws);
-      weights = chunks sizes ws;
+      labels = map (λ (own : List ℕ). listTo (length own) suc) weights;
+      weights = weights;
     }
+
+abbrev pub servicesOf : ℕ → List ℕ → List ℕ → List ℕ → Services
+servicesOf k volumes sizes ws = numbered k volumes (chunks sizes ws)
 
 -- the line of one service, whose weights are the first `size` of the row: the field count (no weight is 1, a 33rd is 4, and a row that has not so many is 1), then the volume, the weights and their sum
 unfoldable pub checkService : ℕ → ℕ → List ℕ → Checked
@@ -153,10 +156,10 @@ answer k tolerance capacity volumes sizes ws figuresRoom tableRoom =
     onPassed (checkAll k tolerance capacity volumes sizes ws)
     (written (packedOf S tolerance capacity) (services S) figuresRoom tableRoom)
 
--- a lent buffer afterwards: the values from its start on, where the table was made; else as it was
-abbrev pub filled : Packing → List ℕ → List ℕ → List ℕ
-filled (Made p) out vs = sets out 0 vs
-filled (Refused why buffer) out vs = out
+-- a table was made; only then are the lent buffers filled, from their start on
+abbrev pub isMade : Packing → Bool
+isMade (Made p) = true
+isMade (Refused why buffer) = false
 
 -- a claim about a table that was made; of any other answer nothing is claimed
 abbrev pub onMade : Packing → (Packed → Type 0) → Type 0

@@ -1,4 +1,4 @@
--- The sample sheet of document 01 in numbers: granted 2 and 3, and its table and total. P7 over its text is in `specs/Twelve.antt` of crate `sheets`.
+-- The sample sheet of document 01 in numbers: granted 2 and 3, and its table and total. P7 over its text is in `specs/TwelveCases.antt` of crate `sheets`.
 use Prim.Native.Nat.{ℕ}
 use mathlib.Core.Path.{_≡_}
 use mathlib.Core.List.{[], _∷_}

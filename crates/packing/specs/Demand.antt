@@ -15,7 +15,7 @@ pub record Fitting (S : Services) (least : Grants) (capacity : ℕ) (g : Grants)
   pub enough : (s : ℕ) → s < services S → least s ≤ g s
   pub room : sumTo (services S) g ≤ capacity
 
--- what t as the total of the lines ls has to be
+-- what the total t and the lines ls have to be
 pub record Demand (S : Services) (tolerance : ℕ) (least : Grants) (capacity t : ℕ) (ls : List Line) : Type 0 where
   -- the total is the counted one
   pub total : t ≡ counted S ls

@@ -1,23 +1,12 @@
 // The packing of services into one table, into lent buffers.
+use crate::answer::Packed;
+use crate::answer::Packing;
 use crate::lists::PLACES;
 use expansion::Checked;
-use numerals::Refusal;
 ghost use mathlib.Core.Path.{_≡_};
 ghost use lib.ListN.{length};
+ghost use Rattle.numerals.specs.Buffer.{filled};
 ghost use Rattle.packing.specs.Answer as specified;
-
-// The number of rules in a table, and its total.
-pub struct Packed {
-    pub rules: usize,
-    pub total: u64,
-}
-
-// What the packing answers: the table's measures, or why it is refused and the lent buffer that this is about:
-// figures 1, table 2, or 0 for none.
-pub enum Packing {
-    Made(Packed),
-    Refused(Refusal, usize),
-}
 
 // The services' grants and table. `figures` takes three numbers for each service: its grant, the length of its list
 // and how the list ended (within 0, no gain 1, budget 2). `table` takes four for each line: the number of its service,
@@ -35,9 +24,9 @@ pub fn pack(
     ensures answer { λ r. ⌜ r ≡ specified.answer k tolerance capacity
         (now (volumes .entry)) (now (sizes .entry)) (now (weights .entry))
         (length (now (figures .entry))) (length (now (table .entry))) ⌝ }
-    ensures figures { λ r. ⌜ now (figures .exit) ≡ specified.filled r (now (figures .entry))
+    ensures figures { λ r. ⌜ now (figures .exit) ≡ filled (specified.isMade r) (now (figures .entry)) 0
         (specified.figuresOf k tolerance capacity (now (volumes .entry)) (now (sizes .entry)) (now (weights .entry))) ⌝ }
-    ensures table { λ r. ⌜ now (table .exit) ≡ specified.filled r (now (table .entry))
+    ensures table { λ r. ⌜ now (table .exit) ≡ filled (specified.isMade r) (now (table .entry)) 0
         (specified.cellsOf k tolerance capacity (now (volumes .entry)) (now (sizes .entry)) (now (weights .entry))) ⌝ }
     ensures demand { λ r. ⌜ specified.onMade r (λ p.
         specified.Demanded k tolerance capacity (now (volumes .entry)) (now (sizes .entry)) (now (weights .entry)) (p .total)) ⌝ }

@@ -1,4 +1,5 @@
 // One table for all services: which service is granted how many rules, the table's lines, and its total.
+mod answer;
 mod call;
 mod check;
 mod grants;
@@ -6,6 +7,6 @@ mod lists;
 mod output;
 mod tournament;
 
-pub use call::Packed;
-pub use call::Packing;
+pub use answer::Packed;
+pub use answer::Packing;
 pub use call::pack;

@@ -24,8 +24,8 @@ pub fn end_number(ended: Ended) -> usize
     }
 }
 
-// The rules and stairs of every list, its number of rules and how it ended. With no rule nobody has too much, so the
-// stair before any rule is 0.
+// The rules and stairs of every list, its number of rules and how it ended. Before any rule no backend has an
+// excess, so that stair is 0.
 pub fn make_lists(
     k: usize,
     tolerance: u64,

@@ -1,6 +1,6 @@
 // What is written into the lent buffers: three figures for each service, four numbers for each line of the table.
-use crate::call::Packed;
-use crate::call::Packing;
+use crate::answer::Packed;
+use crate::answer::Packing;
 use crate::grants::lines_of;
 use crate::lists::STRIDE;
 use numerals::Refusal;
@@ -10,7 +10,8 @@ ghost use Prim.Native.Nat.{_+_, _*_, _≤_, _<_};
 ghost use lib.ListN.{length};
 ghost use lib.Seq.{sets};
 ghost use Rattle.numerals.specs.Limits.{mostServices, mostRules};
-ghost use Rattle.packing.specs.Answer.{written, filled};
+ghost use Rattle.numerals.specs.Buffer.{filled};
+ghost use Rattle.packing.specs.Answer.{written, isMade};
 ghost use Rattle.packing.specs.Inner.Lists.{places};
 ghost use Rattle.packing.specs.Inner.Stored.{storedFigures, storedLines, storedCells, storedTable, Tabled, Writable};
 
@@ -110,9 +111,9 @@ pub fn write_out(
 ) -> Packing
     requires { ⌜ Writable n (packed .rules) (now grants) (now counts) (now ends) (now lens) (now values) (now backends) ⌝ }
     ensures answer { λ r. ⌜ r ≡ written packed n (length (now (figures .entry))) (length (now (table .entry))) ⌝ }
-    ensures figures { λ r. ⌜ now (figures .exit) ≡ filled r (now (figures .entry))
+    ensures figures { λ r. ⌜ now (figures .exit) ≡ filled (isMade r) (now (figures .entry)) 0
         (storedFigures (now (grants .entry)) (now (counts .entry)) (now (ends .entry)) n) ⌝ }
-    ensures table { λ r. ⌜ now (table .exit) ≡ filled r (now (table .entry))
+    ensures table { λ r. ⌜ now (table .exit) ≡ filled (isMade r) (now (table .entry)) 0
         (storedTable (storedLines (now (grants .entry)) (now (counts .entry)))
         (now (lens .entry)) (now (values .entry)) (now (backends .entry)) n) ⌝ }
 {

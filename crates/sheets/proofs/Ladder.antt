@@ -9,7 +9,7 @@ use lib.ListN.{length}
 use borrow.Author.Tests.{eq-eqb, ne-eqb, lt-ltb, le-leb}
 use Rattle.numerals.specs.Limits.{mostBackends, mostServices, mostRules}
 use Rattle.expansion.specs.FirstMatch.{isRule}
-use Rattle.expansion.specs.Sound.{AllFormed, Lengths, Falling, NoStar}
+use Rattle.expansion.specs.Inner.Sound.{AllFormed, Lengths, Falling, NoStar}
 use Rattle.expansion.specs.Steps.{oldest}
 use Rattle.expansion.specs.declared.rule.Rule.{Rule}
 use Rattle.packing.specs.Count.{Line, ownRules}

@@ -15,11 +15,12 @@ use Rattle.numerals.specs.declared.refusal.Refusal.the-variants.{ShortLoan}
 use Rattle.expansion.specs.declared.call.Checked.the-variants.{Sound as Passed}
 use Rattle.expansion.proofs.Checks.{weights-sum}
 use Rattle.numerals.proofs.Searches.{true-all}
+use Rattle.numerals.specs.Buffer.{filled}
 use Rattle.packing.specs.Count.{services}
-use Rattle.packing.specs.Answer.{chunks, servicesOf, checkService, checkFrom, checkServices, checkHead, checkAll, linesMade, packedOf, figuresMade, cells, figuresBuffer, tableBuffer, written, answer, filled}
-use Rattle.packing.specs.declared.call.Packed.{Packed}
-use Rattle.packing.specs.declared.call.Packing.{Packing}
-use Rattle.packing.specs.declared.call.Packing.the-variants.{Made, Refused}
+use Rattle.packing.specs.Answer.{chunks, servicesOf, checkService, checkFrom, checkServices, checkHead, checkAll, linesMade, packedOf, figuresMade, cells, figuresBuffer, tableBuffer, written, answer, isMade, numbered}
+use Rattle.packing.specs.declared.answer.Packed.{Packed}
+use Rattle.packing.specs.declared.answer.Packing.{Packing}
+use Rattle.packing.specs.declared.answer.Packing.the-variants.{Made, Refused}
 use Rattle.sheets.specs.PercentageSheet.{Sheet, readSheet}
 use Rattle.sheets.specs.Calls.{about, servicesIn, tableFor, planOf, planAnswer, valuesOf, afterwards, isPlan, figuresFor, cellsFor}
 use Rattle.sheets.specs.Inner.Planning.{planFrom}
@@ -37,7 +38,7 @@ chunks-row (ws ∷ wss) =
     rw (take-append-seam ws (rowOf wss), drop-append-seam ws (rowOf wss)) (ap (λ (l : List (List ℕ)). ws ∷ l) (chunks-row wss))
 
 pub same-services : (S : Sheet) → servicesOf (S .k) (S .volumes) (sizesOf (S .weights)) (rowOf (S .weights)) ≡ servicesIn S
-unfolding servicesOf servicesIn
+unfolding servicesIn numbered
 same-services S = rw (chunks-row (S .weights))
 
 -- one service, and the services from s on
@@ -104,11 +105,11 @@ pub plan-answer :
     (S : Sheet) → Limits S → (a b : ℕ)
     → planFrom (S .k) (length (S .volumes)) (answer (S .k) (S .tolerance) (S .capacity) (S .volumes) (sizesOf (S .weights)) (rowOf (S .weights)) a b)
     ≡ planOf S a b
-unfolding answer written planOf packedOf tableFor services servicesIn
+unfolding answer written planOf packedOf tableFor services servicesIn numbered
 plan-answer S limits a b = rw (all-pass S limits, same-services S)
     (plan-picks (S .k) (length (S .volumes)) (leb (3 * length (S .volumes)) a) (leb (4 * length (linesMade (servicesIn S) (S .tolerance) (S .capacity))) b) (packedOf (servicesIn S) (S .tolerance) (S .capacity)))
 
-fill-same : (k n : ℕ) (p : Packing) (out vs : List ℕ) → filled p out vs ≡ afterwards (isPlan (planFrom k n p)) out vs
+fill-same : (k n : ℕ) (p : Packing) (out vs : List ℕ) → filled (isMade p) out 0 vs ≡ afterwards (isPlan (planFrom k n p)) out vs
 fill-same k n (Made p) out vs = refl
 fill-same k n (Refused why buffer) out vs = refl
 
@@ -139,6 +140,6 @@ module _ (text : List ℕ) {vs zs ws : List ℕ} {head : Head} {n row : ℕ} (he
         rw (held .read) same
 
     pub plan-buffer :
-        (f : Sheet → List ℕ) (made out out′ : List ℕ) → made ≡ f (held .sheet) → out′ ≡ filled p out made
+        (f : Sheet → List ℕ) (made out out′ : List ℕ) → made ≡ f (held .sheet) → out′ ≡ filled (isMade p) out 0 made
         → out′ ≡ afterwards (isPlan (planFrom (head .k) n p)) out (valuesOf (readSheet text) f)
     plan-buffer f made out out′ same is = rw (held .read, ← same) (is ∙ fill-same (head .k) n p out made)

@@ -11,9 +11,9 @@ use Rattle.numerals.specs.Sums.{sumTo, listTo}
 use Rattle.expansion.specs.FirstMatch.{nobody}
 use Rattle.expansion.specs.Imbalance.{backends, label, weight, imbalance}
 use Rattle.expansion.specs.Steps.{Frame, firstRule, frame, after, listOf, oldest, stair}
-use Rattle.expansion.specs.Sound.{Distinct, Sound}
+use Rattle.expansion.specs.Inner.Sound.{Distinct, Sound}
 use Rattle.expansion.specs.declared.rule.Rule.{Rule}
-use Rattle.expansion.proofs.Base.{numbers-distinct, base-sound, base-formed, base-falling}
+use Rattle.expansion.proofs.Base.{numbers-distinct, numbers-named, base-sound, base-formed, base-falling}
 use Rattle.expansion.proofs.Bounds.{imbalance-bound}
 use Rattle.expansion.proofs.Shape.{falling-after, front-after}
 use Rattle.numerals.proofs.Sums.{sum-le, sum-most, sum-at, list-at}
@@ -22,9 +22,8 @@ use Rattle.packing.specs.Count.{Services, services, volume, targetsOf}
 use Rattle.packing.specs.Demand.{Fitting}
 use Rattle.packing.specs.Grants.{Grants, total}
 use Rattle.packing.specs.Table.{ruleBudget, frameOf, listFor, table, problem, granted, oneEach}
-use Rattle.packing.specs.Answer.{linesMade}
+use Rattle.packing.specs.Answer.{numbered, linesMade}
 use Rattle.packing.specs.Inner.Premises.{Balanced}
-use Rattle.packing.proofs.Checks.{numbers-labelled}
 use Rattle.packing.proofs.Demand.{granted-fitting, one-fits}
 use Rattle.packing.proofs.Tables.{length-table}
 use Rattle.sheets.specs.Reading.{got}
@@ -59,7 +58,7 @@ module _ (k tolerance : ℕ) (labels ws : List ℕ) (one : 1 ≤ k) (few : lengt
 
   sound : Sound F
   unfolding unit
-  sound = base-sound k unit tolerance labels ws one (omega arith) balanced distinct
+  sound = base-sound k unit tolerance labels ws one (omega arith) balanced distinct (rw numbered (numbers-named (length ws)))
 
   list-ladder : (x : ℕ) → Ladder (after F x)
   unfolding frame firstRule
@@ -95,7 +94,7 @@ module _ (S : Sheet) (L : Limits S) where
   g = granted T (S .tolerance) oneEach (S .capacity)
 
   count : services T ≡ length (S .volumes)
-  unfolding services servicesIn
+  unfolding services servicesIn numbered
   count = refl
 
   weigh : (s : ℕ) → s < length (S .volumes) → sumTo (length (getD (S .weights) s [])) (λ b. getD (getD (S .weights) s []) b 0) ≡ unit
@@ -103,18 +102,18 @@ module _ (S : Sheet) (L : Limits S) where
 
   -- a service's labels are the numbers from 1
   numbers : (s : ℕ) → getD (T .labels) s [] ≡ listTo (length (getD (S .weights) s [])) suc
-  unfolding servicesIn listTo
+  unfolding servicesIn listTo numbered
   numbers s = List·getD-map (λ (own : List ℕ). listTo (length own) suc) (S .weights) s []
 
   pub balanced : Balanced T
-  unfolding servicesIn services targetsOf backends weight label unit
+  unfolding servicesIn services targetsOf backends weight label unit numbered
   balanced =
       record {
         bits = L .bits;
         positive = omega arith;
         weigh = weigh;
         distinct = λ s l. rw (numbers s) (numbers-distinct (length (getD (S .weights) s [])));
-        labelled = λ s l b m. rw (numbers s) (numbers-labelled (length (getD (S .weights) s [])) b m);
+        labelled = λ s l b m. rw (numbers s) (numbers-named (length (getD (S .weights) s [])) b m);
       }
 
   pub enough-room : sumTo (services T) oneEach ≤ S .capacity
@@ -126,7 +125,7 @@ module _ (S : Sheet) (L : Limits S) where
   granted-oldest :
       (s : ℕ) → s < length (S .volumes)
       → (x : ℕ) × (x < mostRules) × (oldest (g s) (listFor T (S .tolerance) s) ≡ after (frameOf T (S .tolerance) s) x)
-  unfolding listFor frameOf servicesIn services targetsOf
+  unfolding listFor frameOf servicesIn services targetsOf numbered
   granted-oldest s l = (
     min (g s - 1) 31,
     omega arith,
@@ -134,13 +133,13 @@ module _ (S : Sheet) (L : Limits S) where
   )
 
   all-granted : (s : ℕ) → s < length (S .volumes) → Granted (S .k) (oldest (g s) (listFor T (S .tolerance) s))
-  unfolding frameOf servicesIn targetsOf
+  unfolding frameOf servicesIn targetsOf numbered
   all-granted s l =
       let o = granted-oldest s l in
       rw (o .2) (list-granted (S .k) (S .tolerance) (getD (T .labels) s []) (getD (S .weights) s []) (L .bits) (L .row s l .few) (weigh s l) (numbers s) (o .0) (o .1))
 
   imbalance-most : (s : ℕ) → s < length (S .volumes) → imbalance (frameOf T (S .tolerance) s .targets) (oldest (g s) (listFor T (S .tolerance) s)) ≤ mostImbalance
-  unfolding frameOf servicesIn targetsOf
+  unfolding frameOf servicesIn targetsOf numbered
   imbalance-most s l =
       let o = granted-oldest s l in
       rw (o .2) (list-imbalance (S .k) (S .tolerance) (getD (T .labels) s []) (getD (S .weights) s []) (L .bits) (L .row s l .few) (weigh s l) (numbers s) (o .0) (L .few-bits))
@@ -148,7 +147,7 @@ module _ (S : Sheet) (L : Limits S) where
   cost-most :
       (s : ℕ) → s < length (S .volumes)
       → volume T s * stair (frameOf T (S .tolerance) s) (g s) (listFor T (S .tolerance) s) ≤ mostCost
-  unfolding stair volume servicesIn
+  unfolding stair volume servicesIn numbered
   cost-most s l =
       let F : Frame = frameOf T (S .tolerance) s in
       let least : imbalance (F .targets) (oldest (g s) (listFor T (S .tolerance) s)) ≤ mostImbalance = imbalance-most s l in

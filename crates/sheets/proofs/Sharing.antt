@@ -16,7 +16,7 @@ use Rattle.numerals.specs.Limits.{mostBackends}
 use Rattle.numerals.specs.declared.refusal.Refusal.the-variants.{ShortLoan, UnknownService}
 use Rattle.numerals.proofs.Sums.{count-suc, list-taken}
 use Rattle.expansion.specs.FirstMatch.{firstMatch, gives, share}
-use Rattle.expansion.specs.Sound.{Complete}
+use Rattle.expansion.specs.Inner.Sound.{Complete}
 use Rattle.expansion.specs.declared.rule.Rule.{Rule}
 use Rattle.expansion.proofs.Count.{share-sum}
 use Rattle.packing.specs.Count.{Line, ownRules}

@@ -13,6 +13,7 @@ use Rattle.numerals.specs.Suffix.{suffix, place}
 use Rattle.expansion.proofs.Cases.{worked-show, p6-one-suffix}
 use Rattle.numerals.specs.Limits.{unit}
 use Rattle.numerals.specs.Sums.{listTo}
+use Rattle.packing.specs.Answer.{numbered}
 use Rattle.packing.specs.Table.{granted, oneEach}
 use Rattle.packing.proofs.Cases.{p7}
 use Rattle.sheets.specs.Reading.{onField}
@@ -25,7 +26,7 @@ use Rattle.sheets.proofs.Witnesses.{sample, sample-printed}
 
 -- P7: the sample's text is read as the sample, which is granted 2 and 3
 sample-grant : (s : ℕ) → s < 2 → granted (servicesIn sample) 20000 oneEach 5 s ≡ getD (2 ∷ 3 ∷ []) s 0
-unfolding servicesIn listTo unit
+unfolding servicesIn listTo unit numbered
 sample-grant zero l = p7 .first
 sample-grant (suc zero) l = p7 .second
 sample-grant (suc (suc s)) l = absurd (omega arith)

@@ -21,7 +21,7 @@ use Rattle.expansion.specs.declared.rule.Ended.the-variants.{NoGain}
 use Rattle.packing.specs.Grants.{Grants, saving, next, rules, total, more, grantStep, grantsAfter, packed}
 use Rattle.packing.specs.Count.{services, volume, targetsOf, countedImbalance, counted, countedLargestExcess, countedLargestShortfall, ownRules}
 use Rattle.packing.specs.Table.{ruleBudget, frameOf, listFor, linesOf, tableOf, table, problem, granted, oneEach}
-use Rattle.packing.specs.Answer.{linesMade, figuresTo, figuresMade, figuresBuffer, tableBuffer}
+use Rattle.packing.specs.Answer.{numbered, linesMade, figuresTo, figuresMade, figuresBuffer, tableBuffer}
 use Rattle.packing.specs.Demand.{Fitting}
 use Rattle.expansion.specs.Answer.{inLimits}
 use Rattle.packing.specs.Cases.{line}
@@ -62,7 +62,7 @@ tableBytes = bytes "TABLE 5 5 293333920\n1 *0 2\n1 * 3\n2 *00 2\n2 *0 1\n2 * 3\n
 
 -- the sample's table, by the definitions
 pub sample-packed : tableFor sample ≡ sampleTable
-unfolding tableFor servicesIn unit sumTo listTo countTo allTo firstTo argmax lastmax matches firstMatch gives share backends label weight has wants excess shortfall imbalance giver receiver largestExcess largestShortfall firstRule frame isWithin reduction reductionAt term isNoGain isWhole termLength lowestPlace newRule step after listOf oldest stair place value valueFrom lowest saving next rules total more grantStep grantsAfter packed services volume targetsOf ruleBudget frameOf listFor problem granted linesOf tableOf table linesMade
+unfolding tableFor servicesIn unit sumTo listTo countTo allTo firstTo argmax lastmax matches firstMatch gives share backends label weight has wants excess shortfall imbalance giver receiver largestExcess largestShortfall firstRule frame isWithin reduction reductionAt term isNoGain isWhole termLength lowestPlace newRule step after listOf oldest stair place value valueFrom lowest saving next rules total more grantStep grantsAfter packed services volume targetsOf ruleBudget frameOf listFor problem granted linesOf tableOf table linesMade numbered
 sample-packed = refl
 
 -- its text, byte for byte
@@ -98,7 +98,7 @@ abbrev rival : Grants
 rival s = pick (eqb s 0) 4 1
 
 pub rival-fits : Fitting (servicesIn sample) oneEach 5 rival
-unfolding servicesIn services sumTo
+unfolding servicesIn services sumTo numbered
 rival-fits = record { enough = one; room = omega arith }
   where
     one : (s : ℕ) → s < 2 → 1 ≤ rival s
@@ -107,7 +107,7 @@ rival-fits = record { enough = one; room = omega arith }
     one (suc (suc s)) h = absurd (omega arith)
 
 pub rival-loses : counted (servicesIn sample) (table (servicesIn sample) 20000 rival) ≡ 738333920
-unfolding servicesIn unit sumTo listTo countTo allTo firstTo argmax lastmax matches firstMatch gives share backends label weight has wants excess shortfall imbalance giver receiver largestExcess largestShortfall firstRule frame isWithin reduction reductionAt term isNoGain isWhole termLength lowestPlace newRule step after listOf oldest place value valueFrom lowest services volume targetsOf ruleBudget frameOf listFor linesOf tableOf table ownRules countedImbalance counted
+unfolding servicesIn unit sumTo listTo countTo allTo firstTo argmax lastmax matches firstMatch gives share backends label weight has wants excess shortfall imbalance giver receiver largestExcess largestShortfall firstRule frame isWithin reduction reductionAt term isNoGain isWhole termLength lowestPlace newRule step after listOf oldest place value valueFrom lowest services volume targetsOf ruleBudget frameOf listFor linesOf tableOf table ownRules countedImbalance counted numbered
 rival-loses = refl
 
 -- P6 as a sheet: its whole list is in the table and ended as no gain, and excess and shortfall make just one suffix, as much as demand 3 allows
@@ -130,7 +130,7 @@ pub record Tight : Type 0 where
   pub below : countedLargestShortfall (servicesIn thirds) (thirdsTable .lines) 0 ≡ 666666
 
 pub thirds-tight : Tight
-unfolding tableFor servicesIn unit sumTo listTo countTo allTo firstTo argmax lastmax matches firstMatch gives share backends label weight has wants excess shortfall imbalance giver receiver largestExcess largestShortfall firstRule frame isWithin reduction reductionAt term isNoGain isWhole termLength lowestPlace newRule step after endOf listOf oldest stair place value valueFrom lowest saving next rules total more grantStep grantsAfter packed services volume targetsOf ruleBudget frameOf listFor problem granted linesOf tableOf table linesMade countedLargestExcess countedLargestShortfall ownRules
+unfolding tableFor servicesIn unit sumTo listTo countTo allTo firstTo argmax lastmax matches firstMatch gives share backends label weight has wants excess shortfall imbalance giver receiver largestExcess largestShortfall firstRule frame isWithin reduction reductionAt term isNoGain isWhole termLength lowestPlace newRule step after endOf listOf oldest stair place value valueFrom lowest saving next rules total more grantStep grantsAfter packed services volume targetsOf ruleBudget frameOf listFor problem granted linesOf tableOf table linesMade countedLargestExcess countedLargestShortfall ownRules numbered
 thirds-tight = record { made = refl; entire = refl; ended = refl; above = refl; below = refl }
 
 -- The one call on the sample: made, and each buffer too short by one place.
@@ -139,7 +139,7 @@ abbrev sampleFigures : List ℕ
 sampleFigures = 2 ∷ 4 ∷ 0 ∷ 3 ∷ 3 ∷ 0 ∷ []
 
 pub sample-figures : figuresFor sample ≡ sampleFigures
-unfolding figuresFor figuresMade figuresTo servicesIn unit sumTo listTo countTo allTo firstTo argmax lastmax matches firstMatch gives share backends label weight has wants excess shortfall imbalance giver receiver largestExcess largestShortfall firstRule frame isWithin reduction reductionAt term isNoGain isWhole termLength lowestPlace newRule step after endOf listOf oldest stair place value valueFrom lowest saving next rules total more grantStep grantsAfter packed services volume targetsOf ruleBudget frameOf listFor problem granted
+unfolding figuresFor figuresMade figuresTo servicesIn unit sumTo listTo countTo allTo firstTo argmax lastmax matches firstMatch gives share backends label weight has wants excess shortfall imbalance giver receiver largestExcess largestShortfall firstRule frame isWithin reduction reductionAt term isNoGain isWhole termLength lowestPlace newRule step after endOf listOf oldest stair place value valueFrom lowest saving next rules total more grantStep grantsAfter packed services volume targetsOf ruleBudget frameOf listFor problem granted numbered
 sample-figures = refl
 
 pub record OneCall : Type 0 where

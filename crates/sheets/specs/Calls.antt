@@ -1,21 +1,21 @@
 -- What the public calls answer, and what they write, for every input.
-use Prim.Native.Nat.{ℕ, suc, _+_, _*_, _^_}
+use Prim.Native.Nat.{ℕ, _+_, _*_, _^_}
 use mathlib.Core.Bool.{Bool, true, false, not}
-use mathlib.Core.List.{List, [], _∷_, _++_, map}
+use mathlib.Core.List.{List, [], _∷_, _++_}
 use lib.Dec.{leb, ltb, eqb}
 use lib.ListN.{length}
-use lib.Seq.{sets}
+use Rattle.numerals.specs.Buffer.{filled}
 use Rattle.numerals.specs.Pick.{pick}
 use Rattle.numerals.specs.Decimal.{decimal}
-use Rattle.numerals.specs.Sums.{listTo, countTo}
-use Rattle.numerals.specs.Limits.{unit, textLimit}
+use Rattle.numerals.specs.Sums.{countTo}
+use Rattle.numerals.specs.Limits.{textLimit}
 use Rattle.numerals.specs.declared.refusal.Refusal.{Refusal}
 use Rattle.numerals.specs.Refusals.{no7, no8, no11, no12}
 use Rattle.expansion.specs.FirstMatch.{firstMatch}
 use Rattle.packing.specs.Grants.{total}
 use Rattle.packing.specs.Count.{Line, Services, ownRules}
 use Rattle.packing.specs.Table.{problem, granted, oneEach}
-use Rattle.packing.specs.Answer.{linesMade, figuresMade, cells, noBuffer, figuresBuffer, tableBuffer}
+use Rattle.packing.specs.Answer.{numbered, linesMade, figuresMade, cells, noBuffer, figuresBuffer, tableBuffer}
 use Rattle.sheets.specs.Reading.{Reading, got, refused, unless}
 use Rattle.sheets.specs.PercentageSheet.{Sheet, readSheet}
 use Rattle.sheets.specs.RuleSheet.{Table, headText, linesText, tableText, countOf, readTable, checkSheet}
@@ -46,8 +46,7 @@ valuesOf (refused why line) f = []
 
 -- a lent buffer afterwards: the values from its start on, where the answer is no refusal; else as it was
 abbrev pub afterwards : Bool → List ℕ → List ℕ → List ℕ
-afterwards true out vs = sets out 0 vs
-afterwards false out vs = out
+afterwards made out vs = filled made out 0 vs
 
 abbrev pub isValue : Answer → Bool
 isValue (Value n) = true
@@ -63,14 +62,7 @@ isTable (table-read.Refused r) = false
 
 -- the services of a sheet, as the count is fed them; backends are labelled by their number from 1
 unfoldable pub servicesIn : Sheet → Services
-servicesIn S =
-    record {
-      k = S .k;
-      unit = unit;
-      volumes = S .volumes;
-      labels = map (λ (own : List ℕ). listTo (length own) suc) (S .weights);
-      weights = S .weights;
-    }
+servicesIn S = numbered (S .k) (S .volumes) (S .weights)
 
 -- the table of a sheet
 unfoldable pub tableFor : Sheet → Table

@@ -1,17 +1,17 @@
 // The answers to vectors of the shares of a service, with the whole lent buffer afterwards.
 use crate::shown;
-use sheets::Counted;
+use sheets::Answer;
 use vectors::header::Header;
 use vectors::print;
 use vectors::walk;
 
 fn count_into(text: &[u8], service: usize, shares: &mut [u64]) {
     match sheets::count_shares(text, service, shares) {
-        Counted::Shares(k) => {
+        Answer::Value(k) => {
             print::bytes(b"shares");
             print::field(k as u64);
         }
-        Counted::Refused(r) => shown::refused(r),
+        Answer::Refused(r) => shown::refused(r),
     }
 }
 

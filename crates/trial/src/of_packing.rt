@@ -95,7 +95,7 @@ fn show(packed: Packed, n: usize, figures: &[usize; 240], table: &[usize; 8192])
     show_lines(packed.rules, table);
 }
 
-fn turned_back(why: Refusal, buffer: usize) {
+fn show_refusal(why: Refusal, buffer: usize) {
     match buffer {
         0 => print::refused(why),
         1 => shown::short(why, b"figures"),
@@ -128,7 +128,7 @@ fn pack_services(
     );
     match packed {
         Packing::Made(made) => show(made, n, &figures, &table),
-        Packing::Refused(why, buffer) => turned_back(why, buffer),
+        Packing::Refused(why, buffer) => show_refusal(why, buffer),
     }
 }
 

@@ -3,9 +3,7 @@ use crate::counts;
 use crate::plans;
 use crate::shown;
 use crate::writes;
-use sheets::Churned;
-use sheets::Looked;
-use sheets::Printed;
+use sheets::Answer;
 use sheets::TableRead;
 use sheets::TableRecord;
 use vectors::header::Header;
@@ -14,15 +12,15 @@ use vectors::walk;
 
 fn split_into(text: &[u8], out: &mut [u8]) {
     match sheets::split_sheet(text, out) {
-        Printed::End(n) => shown::sheet(walk::start(out, n)),
-        Printed::Refused(r) => shown::refused(r),
+        Answer::Value(n) => shown::sheet(walk::start(out, n)),
+        Answer::Refused(r) => shown::refused(r),
     }
 }
 
 // The rule sheet of a percentage sheet, into a buffer of so many bytes.
 fn split(text: &[u8], room: usize) {
-    let mut array = [0u8; 65536];
-    if room <= 65536 {
+    let mut array = [0u8; numerals::TEXT_LIMIT];
+    if room <= numerals::TEXT_LIMIT {
         split_into(text, &mut array[0..room]);
     }
 }
@@ -61,17 +59,17 @@ fn written(back: bool) {
 
 // Whether the table that was read from a text is written to the same bytes again.
 fn write_back(text: &[u8], read: TableRecord, table: &[usize; 8192]) {
-    let mut array = [0u8; 65536];
+    let mut array = [0u8; numerals::TEXT_LIMIT];
     let space: &mut [u8] = &mut array;
     let n = read.rules;
-    if 2048 < n {
+    if numerals::MOST_CAPACITY < n {
         written(false);
         return;
     }
     let cells = walk::first_places(table, 4 * n);
     match sheets::write_table(read.k, read.total, cells, space) {
-        Printed::End(end) => written(same(walk::start(space, end), text)),
-        Printed::Refused(_) => written(false),
+        Answer::Value(end) => written(same(walk::start(space, end), text)),
+        Answer::Refused(_) => written(false),
     }
 }
 
@@ -89,11 +87,11 @@ fn lookup(h: Header, text: &[u8]) {
         return;
     }
     match sheets::lookup(text, h.first as usize, address as u32) {
-        Looked::Backend(b) => {
+        Answer::Value(b) => {
             print::bytes(b"backend");
             print::field(b as u64);
         }
-        Looked::Refused(r) => shown::refused(r),
+        Answer::Refused(r) => shown::refused(r),
     }
 }
 
@@ -104,13 +102,13 @@ fn churn(h: Header, text: &[u8]) {
         walk::rest(text, cut),
         h.first as usize,
     ) {
-        Churned::Moved(n) => {
+        Answer::Value(n) => {
             print::bytes(b"churn");
             print::field(n as u64);
         }
-        Churned::Refused(r, which) => {
+        Answer::Refused(r) => {
             shown::refused(r);
-            print::field(which as u64);
+            print::field(r.of as u64);
         }
     }
 }
@@ -118,7 +116,7 @@ fn churn(h: Header, text: &[u8]) {
 pub fn answer(h: Header, text: &[u8]) {
     let kind = h.kind;
     match kind {
-        b'R' => split(text, 65536),
+        b'R' => split(text, numerals::TEXT_LIMIT),
         b'B' => split(text, h.first as usize),
         b'U' => read(text),
         b'L' => lookup(h, text),

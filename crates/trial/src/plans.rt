@@ -15,8 +15,9 @@ fn made(p: Plan) {
     print::field(p.total);
 }
 
-fn turned_back(r: Refused, buffer: usize) {
+fn show_refusal(r: Refused) {
     let why = r.why;
+    let buffer = r.of;
     match buffer {
         0 => shown::refused(r),
         1 => shown::short(why, b"figures"),
@@ -28,7 +29,7 @@ fn turned_back(r: Refused, buffer: usize) {
 fn plan_into(text: &[u8], figures: &mut [usize], table: &mut [usize]) {
     match sheets::plan(text, figures, table) {
         Planned::Made(p) => made(p),
-        Planned::Refused(r, buffer) => turned_back(r, buffer),
+        Planned::Refused(r) => show_refusal(r),
     }
 }
 

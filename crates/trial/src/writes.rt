@@ -1,6 +1,6 @@
 // The answers to vectors of tables that are handed in numbers, with the whole lent buffer afterwards.
 use crate::shown;
-use sheets::Printed;
+use sheets::Answer;
 use vectors::header::Header;
 use vectors::print;
 use vectors::walk;
@@ -23,11 +23,11 @@ fn read_cells(text: &[u8], n: usize, cells: &mut [usize; 8200]) {
 
 fn write_into(k: usize, total: u64, cells: &[usize], out: &mut [u8]) {
     match sheets::write_table(k, total, cells, out) {
-        Printed::End(end) => {
+        Answer::Value(end) => {
             print::bytes(b"end");
             print::field(end as u64);
         }
-        Printed::Refused(r) => shown::refused(r),
+        Answer::Refused(r) => shown::refused(r),
     }
 }
 
@@ -40,7 +40,7 @@ fn show_buffer(out: &[u8; 65540], n: usize) {
 fn write_cells(h: Header, cells: &[usize; 8200], n: usize) {
     let mut out = [46u8; 65540];
     let room = h.third as usize;
-    if 65536 < room {
+    if numerals::TEXT_LIMIT < room {
         return;
     }
     let numbers = walk::first_places(cells, n);

@@ -42,7 +42,7 @@ pub fn suffix(len: usize, value: usize) {
     }
 }
 
-// The answer to numbers that are turned back.
+// The answer to numbers that are refused.
 pub fn refused(why: Refusal) {
     bytes(b"refused");
     field(numerals::refusal_number(why));

@@ -10,7 +10,7 @@ use Rattle.numerals.specs.Sums.{sumTo}
 use Rattle.expansion.specs.FirstMatch.{nobody, share}
 use Rattle.expansion.specs.Imbalance.{backends, label, imbalance}
 use Rattle.expansion.specs.Steps.{Frame, after, endOf, listOf, stair}
-use Rattle.expansion.specs.Sound.{Distinct, Sound}
+use Rattle.expansion.specs.Inner.Sound.{Distinct, Labelled, Sound}
 use Rattle.expansion.specs.Inner.Ledger.{Keeps}
 use Rattle.expansion.specs.Inner.Terms.{nextOf}
 use Rattle.expansion.specs.Inner.Holders.{Holds}
@@ -42,6 +42,7 @@ pub record Valid (k tolerance : ℕ) (labels ws : List ℕ) : Type 0 where
   pub balanced : sumTo (length ws) (λ b. getD ws b 0) ≡ unit
   pub labelled : length labels ≡ length ws
   pub distinct : Distinct (λ b. getD labels b nobody) (length ws)
+  pub named : Labelled (λ b. getD labels b nobody) (length ws)
 
 -- a frame that the program can run: within the limits, and one that the theorems hold for
 pub record Fits (F : Frame) : Type 0 where
@@ -50,7 +51,6 @@ pub record Fits (F : Frame) : Type 0 where
   pub tolerable : F .tolerance ≤ unit
   pub few : backends (F .targets) ≤ mostBackends
   pub labelled : length (F .targets .labels) ≡ backends (F .targets)
-  pub started : 1 ≤ length (F .start)
   pub sound : Sound F
 
 -- what each backend holds at the start

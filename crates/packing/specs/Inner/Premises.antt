@@ -2,9 +2,8 @@
 use Prim.Native.Nat.{ℕ, suc, _-_, _≤_, _<_}
 use mathlib.Core.Path.{_≡_}
 use Rattle.numerals.specs.Sums.{sumTo}
-use Rattle.expansion.specs.FirstMatch.{nobody}
-use Rattle.expansion.specs.Imbalance.{Targets, backends, label, weight}
-use Rattle.expansion.specs.Sound.{Distinct}
+use Rattle.expansion.specs.Imbalance.{backends, label, weight}
+use Rattle.expansion.specs.Inner.Sound.{Distinct, Labelled}
 use Rattle.packing.specs.Grants.{Problem, Grants, rules}
 use Rattle.packing.specs.Count.{Services, services, targetsOf}
 
@@ -20,14 +19,10 @@ pub record Convex (P : Problem) : Type 0 where
       (s x : ℕ) → s < P .services → P .least s ≤ x
       → P .cost s (suc x) - P .cost s (suc (suc x)) ≤ P .cost s x - P .cost s (suc x)
 
--- each backend has a label
-abbrev pub Labelled : Targets → Type 0
-Labelled T = (b : ℕ) → b < backends T → label T b ≡ nobody → ⊥
-
 -- services as the percentage sheet has them: the weights of each sum to the unit, each backend has a label, and no two have one label
 pub record Balanced (S : Services) : Type 0 where
   pub bits : 0 < S .k
   pub positive : 0 < S .unit
   pub weigh : (s : ℕ) → s < services S → sumTo (backends (targetsOf S s)) (weight (targetsOf S s)) ≡ S .unit
   pub distinct : (s : ℕ) → s < services S → Distinct (label (targetsOf S s)) (backends (targetsOf S s))
-  pub labelled : (s : ℕ) → s < services S → Labelled (targetsOf S s)
+  pub labelled : (s : ℕ) → s < services S → Labelled (label (targetsOf S s)) (backends (targetsOf S s))

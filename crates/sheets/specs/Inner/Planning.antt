@@ -1,7 +1,7 @@
 -- The packing's answer, as the one call answers it.
 use Prim.Native.Nat.{ℕ}
-use Rattle.packing.specs.declared.call.Packing.{Packing}
-use Rattle.packing.specs.declared.call.Packing.the-variants as packing
+use Rattle.packing.specs.declared.answer.Packing.{Packing}
+use Rattle.packing.specs.declared.answer.Packing.the-variants as packing
 use Rattle.sheets.specs.Calls.{about}
 use Rattle.sheets.specs.declared.answer.Planned.{Planned}
 use Rattle.sheets.specs.declared.answer.Planned.the-variants.{Made, Refused}

@@ -6,7 +6,7 @@ use borrow.Author.Needs.{needs}
 use Rattle.sheets.specs.PercentageSheet.{readSheet}
 use Rattle.sheets.specs.Calls.{printRead, sheetText}
 use Rattle.commands.proofs.Texts.{whole}
-use Rattle.commands.proofs.Sheets.{ended, refused}
+use Rattle.commands.proofs.Sheets.{ended, not-printed}
 use Rattle.commands.proofs.splitting.split.Statement.{statement}
 use Rattle.commands.proofs.splitting.split.Tie as tie
 
@@ -34,19 +34,19 @@ answered c =
 returns : tie.Need-returns
 returns c =
     let s = c .before .before .before in
-    let told = c .before .printed .given .1 in
+    let is = c .before .printed .given .1 in
     let e = s .split-sheet .ensures in
-    let end = ended _ _ (sym told ∙ answered s) in
-    (end .0, ((rw told at (e .1 .0)) ∙ ap (sets _ 0) (end .1), λ S h. rw told at (e .1 .1)))
+    let end = ended _ _ (sym is ∙ answered s) in
+    (end .0, ((rw is at (e .1 .0)) ∙ ap (sets _ 0) (end .1), λ S h. rw is at (e .1 .1)))
 
 returns-2 : tie.Need-returns-2
 returns-2 c =
     let s = c .before .before .before .before .before in
-    let told = c .before .before .before .printed2 .given .1 in
+    let is = c .before .before .before .printed2 .given .1 in
     let e = s .split-sheet .ensures in
-    let not = refused _ _ (sym told ∙ answered s) in
+    let not = not-printed _ _ (sym is ∙ answered s) in
     let w = whole (c .put-refused .ensures) in
-    (rw (not .0) (w .0), (rw (not .0) (w .1 ∙ rw (rw told at (e .1 .0))), λ S h. absurd (not .1 S h)))
+    (rw (not .0) (w .0), (rw (not .0) (w .1 ∙ rw (rw is at (e .1 .0))), λ S h. absurd (not .1 S h)))
 
 pub split-spec : {M : Type 1} → statement M
 split-spec =

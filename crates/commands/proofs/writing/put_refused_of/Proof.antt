@@ -21,7 +21,7 @@ returns : tie.Need-returns
 returns c =
     let a = c .before .before .before .before .before .before .before .before .before .args in
     let w = c .before .before .before .before .before .before .put-refusal .ensures in
-    rw (← parts-of (a .r) (a .sheet)) (chain (w .0) (c .before .before .put-number .ensures .0))
+    rw (← parts-of (a .r)) (chain (w .0) (c .before .before .put-number .ensures .0))
 
 pub put-refused-of-spec : {M : Type 1} → statement M
 put-refused-of-spec =

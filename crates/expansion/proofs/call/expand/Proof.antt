@@ -14,7 +14,7 @@ use Rattle.expansion.specs.Answer.{checkCall, listMade, lensMade, values
 use Rattle.expansion.specs.declared.rule.Rule.{Rule}
 use Rattle.expansion.specs.declared.call.Checked.the-variants.{Sound as Passed}
 use Rattle.expansion.proofs.Checks.{call-passed}
-use Rattle.expansion.proofs.Answers.{answer-turned, answer-short, answer-made, made-column, made-stairs}
+use Rattle.expansion.proofs.Answers.{answer-refused, answer-short, answer-made, made-column, made-stairs}
 use Rattle.expansion.proofs.call.expand.Statement.{statement}
 use Rattle.expansion.proofs.call.expand.Tie as tie
 
@@ -33,7 +33,7 @@ returns : tie.Need-returns
 returns c =
     let s = c .before .before .before .before .before .before .before .before .before in let a = s .args in (
       sym
-          (answer-turned (a .k) (a .tolerance) (a .budget) (a .weights .now) (a .at) (room s)
+          (answer-refused (a .k) (a .tolerance) (a .budget) (a .weights .now) (a .at) (room s)
           (c .before .checked .given .0 .0) (sym (c .before .before .before .check-call .ensures) ∙ c .before .checked .given .1)),
       (refl, (refl, (refl, refl))),
     )

@@ -6,8 +6,8 @@ use borrow.Author.Needs.{needs}
 use borrow.Author.Tests.{le-leb, lt-leb}
 use Rattle.numerals.specs.declared.refusal.Refusal.the-variants.{ShortLoan}
 use Rattle.packing.specs.Answer.{figuresBuffer, tableBuffer, written}
-use Rattle.packing.specs.declared.call.Packed.{Packed}
-use Rattle.packing.specs.declared.call.Packing.the-variants.{Made, Refused}
+use Rattle.packing.specs.declared.answer.Packed.{Packed}
+use Rattle.packing.specs.declared.answer.Packing.the-variants.{Made, Refused}
 use Rattle.packing.proofs.output.write_out.Statement.{statement}
 use Rattle.packing.proofs.output.write_out.Tie as tie
 
