@@ -63,7 +63,7 @@ module _ (k broken : ℕ) (before : List Line) where
 pub record Checked (k : ℕ) (table : List ℕ) (i : ℕ) (last : Last) (tally : List ℕ) : Type 0 where
   pub before : List Line
   pub passed : length before ≡ i
-  pub kept : Behind before last tally
+  pub behind : Behind before last tally
   pub left :
       checkedCells k table
       ≡ checkedFrom k (length (brokenFrom table)) before (linesFrom (slice (4 * i) (length table) table))
@@ -73,10 +73,10 @@ none-checked k table =
     record {
       before = [];
       passed = refl;
-      kept = passed-none k (replicate (4 * mostCapacity) 0) (length-replicate {A = ℕ} (4 * mostCapacity) 0) .behind;
+      behind = passed-none k (replicate (4 * mostCapacity) 0) (length-replicate {A = ℕ} (4 * mostCapacity) 0) .behind;
       left = ap (λ (cs : List ℕ). checkedFrom k (length (brokenFrom table)) [] (linesFrom cs)) (sym (take-all (length table) table (le-refl (length table))));
     }
 
 -- not more lines than n were
 pub few-checked : (k : ℕ) (table : List ℕ) (i : ℕ) (last : Last) (tally : List ℕ) → Checked k table i last tally → last .count ≡ i
-few-checked k table i last tally C = ap (λ (q : Last). q .count) (C .kept .is) ∙ last-count (C .before) ∙ C .passed
+few-checked k table i last tally C = ap (λ (q : Last). q .count) (C .behind .is) ∙ last-count (C .before) ∙ C .passed

@@ -17,9 +17,9 @@ use Rattle.expansion.specs.FirstMatch.{matches, firstMatch}
 use Rattle.expansion.specs.declared.rule.Rule.{Rule}
 use Rattle.packing.specs.Count.{Line, ownRules}
 use Rattle.sheets.specs.RuleSheet.{Table, countOf, inOrder, closed}
-use Rattle.sheets.specs.Calls.{refusedAt, linesFrom, hasService, lookupIn, churnOf}
+use Rattle.sheets.specs.Calls.{refusedAt, linesFrom, hasService, lookupIn}
 use Rattle.sheets.specs.Inner.TableNumbers.{lineAt, linesIn, RuleLines}
-use Rattle.sheets.specs.Inner.Churn.{compared}
+use Rattle.sheets.specs.Inner.TableReader.{Found}
 use Rattle.sheets.specs.declared.answer.Answer.the-variants.{Value, Refused}
 use Rattle.sheets.proofs.TableChecks.{Formed, formed, InOrder, Proper}
 use Rattle.sheets.proofs.TableNumbers.{rows-more, rows-none}
@@ -146,7 +146,7 @@ has-match t p n v =
     (λ c. rw (lt-ltb 0 (countOf n (t .lines)) c, lt-ltb 0 (firstMatch (ownRules n (t .lines)) v) (first-some (t .k) n v [] (t .lines) (p .sorted) (p .ends) c)))
     (λ z. rw (le-ltb 0 (countOf n (t .lines)) z, first-none n v (t .lines) (omega arith)))
 
--- lookup and churn by the first match
+-- lookup by the first match, and what churn asks
 pub by-match :
     (t : Table) → Proper t → (n v : ℕ)
     → lookupIn t n v
@@ -154,8 +154,6 @@ pub by-match :
 unfolding lookupIn
 by-match t p n v = rw (has-match t p n v)
 
-pub by-matches :
-    (old new : Table) → Proper old → Proper new → (n : ℕ)
-    → churnOf old new n ≡ compared (old .k) (old .lines) (new .k) (new .lines) n
-unfolding churnOf compared
-by-matches old new p q n = rw (has-match old p n 0, has-match new q n 0)
+pub found : (t : Table) → Proper t → (n : ℕ) → Found (t .lines) n
+unfolding hasService
+found t p n = has-match t p n 0

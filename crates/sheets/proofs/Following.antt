@@ -53,15 +53,15 @@ last-count [] = refl
 last-count (l ∷ ls) = refl
 
 -- what is kept once the line is tallied
-module _ (before : List Line) (l : Line) (last : Last) (tally : List ℕ) (kept : Behind before last tally) (small : l .service ≤ mostServices) where
+module _ (before : List Line) (l : Line) (last : Last) (tally : List ℕ) (passed : Behind before last tally) (small : l .service ≤ mostServices) where
   pub behind-next :
       Behind (l ∷ before) (record { count = last .count + 1; service = l .service; len = l .rule .len })
       (set tally (l .service) (getD tally (l .service) 0 + 1))
   unfolding lastOf
   behind-next =
       record {
-        is = count (last .count + 1) (add-one (last .count) ∙ ap suc (ap (λ q. q .count) (kept .is) ∙ last-count before));
-        places = length-set tally (l .service) (getD tally (l .service) 0 + 1) ∙ kept .places;
+        is = count (last .count + 1) (add-one (last .count) ∙ ap suc (ap (λ q. q .count) (passed .is) ∙ last-count before));
+        places = length-set tally (l .service) (getD tally (l .service) 0 + 1) ∙ passed .places;
         tallied = tallied;
       }
     where
@@ -72,12 +72,12 @@ module _ (before : List Line) (l : Line) (last : Last) (tally : List ℕ) (kept 
       tallied : (s : ℕ) → s ≤ mostServices → getD (set tally (l .service) (getD tally (l .service) 0 + 1)) s 0 ≡ countOf s (l ∷ before)
       tallied s h =
           by-service s l
-          (λ e. rw (← e) (getD-set-same tally (l .service) (getD tally (l .service) 0 + 1) 0 (omega (arith, kept .places))
+          (λ e. rw (← e) (getD-set-same tally (l .service) (getD tally (l .service) 0 + 1) 0 (omega (arith, passed .places))
           ∙ add-one (getD tally (l .service) 0)
-          ∙ ap suc (kept .tallied (l .service) small)
+          ∙ ap suc (passed .tallied (l .service) small)
           ∙ sym (count-same l before)))
           (λ n. getD-set-other tally (l .service) s (getD tally (l .service) 0 + 1) 0 (λ e. n (sym e))
-          ∙ kept .tallied s h
+          ∙ passed .tallied s h
           ∙ sym (count-other s l before n))
 
 -- the two tests of a line

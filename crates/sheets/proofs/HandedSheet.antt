@@ -24,25 +24,16 @@ use Rattle.expansion.specs.Answer.{inLimits}
 use Rattle.expansion.proofs.Checks.{limits as within}
 use Rattle.expansion.specs.FirstMatch.{isRule}
 use Rattle.packing.specs.Count.{Line}
-use Rattle.sheets.specs.Reading.{Reading, got, refused, then, unless, onField}
+use Rattle.sheets.specs.Reading.{Reading, got, then, unless, onField}
 use Rattle.sheets.specs.FirstLine.{Opening, openingFields, openingLines, firstLine}
 use Rattle.numerals.specs.Limits.{mostBits, mostBackends, mostServices, mostRules, mostCapacity, textLimit, totalLimit}
-use Rattle.sheets.specs.RuleSheet.{Table, tableWord, lineText, linesText, onSuffix, countOf, inOrder, placed, ruleFields, ruleLines, closed, wholeTable, tableLine, readTable, isLine, checkLines, checkEnd, checkSheet}
+use Rattle.sheets.specs.RuleSheet.{Table, tableWord, headText, lineText, linesText, onSuffix, countOf, inOrder, placed, ruleFields, ruleLines, closed, wholeTable, tableLine, readTable, isLine, checkLines, checkEnd, checkSheet}
 use Rattle.sheets.specs.Calls.{linesFrom, brokenFrom, brokenText, linesHanded, handedText, tableHanded}
+use Rattle.sheets.specs.Inner.Premises.{ValuesFit, atNoLine}
 use Rattle.sheets.proofs.Words.{same-refl}
 use Rattle.sheets.proofs.OpeningLine.{lines-more}
 use Rattle.sheets.proofs.Joins.{join, join-free}
 use Rattle.sheets.proofs.TableTexts.{headRow, lineRow, line-joined, head-free, line-free, head-split, line-split}
-
--- what was read, as a call without a text answers it: with line 0
-unfoldable pub atNoLine : {A : Type 0} → Reading A → Reading A
-atNoLine (got a) = got a
-atNoLine (refused why line) = refused why 0
-
--- every suffix's value has the bits that its length says, so that the text says the same line
-unfoldable pub ValuesFit : List Line → Type 0
-ValuesFit [] = Unit {0}
-ValuesFit (l ∷ ls) = (l .rule .value < 2 ^ (l .rule .len)) × ValuesFit ls
 
 -- The text as its lines.
 
@@ -84,7 +75,7 @@ broken-split (s ∷ ss) =
 handed-split :
     (k total : ℕ) (cs : List ℕ)
     → split 10 (handedText k total cs) ≡ join 32 (headRow k (linesHanded cs) total) ∷ rowsBefore (linesFrom cs) (brokenRows (brokenFrom cs))
-unfolding handedText join
+unfolding handedText headText join
 handed-split k total cs =
     let head = headRow k (linesHanded cs) total in
     let rest = linesText (linesFrom cs) ++ brokenText (brokenFrom cs) in

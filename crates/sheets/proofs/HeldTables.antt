@@ -10,10 +10,9 @@ use Rattle.numerals.specs.declared.refusal.Refusal.the-variants.{ShortLoan}
 use Rattle.packing.specs.Answer.{cells}
 use Rattle.sheets.specs.Reading.{Reading, got, refused}
 use Rattle.sheets.specs.RuleSheet.{Table, readTable}
-use Rattle.sheets.specs.Calls.{refusedAt, answered, linesFrom, readIn, readAnswer, churnAnswer}
+use Rattle.sheets.specs.Calls.{refusedAt, answered, linesFrom, readIn, readAnswer}
 use Rattle.sheets.specs.Inner.TableNumbers.{linesIn, RuleLines}
-use Rattle.sheets.specs.Inner.TableReader.{sheetAnswer, Filled}
-use Rattle.sheets.specs.Inner.Churn.{compared}
+use Rattle.sheets.specs.Inner.TableReader.{sheetAnswer, Filled, tableOf, Found}
 use Rattle.sheets.specs.declared.answer.Refused.{Refused as Why}
 use Rattle.sheets.specs.declared.answer.TableRead.the-variants as table-read
 use Rattle.sheets.specs.declared.rule_sheet.TableHead.{TableHead}
@@ -22,7 +21,7 @@ use Rattle.sheets.proofs.TableChecks.{Proper}
 use Rattle.sheets.proofs.OrderedLines.{read-proper}
 use Rattle.sheets.proofs.TableNumbers.{lines-cells}
 use Rattle.sheets.proofs.NumbersText.{rule-lines}
-use Rattle.sheets.proofs.FirstMatch.{by-matches}
+use Rattle.sheets.proofs.FirstMatch.{found}
 
 pub record TableHeld (text : List ℕ) (h : TableHead) (numbers : List ℕ) : Type 0 where
   pub table : Table
@@ -91,12 +90,10 @@ module _ (text : List ℕ) (h : TableHead) (numbers : List ℕ) (H : TableHeld t
   unfolding readAnswer readIn
   read-short e = rw (H .read, lt-leb (4 * length (H .table .lines)) room (omega (arith, size)))
 
--- churn, by what is found between the lines in numbers
-pub both-held :
-    (old new : List ℕ) (h g : TableHead) (ns ms : List ℕ) → TableHeld old h ns → TableHeld new g ms → (s : ℕ)
-    → compared (h .k) (linesIn ns (h .n)) (g .k) (linesIn ms (g .n)) s ≡ churnAnswer old new s
-unfolding churnAnswer
-both-held old new h g ns ms H G s =
-    let k : h .k ≡ H .table .k = ap (λ (x : TableHead). x .k) (H .head) in
-    let l : g .k ≡ G .table .k = ap (λ (x : TableHead). x .k) (G .head) in
-    rw (k, l, H .lines, G .lines, H .read, G .read) (sym (by-matches (H .table) (G .table) (H .proper) (G .proper) s))
+-- it is that table in memory, and what churn asks of it holds
+module _ (text : List ℕ) (h : TableHead) (numbers : List ℕ) (H : TableHeld text h numbers) where
+  pub in-memory : tableOf h numbers ≡ H .table
+  in-memory = rw (H .lines) (ap (λ (x : TableHead). record { k = x .k; total = x .total; lines = H .table .lines }) (H .head))
+
+  pub found-there : (n : ℕ) → Found (linesIn numbers (h .n)) n
+  found-there n = rw (H .lines) (found (H .table) (H .proper) n)

@@ -57,12 +57,12 @@ holds-more {volumes} {weights} {zs = zs} {i = i} {n = n} {s = s} h k room =
     }
 
 -- what is answered after the lines
-pub kept-whole :
+pub holds-whole :
     (head : Head) (ss : List Service) {vs zs ws : List ℕ} {n row : ℕ} → length ss ≡ n
     → Holds (volumesOf ss) (weightsOf ss) vs zs ws n row
     → SheetOf (finished head n row) (sheetOf head ss) vs zs ws
 unfolding finished whole unless
-kept-whole head ss {vs} {zs} {ws} {n} {row} count h = go (ltb 0 n) (leb n (head .capacity)) refl refl
+holds-whole head ss {vs} {zs} {ws} {n} {row} count h = go (ltb 0 n) (leb n (head .capacity)) refl refl
   where
     go :
         (t u : Bool) → ltb 0 n ≡ t → leb n (head .capacity) ≡ u

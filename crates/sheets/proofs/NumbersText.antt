@@ -1,7 +1,7 @@
 -- A table in numbers, four of each line: how many lines there are, how long their text is, and that those of a proper table are in their limits.
 use Prim.Native.Nat.{ℕ, zero, suc, _+_, _*_, _/_, _%_, _^_, _≤_, _<_}
 use mathlib.Core.Path.{_≡_, refl, sym, ap, _∙_}
-use mathlib.Core.List.{List, [], _∷_, _++_, append-nil, append-assoc}
+use mathlib.Core.List.{List, [], _∷_, _++_, append-nil}
 use native.Mathlib.Nat.{add-zero}
 use native.Mathlib.Omega.{arith}
 use lib.ListN.{length, getD, length-append}
@@ -12,11 +12,11 @@ use Rattle.numerals.proofs.Slice.{slice-more, slice-none, slice-length}
 use Rattle.numerals.specs.Limits.{mostBits, mostCapacity, textLimit}
 use Rattle.packing.specs.Count.{Line}
 use Rattle.sheets.specs.Calls.{linesFrom, brokenFrom, brokenText, linesHanded, handedText}
-use Rattle.sheets.specs.RuleSheet.{lineText, linesText, tableText}
+use Rattle.sheets.specs.RuleSheet.{headText, lineText, linesText, tableText}
 use Rattle.sheets.specs.Inner.TableNumbers.{lineAt, linesIn, tableIn, RuleLines}
-use Rattle.sheets.specs.Inner.Writing.{lineWidth, counted, headText}
+use Rattle.sheets.specs.Inner.Writing.{lineWidth, counted}
 use Rattle.sheets.proofs.TableNumbers.{four-more, rows-more, rows-none}
-use Rattle.sheets.proofs.TableTexts.{linesWidth, line-short, length-lines, length-table, length-head, head-lines}
+use Rattle.sheets.proofs.TableTexts.{linesWidth, line-short, length-lines, length-table, length-head}
 use Rattle.sheets.proofs.TableChecks.{Formed, formed, is-formed, InOrder}
 
 -- as many lines as numbers by four, and a broken one where some are left over
@@ -40,20 +40,12 @@ pub count-handed : (cs : List ℕ) → linesHanded cs ≡ (length cs + 3) / 4
 unfolding linesHanded
 count-handed cs = omega (arith, count-lines cs, count-broken cs)
 
--- the text that numbers make is line 1 and their lines
-handed-parts :
-    (k total : ℕ) (cs : List ℕ) → handedText k total cs ≡ headText k (linesHanded cs) total ++ (linesText (linesFrom cs) ++ brokenText (brokenFrom cs))
-unfolding handedText headText
-handed-parts k total cs = simp append-assoc
-
 -- of whole lines it is the text of their table
 pub whole-text :
     (k total : ℕ) (cs : List ℕ) → length (brokenFrom cs) ≡ 0 → handedText k total cs ≡ tableText (record { k = k; total = total; lines = linesFrom cs })
-unfolding linesHanded brokenText
+unfolding handedText tableText linesHanded brokenText
 whole-text k total cs h =
-    handed-parts k total cs
-    ∙ rw (none (brokenFrom cs) h, add-zero (length (linesFrom cs)), append-nil (linesText (linesFrom cs)))
-    (sym (head-lines (record { k = k; total = total; lines = linesFrom cs })))
+    rw (none (brokenFrom cs) h, add-zero (length (linesFrom cs)), append-nil (linesText (linesFrom cs)))
   where
     none : (ss : List ℕ) → length ss ≡ 0 → ss ≡ []
     none [] e = refl
@@ -65,13 +57,12 @@ handedWidth cs = linesWidth (linesFrom cs) + length (brokenText (brokenFrom cs))
 
 pub length-handed :
     (k total : ℕ) (cs : List ℕ) → length (handedText k total cs) ≡ 9 + width k + width ((length cs + 3) / 4) + width total + handedWidth cs
-unfolding handedWidth
+unfolding handedText handedWidth
 length-handed k total cs =
     let lines = linesText (linesFrom cs) in
     let broken = brokenText (brokenFrom cs) in
     omega (
       arith,
-      ap length (handed-parts k total cs),
       length-append (headText k (linesHanded cs) total) (lines ++ broken),
       length-append lines broken,
       length-head k (linesHanded cs) total,
@@ -210,5 +201,5 @@ module _ (table : List ℕ) (n : ℕ) (L : RuleLines table n) where
       omega (arith, ap length (whole-text k total cs whole), table-short k total few h j)
 
   pub table-parts : (k total : ℕ) → headText k n total ++ linesText (left 0) ≡ tableText (tableIn k total table n)
-  table-parts k total =
-      sym (head-lines (tableIn k total table n) ∙ ap (λ (m : ℕ). headText k m total ++ linesText (left 0)) lines-count)
+  unfolding tableText
+  table-parts k total = ap (λ (m : ℕ). headText k m total ++ linesText (left 0)) (sym lines-count)

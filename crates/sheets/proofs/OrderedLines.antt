@@ -13,8 +13,9 @@ use Rattle.numerals.proofs.Sums.{sum-one, sum-most, sum-zero}
 use Rattle.packing.specs.Count.{Line, ownRules}
 use Rattle.sheets.specs.Reading.{got, field}
 use Rattle.sheets.specs.RuleSheet.{Table, countOf, ruleFields, ruleLines, placed, wholeTable, tableLine, readTable}
+use Rattle.sheets.specs.Inner.Premises.{checkTable}
 use Rattle.numerals.specs.Limits.{mostBits, mostBackends, mostServices, mostRules, mostCapacity, totalLimit}
-use Rattle.sheets.specs.Inner.TableNumbers.{line, checkTable}
+use Rattle.sheets.specs.Inner.TableNumbers.{line}
 use Rattle.sheets.proofs.Readings.{got-same, unless-got, onField-got, onSuffix-got, then-got}
 use Rattle.sheets.proofs.OpeningLine.{opened}
 use Rattle.sheets.proofs.TableChecks.{Follows, InOrder, formed, is-formed, Proper, checked}

@@ -28,7 +28,7 @@ use Rattle.packing.proofs.Demand.{granted-fitting, one-fits}
 use Rattle.packing.proofs.Tables.{length-table}
 use Rattle.sheets.specs.Reading.{got}
 use Rattle.sheets.specs.PercentageSheet.{Sheet, readSheet}
-use Rattle.sheets.specs.Inner.TableNumbers.{checkTable}
+use Rattle.sheets.specs.Inner.Premises.{checkTable}
 use Rattle.sheets.specs.Calls.{servicesIn, tableFor}
 use Rattle.sheets.proofs.Ladder.{Ladder, ladder, ladder-some, all-labelled, Granted, Ready, table-sorted}
 use Rattle.sheets.proofs.SheetLimits.{Limits, limits, sum-places}
@@ -79,7 +79,7 @@ module _ (k tolerance : ℕ) (labels ws : List ℕ) (one : 1 ≤ k) (few : lengt
   list-imbalance : (x : ℕ) → k ≤ mostBits → imbalance (F .targets) (after F x) ≤ mostImbalance
   unfolding frame unit
   list-imbalance x h =
-      omega (arith, imbalance-bound F sound (after F x) (good-after F sound x .complete), pow-mono {i = k} {j = 12} h)
+      omega (arith, imbalance-bound F sound (after F x) (good-after F sound x .complete), pow-mono {i = k} {j = mostBits} h)
 
   oldest-list : (c : ℕ) → 1 ≤ c → oldest c (listOf F ruleBudget) ≡ after F (min (c - 1) 31)
   unfolding listOf ruleBudget frame firstRule

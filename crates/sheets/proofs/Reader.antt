@@ -21,7 +21,7 @@ use Rattle.sheets.specs.RuleSheet.{Table, countOf, placed, ruleFields, r
 use Rattle.sheets.specs.Inner.Order.{lastOf, Behind, placing}
 use Rattle.sheets.specs.Calls.{about, refusedAt}
 use Rattle.sheets.specs.declared.answer.Refused.{Refused as Why}
-use Rattle.sheets.specs.Inner.TableReader.{Passed, Filled, sheetAnswer, tableOf, tableFrom}
+use Rattle.sheets.specs.Inner.TableReader.{Passed, Filled, sheetAnswer, wholeOf, tableFrom}
 use Rattle.sheets.specs.Inner.Fields.{linesAt, fieldsAt}
 use Rattle.sheets.specs.declared.rule_sheet.TableHead.{TableHead}
 use Rattle.sheets.specs.declared.order.Last.{Last}
@@ -113,7 +113,7 @@ then-then (refused why line) f g = refl
 
 -- the lines from a position on: none left, one more, or one without LF
 module _ (h : TableHead) (before : List Line) where
-  pub from-none : (l : List ℕ) → length l ≡ 0 → tableFrom h before (l ∷ []) ≡ tableOf h before
+  pub from-none : (l : List ℕ) → length l ≡ 0 → tableFrom h before (l ∷ []) ≡ wholeOf h before
   unfolding tableFrom ruleLines then unless
   from-none l e = rw e
 
@@ -127,12 +127,12 @@ module _ (h : TableHead) (before : List Line) where
       → tableFrom h before (l ∷ ms) ≡ then (ruleFields (h .k) before (length before + 2) (split 32 l)) (λ line. tableFrom h (line ∷ before) ms)
   unfolding tableFrom ruleLines then
   from-more l [] e = absurd (omega arith)
-  from-more l (m ∷ ms) e = then-then (ruleFields (h .k) before (length before + 2) (split 32 l)) (λ line. ruleLines (h .k) (line ∷ before) (m ∷ ms)) (tableOf h)
+  from-more l (m ∷ ms) e = then-then (ruleFields (h .k) before (length before + 2) (split 32 l)) (λ line. ruleLines (h .k) (line ∷ before) (m ∷ ms)) (wholeOf h)
 
 -- after the lines, by what is kept of them
 pub whole-by :
     (h : TableHead) (all : List Line) (last : Last) → last ≡ lastOf all
-    → tableOf h all
+    → wholeOf h all
     ≡ unless (ltb 0 (last .count)) NoService 1
     (unless (eqb (last .count) (h .n)) Miscount 1
     (unless (eqb (last .len) 0) Order (last .count + 1)
@@ -141,7 +141,7 @@ unfolding wholeTable closed lastOf
 whole-by h [] last e = rw e
 whole-by h (l ∷ ls) last e = rw e
 
-pub whole-filled : (h : TableHead) (all : List Line) (table : List ℕ) → take (4 * length all) table ≡ cells (reverse all) → Filled (tableOf h all) table
+pub whole-filled : (h : TableHead) (all : List Line) (table : List ℕ) → take (4 * length all) table ≡ cells (reverse all) → Filled (wholeOf h all) table
 unfolding wholeTable unless
 whole-filled h all table e = go (ltb 0 (length all)) (eqb (length all) (h .n)) (closed all)
   where
@@ -172,7 +172,7 @@ refused-by (refused w l) why line table e = (cc, tt)
 -- none is left at the end of the text
 pub next-none :
     (h : TableHead) (text : List ℕ) (before : List Line) (start : ℕ) → length text ≤ start
-    → tableFrom h before (linesAt text start) ≡ tableOf h before
+    → tableFrom h before (linesAt text start) ≡ wholeOf h before
 unfolding split
 next-none h text before start e = rw (slice-none start (length text) text (omega arith)) (from-none h before [] refl)
 

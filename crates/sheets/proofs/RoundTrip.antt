@@ -16,7 +16,8 @@ use Rattle.sheets.specs.FirstLine.{Opening}
 use Rattle.numerals.specs.Limits.{mostBits, mostBackends, mostServices, mostCapacity, textLimit, totalLimit}
 use Rattle.sheets.specs.RuleSheet.{Table, tableWord, tableText, placed, ruleFields, ruleLines, wholeTable, tableLine, readTable}
 use Rattle.sheets.specs.Calls.{linesFrom, brokenFrom, handedText, tableHanded}
-use Rattle.sheets.specs.Inner.TableNumbers.{line, checkTable}
+use Rattle.sheets.specs.Inner.TableNumbers.{line}
+use Rattle.sheets.specs.Inner.Premises.{checkTable, ValuesFit, atNoLine}
 use Rattle.sheets.proofs.Readings.{not-got, got-same, unless-got, onField-got, onSuffix-got, then-got}
 use Rattle.sheets.proofs.OpeningLine.{Opened, opened}
 use Rattle.sheets.proofs.Joins.{join, join-split, by-number}
@@ -24,7 +25,7 @@ use Rattle.sheets.proofs.TableChecks.{InOrder, formed, Proper, proper}
 use Rattle.sheets.proofs.TableTexts.{headRow, lineRow, rows, tableRows, table-joined, linesWidth, line-short, length-table}
 use Rattle.sheets.proofs.TableNumbers.{lines-cells, length-cells}
 use Rattle.sheets.proofs.NumbersText.{count-broken, whole-text}
-use Rattle.sheets.proofs.HandedSheet.{atNoLine, ValuesFit, as-its-sheet}
+use Rattle.sheets.proofs.HandedSheet.{as-its-sheet}
 
 -- From the text to the table: what was read leaves no choice.
 

@@ -21,7 +21,7 @@ use Rattle.expansion.specs.Answer.{inLimits}
 use Rattle.sheets.specs.Reading.{Reading, got, refused, then, unless, onField, same}
 use Rattle.sheets.specs.PercentageSheet.{weightFields, sum, serviceFields, serviceLines, whole, sheetLine, readSheet}
 use Rattle.sheets.specs.FirstLine.{openingFields, openingLines, firstLine}
-use Rattle.sheets.specs.RuleSheet.{Table, lineText, linesText, onSuffix, countOf, inOrder, placed, ruleFields, ruleLines, closed, wholeTable, tableLine, readTable, isLine, checkLines, checkEnd, checkSheet}
+use Rattle.sheets.specs.RuleSheet.{Table, headText, lineText, linesText, onSuffix, countOf, inOrder, placed, ruleFields, ruleLines, closed, wholeTable, tableLine, readTable, isLine, checkLines, checkEnd, checkSheet}
 use Rattle.sheets.specs.Calls.{about, refusedAt, linesFrom, brokenFrom, brokenText, linesHanded, handedText, tableHanded, hasService, lookupIn, lookupAnswer, moved, churnOf, churnAnswer}
 use Rattle.sheets.specs.Cases.{bytes}
 use Rattle.sheets.proofs.TableTexts.{linesWidth}
@@ -149,7 +149,7 @@ pub record Handed : Type 0 where
   pub before-star : tableHanded 1 0 (1 ∷ 1 ∷ 0 ∷ 1 ∷ 1 ∷ 0 ∷ []) ≡ refused no1 0
 
 pub all-handed : Handed
-unfolding tableHanded handedText linesHanded brokenText brokenFrom linesFrom linesText lineText checkSheet checkEnd checkLines isLine isRule inLimits placed inOrder countOf ownRules closed totalLimit textLimit unless then decimal width widthIn suffixText lowest
+unfolding tableHanded handedText headText linesHanded brokenText brokenFrom linesFrom linesText lineText checkSheet checkEnd checkLines isLine isRule inLimits placed inOrder countOf ownRules closed totalLimit textLimit unless then decimal width widthIn suffixText lowest
 all-handed =
     record {
       accepted = refl;

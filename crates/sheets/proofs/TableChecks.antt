@@ -14,7 +14,7 @@ use Rattle.expansion.specs.FirstMatch.{isRule}
 use Rattle.packing.specs.Count.{Line}
 use Rattle.sheets.specs.Reading.{got, then, unless}
 use Rattle.sheets.specs.RuleSheet.{Table, countOf, inOrder, placed, closed, isLine, checkLines, checkEnd, checkSheet}
-use Rattle.sheets.specs.Inner.TableNumbers.{checkTable}
+use Rattle.sheets.specs.Inner.Premises.{checkTable}
 use Rattle.numerals.specs.Limits.{mostBits, mostBackends, mostServices, mostRules, mostCapacity, totalLimit}
 use Rattle.sheets.proofs.Readings.{got-same, unless-got, then-got}
 

@@ -16,8 +16,9 @@ use Rattle.sheets.specs.Reading.{Reading, got, refused, then, unless}
 use Rattle.numerals.specs.Limits.{mostBits, mostCapacity, textLimit, totalLimit}
 use Rattle.expansion.specs.Answer.{inLimits}
 use Rattle.sheets.specs.RuleSheet.{Table, closed, checkLines, checkEnd, checkSheet}
+use Rattle.sheets.specs.Inner.Premises.{checkTable}
 use Rattle.sheets.specs.Calls.{linesFrom, brokenFrom, handedText, tableHanded}
-use Rattle.sheets.specs.Inner.TableNumbers.{linesIn, tableIn, RuleLines, checkTable}
+use Rattle.sheets.specs.Inner.TableNumbers.{linesIn, tableIn, RuleLines}
 use Rattle.sheets.specs.Inner.Writing.{CheckedAs, checkedFrom, checkedCells, handed}
 use Rattle.sheets.proofs.NumbersText.{count-lines, count-broken, rule-lines}
 use Rattle.sheets.proofs.Readings.{unless-got}

@@ -12,8 +12,8 @@ use Rattle.numerals.proofs.Decimal.{length-decimal, decimal-free, width-least}
 use Rattle.numerals.proofs.Fields.{Free}
 use Rattle.numerals.proofs.Suffix.{length-suffix, suffix-free}
 use Rattle.packing.specs.Count.{Line}
-use Rattle.sheets.specs.RuleSheet.{Table, tableWord, lineText, linesText, tableText}
-use Rattle.sheets.specs.Inner.Writing.{headText, lineWidth}
+use Rattle.sheets.specs.RuleSheet.{Table, tableWord, headText, lineText, linesText, tableText}
+use Rattle.sheets.specs.Inner.Writing.{lineWidth}
 use Rattle.sheets.proofs.Joins.{join, join-more, AllFree, split-join}
 
 -- the fields of line 1 and of a rule line
@@ -51,7 +51,7 @@ lines-joined (l ∷ ls) =
 
 -- a rule sheet is its lines joined
 pub table-joined : (t : Table) → tableText t ≡ join 10 (tableRows t)
-unfolding tableText join
+unfolding tableText headText join
 table-joined t =
     let head = join 32 (headRow (t .k) (length (t .lines)) (t .total)) in
     let front : tableText t ≡ head ++ 10 ∷ linesText (t .lines) = simp append-assoc in
@@ -101,15 +101,16 @@ unfolding linesText linesWidth
 length-lines [] = refl
 length-lines (l ∷ ls) = omega (arith, length-append (lineText l) (linesText ls), length-line l, length-lines ls)
 
-pub length-table : (t : Table) → length (tableText t) ≡ 9 + width (t .k) + width (length (t .lines)) + width (t .total) + linesWidth (t .lines)
-unfolding tableText
-length-table t = simp (length-append, length-decimal, length-lines) (omega arith)
-
 pub length-head : (k n total : ℕ) → length (headText k n total) ≡ 9 + width k + width n + width total
 unfolding headText
 length-head k n total = simp (length-append, length-decimal) (omega arith)
 
--- a rule sheet is line 1 and the rule lines
-pub head-lines : (t : Table) → tableText t ≡ headText (t .k) (length (t .lines)) (t .total) ++ linesText (t .lines)
-unfolding tableText headText
-head-lines t = simp append-assoc
+pub length-table : (t : Table) → length (tableText t) ≡ 9 + width (t .k) + width (length (t .lines)) + width (t .total) + linesWidth (t .lines)
+unfolding tableText
+length-table t =
+    omega (
+      arith,
+      length-append (headText (t .k) (length (t .lines)) (t .total)) (linesText (t .lines)),
+      length-head (t .k) (length (t .lines)) (t .total),
+      length-lines (t .lines),
+    )

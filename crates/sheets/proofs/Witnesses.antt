@@ -28,8 +28,8 @@ use Rattle.packing.specs.Cases.{line}
 use Rattle.sheets.specs.Reading.{Reading, got, refused, then, unless, onField, same}
 use Rattle.sheets.specs.PercentageSheet.{Sheet, weightFields, sum, serviceFields, serviceLines, volumesOf, weightsOf as rowsOf, whole, sheetLine, readSheet}
 use Rattle.sheets.specs.FirstLine.{openingFields, openingLines, firstLine}
-use Rattle.sheets.specs.RuleSheet.{Table, lineText, linesText, tableText, onSuffix, countOf, inOrder, placed, ruleFields, ruleLines, closed, wholeTable, tableLine, readTable, isLine, checkLines, checkEnd, checkSheet}
-use Rattle.sheets.specs.Inner.TableNumbers.{checkTable}
+use Rattle.sheets.specs.RuleSheet.{Table, headText, lineText, linesText, tableText, onSuffix, countOf, inOrder, placed, ruleFields, ruleLines, closed, wholeTable, tableLine, readTable, isLine, checkLines, checkEnd, checkSheet}
+use Rattle.sheets.specs.Inner.Premises.{checkTable}
 use Rattle.sheets.specs.Calls.{about, servicesIn, tableFor, planOf, planAnswer, figuresFor, sheetText, printText, printRead}
 use Rattle.sheets.specs.Demand.{Demand3}
 use Rattle.sheets.specs.Cases.{bytes, cases}
@@ -67,7 +67,7 @@ sample-packed = refl
 
 -- its text, byte for byte
 sample-written : tableText sampleTable ≡ tableBytes
-unfolding tableText linesText lineText decimal width widthIn lowest suffixText bytes
+unfolding tableText headText linesText lineText decimal width widthIn lowest suffixText bytes
 sample-written = refl
 
 pub sample-printed : sheetText sample ≡ tableBytes

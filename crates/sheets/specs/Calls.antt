@@ -18,7 +18,7 @@ use Rattle.packing.specs.Table.{problem, granted, oneEach}
 use Rattle.packing.specs.Answer.{numbered, linesMade, figuresMade, cells, noBuffer, figuresBuffer, tableBuffer}
 use Rattle.sheets.specs.Reading.{Reading, got, refused, unless}
 use Rattle.sheets.specs.PercentageSheet.{Sheet, readSheet}
-use Rattle.sheets.specs.RuleSheet.{Table, tableWord, linesText, tableText, countOf, readTable, checkSheet}
+use Rattle.sheets.specs.RuleSheet.{Table, headText, linesText, tableText, countOf, readTable, checkSheet}
 use Rattle.sheets.specs.declared.answer.Refused.{Refused as Why}
 use Rattle.sheets.specs.declared.answer.Answer.{Answer}
 use Rattle.sheets.specs.declared.answer.Answer.the-variants.{Value, Refused}
@@ -129,13 +129,7 @@ linesHanded cs = length (linesFrom cs) + length (brokenFrom cs)
 
 -- the text that a table in numbers makes
 unfoldable pub handedText : ℕ → ℕ → List ℕ → List ℕ
-handedText k total cs =
-    tableWord
-    ++ 32 ∷ decimal k
-    ++ 32 ∷ decimal (linesHanded cs)
-    ++ 32 ∷ decimal total
-    ++ 10 ∷ linesText (linesFrom cs)
-    ++ brokenText (brokenFrom cs)
+handedText k total cs = headText k (linesHanded cs) total ++ (linesText (linesFrom cs) ++ brokenText (brokenFrom cs))
 
 -- a table that was handed in numbers, checked as its sheet would be: that text's length, line 1, line by line, the end
 unfoldable pub tableHanded : ℕ → ℕ → List ℕ → Reading Table
@@ -164,16 +158,16 @@ lookupIn t n address = pick (hasService t n) (Value (firstMatch (ownRules n (t .
 unfoldable pub lookupAnswer : List ℕ → ℕ → ℕ → Answer
 lookupAnswer text n address = answered Refused 0 (readTable text) (λ t. lookupIn t n address)
 
--- the number of k-bit suffixes for which service n has another backend in the new lines than in the old
+-- of the suffixes below `all`, the number for which service n has another backend in the new lines than in the old
 unfoldable pub moved : ℕ → List Line → List Line → ℕ → ℕ
-moved k old new n = countTo (2 ^ k) (λ v. not (eqb (firstMatch (ownRules n old) v) (firstMatch (ownRules n new) v)))
+moved all old new n = countTo all (λ v. not (eqb (firstMatch (ownRules n old) v) (firstMatch (ownRules n new) v)))
 
 -- churn: 8 is about the first sheet that lacks the service, 12 about neither
 unfoldable pub churnOf : Table → Table → ℕ → Answer
 churnOf old new n =
     pick (hasService old n)
     (pick (hasService new n)
-    (pick (eqb (old .k) (new .k)) (Value (moved (old .k) (old .lines) (new .lines) n))
+    (pick (eqb (old .k) (new .k)) (Value (moved (2 ^ (old .k)) (old .lines) (new .lines) n))
     (Refused (refusedAt no12 0)))
     (Refused (about 2 no8 0)))
     (Refused (about 1 no8 0))

@@ -1,4 +1,4 @@
--- The contracts of inner functions: what each answers, and leaves in memory. No public contract cites them.
+-- The contracts of inner functions, what each answers and leaves in memory, and the premises of laws. No public contract cites them.
 pub mod Fields
 pub mod FirstLine
 pub mod SheetReader
@@ -6,5 +6,5 @@ pub mod Order
 pub mod TableNumbers
 pub mod TableReader
 pub mod Writing
-pub mod Churn
 pub mod Planning
+pub mod Premises

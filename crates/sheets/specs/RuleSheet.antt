@@ -37,14 +37,13 @@ unfoldable pub linesText : List Line → List ℕ
 linesText [] = []
 linesText (l ∷ ls) = lineText l ++ linesText ls
 
+-- the text of line 1
+unfoldable pub headText : ℕ → ℕ → ℕ → List ℕ
+headText k n total = tableWord ++ 32 ∷ decimal k ++ 32 ∷ decimal n ++ 32 ∷ decimal total ++ 10 ∷ []
+
 -- the text of a rule sheet
 unfoldable pub tableText : Table → List ℕ
-tableText t =
-    tableWord
-    ++ 32 ∷ decimal (t .k)
-    ++ 32 ∷ decimal (length (t .lines))
-    ++ 32 ∷ decimal (t .total)
-    ++ 10 ∷ linesText (t .lines)
+tableText t = headText (t .k) (length (t .lines)) (t .total) ++ linesText (t .lines)
 
 unfoldable pub onSuffix : {A : Type 0} → SuffixRead → ℕ → (ℕ → ℕ → Reading A) → Reading A
 onSuffix (Suffix l v) line f = f l v

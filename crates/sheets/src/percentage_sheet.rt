@@ -125,7 +125,8 @@ fn read_service(
     requires { ⌜ (from ≤ to) × (to ≤ length (now text)) ⌝ }
     requires { ⌜ (mostServices ≤ length (now volumes)) × (mostServices * mostBackends ≤ length (now weights)) ⌝ }
     requires { ⌜ at ≤ mostBackends * i ⌝ }
-    ensures { λ r. ⌜ ServiceOf r (now (volumes .entry)) (now (volumes .exit)) (now (weights .entry)) (now (weights .exit)) at i (fieldsAt (now (text .entry)) from to) ⌝ }
+    ensures { λ r. ⌜ ServiceOf r (now (volumes .entry)) (now (volumes .exit)) (now (weights .entry)) (now (weights .exit))
+        at i (fieldsAt (now (text .entry)) from to) ⌝ }
 {
     let opened = read_volume(text, from, to, i);
     match opened {
@@ -159,7 +160,8 @@ fn read_line(
     requires { ⌜ start < length (now text) ⌝ }
     requires { ⌜ (mostServices ≤ length (now volumes)) × (mostServices * mostBackends ≤ length (now weights)) ⌝ }
     requires { ⌜ at ≤ mostBackends * i ⌝ }
-    ensures { λ r. ⌜ LineOf r (now (text .entry)) (now (volumes .entry)) (now (volumes .exit)) (now (weights .entry)) (now (weights .exit)) at i start ⌝ }
+    ensures { λ r. ⌜ LineOf r (now (text .entry)) (now (volumes .entry)) (now (volumes .exit)) (now (weights .entry)) (now (weights .exit))
+        at i start ⌝ }
 {
     let end = numerals::find(text, start, text.len(), 10);
     if text.len() <= end {
@@ -202,8 +204,10 @@ fn read_services(
     weights: &mut [u64],
 ) -> SheetRead
     requires { ⌜ from ≤ length (now text) ⌝ }
-    requires { ⌜ (mostServices ≤ length (now volumes)) × ((mostServices ≤ length (now sizes)) × (mostServices * mostBackends ≤ length (now weights))) ⌝ }
-    ensures { λ r. ⌜ SheetOf r (sheetFrom head (linesAt (now (text .entry)) from)) (now (volumes .exit)) (now (sizes .exit)) (now (weights .exit)) ⌝ }
+    requires { ⌜ (mostServices ≤ length (now volumes))
+        × ((mostServices ≤ length (now sizes)) × (mostServices * mostBackends ≤ length (now weights))) ⌝ }
+    ensures { λ r. ⌜ SheetOf r (sheetFrom head (linesAt (now (text .entry)) from))
+        (now (volumes .exit)) (now (sizes .exit)) (now (weights .exit)) ⌝ }
 {
     let mut start = from;
     let mut i = 0;
@@ -232,7 +236,8 @@ pub fn read_sheet(
     sizes: &mut [usize],
     weights: &mut [u64],
 ) -> SheetRead
-    requires { ⌜ (mostServices ≤ length (now volumes)) × ((mostServices ≤ length (now sizes)) × (mostServices * mostBackends ≤ length (now weights))) ⌝ }
+    requires { ⌜ (mostServices ≤ length (now volumes))
+        × ((mostServices ≤ length (now sizes)) × (mostServices * mostBackends ≤ length (now weights))) ⌝ }
     ensures { λ r. ⌜ SheetOf r (readSheet (now (text .entry))) (now (volumes .exit)) (now (sizes .exit)) (now (weights .exit)) ⌝ }
 {
     let read = crate::first_line::read_first_line(

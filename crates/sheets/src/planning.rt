@@ -22,8 +22,10 @@ const FIGURES: usize = 3 * numerals::MOST_SERVICES;
 // of its list and how the list ended (within 0, no gain 1, budget 2). `table` takes four for each line.
 pub fn plan(text: &[u8], figures: &mut [usize], table: &mut [usize]) -> Planned
     ensures answer { λ r. ⌜ r ≡ calls.planAnswer (now (text .entry)) (length (now (figures .entry))) (length (now (table .entry))) ⌝ }
-    ensures figures { λ r. ⌜ now (figures .exit) ≡ calls.afterwards (calls.isPlan r) (now (figures .entry)) (calls.valuesOf (readSheet (now (text .entry))) calls.figuresFor) ⌝ }
-    ensures table { λ r. ⌜ now (table .exit) ≡ calls.afterwards (calls.isPlan r) (now (table .entry)) (calls.valuesOf (readSheet (now (text .entry))) calls.cellsFor) ⌝ }
+    ensures figures { λ r. ⌜ now (figures .exit) ≡ calls.afterwards (calls.isPlan r) (now (figures .entry))
+        (calls.valuesOf (readSheet (now (text .entry))) calls.figuresFor) ⌝ }
+    ensures table { λ r. ⌜ now (table .exit) ≡ calls.afterwards (calls.isPlan r) (now (table .entry))
+        (calls.valuesOf (readSheet (now (text .entry))) calls.cellsFor) ⌝ }
 {
     let mut volumes = [0u64; numerals::MOST_SERVICES];
     let mut sizes = [0usize; numerals::MOST_SERVICES];
@@ -75,7 +77,8 @@ fn plan_from(k: usize, services: usize, packed: Packing) -> Planned
 // The rule sheet of a percentage sheet, into a lent buffer.
 pub fn split_sheet(text: &[u8], out: &mut [u8]) -> Answer
     ensures answer { λ r. ⌜ r ≡ calls.printRead (readSheet (now (text .entry))) calls.sheetText (length (now (out .entry))) ⌝ }
-    ensures buffer { λ r. ⌜ now (out .exit) ≡ calls.afterwards (calls.isValue r) (now (out .entry)) (calls.valuesOf (readSheet (now (text .entry))) calls.sheetText) ⌝ }
+    ensures buffer { λ r. ⌜ now (out .exit) ≡ calls.afterwards (calls.isValue r) (now (out .entry))
+        (calls.valuesOf (readSheet (now (text .entry))) calls.sheetText) ⌝ }
     ensures demand { λ r. ⌜ Demand3Of r (now (text .entry)) (now (out .exit)) ⌝ }
 {
     let mut figures = [0usize; FIGURES];

@@ -17,23 +17,23 @@ ghost use lib.Seq.{slice};
 ghost use Rattle.numerals.specs.Limits.{mostBits, mostServices, mostCapacity};
 ghost use Rattle.numerals.specs.Decimal.{decimal};
 ghost use Rattle.numerals.specs.Suffix.{suffixText};
-ghost use Rattle.sheets.specs.RuleSheet.{tableText, lineText, isLine};
+ghost use Rattle.sheets.specs.RuleSheet.{headText, lineText, tableText, isLine};
 ghost use Rattle.sheets.specs.Inner.TableNumbers.{line, lineAt, tableIn, RuleLines};
-ghost use Rattle.sheets.specs.Inner.Writing.{Wrote, Before, endAt, headText, lineWidth, counted, CheckedAs, checkedCells, Checking, handed};
+ghost use Rattle.sheets.specs.Inner.Writing.{Wrote, Before, endAt, lineWidth, counted, CheckedAs, checkedCells, Checking, handed};
 ghost use Rattle.sheets.specs.Calls as calls;
 
 // One byte more than a text may have. Widths are counted up to it, so that no sum wraps.
-const OVER: usize = numerals::TEXT_LIMIT + 1;
+const OVER_LONG: usize = numerals::TEXT_LIMIT + 1;
 
 // The sum of two widths.
 fn add_width(a: usize, b: usize) -> usize
     ensures { λ r. ⌜ r ≡ counted (a + b) ⌝ }
 {
-    if OVER <= a {
-        return OVER;
+    if OVER_LONG <= a {
+        return OVER_LONG;
     }
-    if OVER - a <= b {
-        return OVER;
+    if OVER_LONG - a <= b {
+        return OVER_LONG;
     }
     a + b
 }
@@ -175,7 +175,8 @@ fn fits(k: usize, total: u64, table: &[usize], n: usize, room: usize) -> bool
 pub fn print(k: usize, total: u64, table: &[usize], n: usize, out: &mut [u8]) -> Answer
     requires { ⌜ (n ≤ mostCapacity) × RuleLines (now table) n ⌝ }
     ensures answer { λ r. ⌜ r ≡ calls.printText (tableText (tableIn k total (now (table .entry)) n)) (length (now (out .entry))) ⌝ }
-    ensures buffer { λ r. ⌜ now (out .exit) ≡ calls.afterwards (calls.isValue r) (now (out .entry)) (tableText (tableIn k total (now (table .entry)) n)) ⌝ }
+    ensures buffer { λ r. ⌜ now (out .exit) ≡ calls.afterwards (calls.isValue r) (now (out .entry))
+        (tableText (tableIn k total (now (table .entry)) n)) ⌝ }
 {
     if !fits(k, total, table, n, out.len()) {
         return Answer::Refused(refused_at(Refusal::ShortLoan, 0));
@@ -206,7 +207,8 @@ fn is_line(k: usize, service: usize, len: usize, value: usize, backend: usize) -
 
 // Line i of a table that is no text, behind those before it.
 fn check_line(k: usize, table: &[usize], i: usize, last: Last, tally: &mut [usize]) -> Placed
-    requires { ⌜ (k ≤ mostBits) × ((4 * i + 3 < length (now table)) × ((last .count ≤ mostCapacity) × (length (now tally) ≡ 1 + mostServices))) ⌝ }
+    requires { ⌜ (k ≤ mostBits) × ((4 * i + 3 < length (now table))
+        × ((last .count ≤ mostCapacity) × (length (now tally) ≡ 1 + mostServices))) ⌝ }
     ensures { λ r. ⌜ Checking k last (lineAt (now (table .entry)) i) (now (tally .entry)) r (now (tally .exit)) ⌝ }
 {
     let c = 4 * i;
@@ -282,7 +284,8 @@ fn check_table(k: usize, total: u64, table: &[usize]) -> Checked
 // label of its backend.
 pub fn write_table(k: usize, total: u64, table: &[usize], out: &mut [u8]) -> Answer
     ensures answer { λ r. ⌜ r ≡ calls.printRead (calls.tableHanded k total (now (table .entry))) tableText (length (now (out .entry))) ⌝ }
-    ensures buffer { λ r. ⌜ now (out .exit) ≡ calls.afterwards (calls.isValue r) (now (out .entry)) (calls.valuesOf (calls.tableHanded k total (now (table .entry))) tableText) ⌝ }
+    ensures buffer { λ r. ⌜ now (out .exit) ≡ calls.afterwards (calls.isValue r) (now (out .entry))
+        (calls.valuesOf (calls.tableHanded k total (now (table .entry))) tableText) ⌝ }
 {
     let checked = check_table(k, total, table);
     if let Checked::Refused(why) = checked {

@@ -22,7 +22,7 @@ ghost use Rattle.packing.specs.Answer.{cells};
 ghost use Rattle.sheets.specs.RuleSheet.{readTable};
 ghost use Rattle.sheets.specs.Inner.Fields.{linesAt, fieldsAt};
 ghost use Rattle.sheets.specs.Inner.Order.{lastOf};
-ghost use Rattle.sheets.specs.Inner.TableReader.{lineOf, LineAs, Passed, Taking, sheetAnswer, Filled, tableOf, tableFrom};
+ghost use Rattle.sheets.specs.Inner.TableReader.{lineOf, LineAs, Passed, Taking, sheetAnswer, Filled, wholeOf, tableFrom};
 
 // The places of a table in numbers.
 pub const CELLS: usize = 4 * numerals::MOST_CAPACITY;
@@ -117,7 +117,8 @@ fn take_line(
 ) -> Placed
     requires { ⌜ (from ≤ to) × (to ≤ length (now text)) ⌝ }
     requires { ⌜ ((before : List RuleOf) × Passed k before last (now tally) (now table)) ⌝ }
-    ensures { λ r. ⌜ Taking k last (fieldsAt (now (text .entry)) from to) (now (tally .entry)) (now (table .entry)) r (now (tally .exit)) (now (table .exit)) ⌝ }
+    ensures { λ r. ⌜ Taking k last (fieldsAt (now (text .entry)) from to)
+        (now (tally .entry)) (now (table .entry)) r (now (tally .exit)) (now (table .exit)) ⌝ }
 {
     let read = read_line(text, from, to, k);
     match read {
@@ -138,7 +139,7 @@ fn take_line(
 // After the lines: no service, then another number of lines than n, then a last line without `*`.
 fn finish(head: TableHead, last: Last) -> SheetLines
     requires { ⌜ last .count ≤ mostCapacity ⌝ }
-    ensures { λ r. ⌜ ((all : List RuleOf) → last ≡ lastOf all → r ≡ sheetAnswer (tableOf head all)) ⌝ }
+    ensures { λ r. ⌜ ((all : List RuleOf) → last ≡ lastOf all → r ≡ sheetAnswer (wholeOf head all)) ⌝ }
 {
     if last.count == 0 {
         return SheetLines::Refused(refused_at(Refusal::NoService, 1));

@@ -48,7 +48,8 @@ fn store(counts: [u64; MOST_BACKENDS], shares: &mut [u64])
 // The shares of the backends with labels 1 to 32 of a service of a rule sheet, into a lent buffer.
 pub fn count_shares(text: &[u8], service: usize, shares: &mut [u64]) -> Answer
     ensures answer { λ r. ⌜ r ≡ countAnswer (now (text .entry)) service (length (now (shares .entry))) ⌝ }
-    ensures buffer { λ r. ⌜ now (shares .exit) ≡ afterwards (isValue r) (now (shares .entry)) (valuesOf (readTable (now (text .entry))) (λ t. sharesOf (t .k) (t .lines) service)) ⌝ }
+    ensures buffer { λ r. ⌜ now (shares .exit) ≡ afterwards (isValue r) (now (shares .entry))
+        (valuesOf (readTable (now (text .entry))) (λ t. sharesOf (t .k) (t .lines) service)) ⌝ }
 {
     let mut lines = [0usize; CELLS];
     let read = crate::rule_sheet::read_sheet_lines(text, &mut lines);

@@ -19,12 +19,13 @@ ghost use Rattle.packing.specs.Answer.{cells};
 ghost use Rattle.sheets.specs.RuleSheet.{readTable};
 ghost use Rattle.sheets.specs.Calls as calls;
 ghost use Rattle.sheets.specs.Inner.TableNumbers.{linesIn, RuleLines};
-ghost use Rattle.sheets.specs.Inner.Churn.{compared};
+ghost use Rattle.sheets.specs.Inner.TableReader.{Found, tableOf};
 
 // The table of a rule sheet, four numbers for each line, into a lent buffer.
 pub fn read_table(text: &[u8], table: &mut [usize]) -> TableRead
     ensures answer { λ r. ⌜ r ≡ calls.readAnswer (now (text .entry)) (length (now (table .entry))) ⌝ }
-    ensures buffer { λ r. ⌜ now (table .exit) ≡ calls.afterwards (calls.isTable r) (now (table .entry)) (calls.valuesOf (readTable (now (text .entry))) (λ t. cells (t .lines))) ⌝ }
+    ensures buffer { λ r. ⌜ now (table .exit) ≡ calls.afterwards (calls.isTable r) (now (table .entry))
+        (calls.valuesOf (readTable (now (text .entry))) (λ t. cells (t .lines))) ⌝ }
 {
     let mut lines = [0usize; CELLS];
     let read = crate::rule_sheet::read_sheet_lines(text, &mut lines);
@@ -94,12 +95,18 @@ pub fn lookup(text: &[u8], service: usize, address: u32) -> Answer
     }
 }
 
-// How many of the k-bit suffixes the two tables give to unlike backends.
-fn count_moved(old: &[usize], n: usize, new: &[usize], m: usize, service: usize, k: usize) -> usize
-    requires { ⌜ (RuleLines (now old) n) × ((RuleLines (now new) m) × (k ≤ mostBits)) ⌝ }
-    ensures { λ r. ⌜ r ≡ calls.moved k (linesIn (now (old .entry)) n) (linesIn (now (new .entry)) m) service ⌝ }
+// How many of the suffixes below `all` the two tables give to unlike backends.
+fn count_moved(
+    old: &[usize],
+    n: usize,
+    new: &[usize],
+    m: usize,
+    service: usize,
+    all: usize,
+) -> usize
+    requires { ⌜ (RuleLines (now old) n) × (RuleLines (now new) m) ⌝ }
+    ensures { λ r. ⌜ r ≡ calls.moved all (linesIn (now (old .entry)) n) (linesIn (now (new .entry)) m) service ⌝ }
 {
-    let all: usize = 1 << k;
     let mut moved = 0;
     let mut s = 0;
     while s < all {
@@ -114,7 +121,8 @@ fn count_moved(old: &[usize], n: usize, new: &[usize], m: usize, service: usize,
 // What churn finds between two tables that were read.
 fn compare(old: &[usize], a: TableHead, new: &[usize], b: TableHead, service: usize) -> Answer
     requires { ⌜ (RuleLines (now old) (a .n)) × ((RuleLines (now new) (b .n)) × (a .k ≤ mostBits)) ⌝ }
-    ensures { λ r. ⌜ r ≡ compared (a .k) (linesIn (now (old .entry)) (a .n)) (b .k) (linesIn (now (new .entry)) (b .n)) service ⌝ }
+    requires { ⌜ (Found (linesIn (now old) (a .n)) service) × (Found (linesIn (now new) (b .n)) service) ⌝ }
+    ensures { λ r. ⌜ r ≡ calls.churnOf (tableOf a (now (old .entry))) (tableOf b (now (new .entry))) service ⌝ }
 {
     if first_backend(old, a.n, service, 0) == 0 {
         return Answer::Refused(Refused {
@@ -133,7 +141,8 @@ fn compare(old: &[usize], a: TableHead, new: &[usize], b: TableHead, service: us
     if a.k != b.k {
         return Answer::Refused(refused_at(Refusal::Depth, 0));
     }
-    Answer::Value(count_moved(old, a.n, new, b.n, service, a.k))
+    let all: usize = 1 << a.k;
+    Answer::Value(count_moved(old, a.n, new, b.n, service, all))
 }
 
 // How many suffixes of a service have another backend in the new rule sheet than in the old.

@@ -7,8 +7,7 @@ use lib.ListN.{length, getD}
 use lib.Seq.{slice}
 use Rattle.numerals.specs.Limits.{mostBits}
 use Rattle.packing.specs.Count.{Line}
-use Rattle.sheets.specs.Reading.{Reading}
-use Rattle.sheets.specs.RuleSheet.{Table, isLine, checkSheet}
+use Rattle.sheets.specs.RuleSheet.{Table, isLine}
 use Rattle.sheets.specs.Calls.{linesFrom}
 
 -- a line by its numbers
@@ -30,7 +29,3 @@ tableIn k total cs n = record { k = k; total = total; lines = linesIn cs n }
 pub record RuleLines (table : List ℕ) (n : ℕ) : Type 0 where
   pub room : 4 * n ≤ length table
   pub each : (i : ℕ) → i < n → isLine mostBits (lineAt table i) ≡ true
-
--- a table of whole lines, checked as its sheet would be
-unfoldable pub checkTable : Table → Reading Table
-checkTable t = checkSheet t 0

@@ -3,14 +3,16 @@ use Prim.Native.Nat.{ℕ, _+_, _*_}
 use mathlib.Core.Path.{_≡_}
 use mathlib.Core.Bool.{true}
 use mathlib.Core.List.{List, [], _∷_, reverse}
+use lib.Dec.{ltb}
 use lib.ListN.{length, take}
 use Rattle.numerals.specs.Limits.{mostCapacity}
-use Rattle.packing.specs.Count.{Line as RuleOf}
+use Rattle.expansion.specs.FirstMatch.{firstMatch}
+use Rattle.packing.specs.Count.{Line as RuleOf, ownRules}
 use Rattle.packing.specs.Answer.{cells}
 use Rattle.sheets.specs.Reading.{Reading, got, refused, then}
-use Rattle.sheets.specs.RuleSheet.{Table, placed, ruleFields, ruleLines, wholeTable, isLine, checkLines}
+use Rattle.sheets.specs.RuleSheet.{Table, countOf, placed, ruleFields, ruleLines, wholeTable, isLine, checkLines}
 use Rattle.sheets.specs.Calls.{refusedAt}
-use Rattle.sheets.specs.Inner.TableNumbers.{line}
+use Rattle.sheets.specs.Inner.TableNumbers.{line, tableIn}
 use Rattle.sheets.specs.Inner.Order.{Behind}
 use Rattle.sheets.specs.declared.order.Last.{Last}
 use Rattle.sheets.specs.declared.order.Placed.{Placed}
@@ -33,12 +35,12 @@ Filled (got t) table = take (4 * length (t .lines)) table ≡ cells (t .lines)
 Filled (refused why line) table = Unit {0}
 
 -- what line 1 and all lines, the last first, come to
-abbrev pub tableOf : TableHead → List RuleOf → Reading Table
-tableOf h all = wholeTable (h .k) (h .n) (h .total) all
+abbrev pub wholeOf : TableHead → List RuleOf → Reading Table
+wholeOf h all = wholeTable (h .k) (h .n) (h .total) all
 
 -- the table of these lines, the last first, and those from a position on
 unfoldable pub tableFrom : TableHead → List RuleOf → List (List ℕ) → Reading Table
-tableFrom h before ms = then (ruleLines (h .k) before ms) (tableOf h)
+tableFrom h before ms = then (ruleLines (h .k) before ms) (wholeOf h)
 
 -- a rule line, behind any others
 abbrev pub lineOf : RuleLine → RuleOf
@@ -65,3 +67,11 @@ TakenAs k before fs (NotPlaced why) tally table = ruleFields k before (length be
 -- the line of these fields, behind any lines that passed
 abbrev pub Taking : ℕ → Last → List (List ℕ) → List ℕ → List ℕ → Placed → List ℕ → List ℕ → Type 0
 Taking k last fs tally table r tally′ table′ = (before : List RuleOf) → Passed k before last tally table → TakenAs k before fs r tally′ table′
+
+-- the table that was read into memory, by what line 1 says
+abbrev pub tableOf : TableHead → List ℕ → Table
+tableOf h table = tableIn (h .k) (h .total) table (h .n)
+
+-- service n has a first match for suffix 0 where it has lines
+abbrev pub Found : List RuleOf → ℕ → Type 0
+Found ls n = ltb 0 (countOf n ls) ≡ ltb 0 (firstMatch (ownRules n ls) 0)

@@ -1,17 +1,17 @@
 -- The writer of the rule sheet in its parts: what each writes, how many bytes that has, and what the check of a table in numbers answers.
 use Prim.Native.Nat.{ℕ, _+_, _<_, min}
 use mathlib.Core.Path.{_≡_}
-use mathlib.Core.List.{List, [], _∷_, _++_}
+use mathlib.Core.List.{List, [], _∷_}
 use lib.ListN.{length}
 use lib.Seq.{sets}
-use Rattle.numerals.specs.Decimal.{width, decimal}
+use Rattle.numerals.specs.Decimal.{width}
 use Rattle.numerals.specs.declared.digits.Written.{Written}
 use Rattle.numerals.specs.declared.digits.Written.the-variants.{End, Refused as NotWritten}
 use Rattle.expansion.specs.declared.call.Checked.{Checked}
 use Rattle.expansion.specs.declared.call.Checked.the-variants.{Sound, Refused}
 use Rattle.packing.specs.Count.{Line}
 use Rattle.sheets.specs.Reading.{Reading, got, refused, then}
-use Rattle.sheets.specs.RuleSheet.{Table, tableWord, checkLines, checkEnd}
+use Rattle.sheets.specs.RuleSheet.{Table, checkLines, checkEnd}
 use Rattle.sheets.specs.Calls.{linesFrom, brokenFrom}
 use Rattle.sheets.specs.Inner.Order.{Behind}
 use Rattle.sheets.specs.declared.order.Last.{Last}
@@ -32,13 +32,12 @@ abbrev pub endAt : Written → ℕ
 endAt (End e) = e
 endAt (NotWritten why) = 0
 
--- line 1
-unfoldable pub headText : ℕ → ℕ → ℕ → List ℕ
-headText k n total = tableWord ++ 32 ∷ decimal k ++ 32 ∷ decimal n ++ 32 ∷ decimal total ++ 10 ∷ []
+-- one byte more than a text may have, and a number of bytes counted up to that
+abbrev pub overLong : ℕ
+overLong = 65537
 
--- a number of bytes, counted up to one more than a text may have
 abbrev pub counted : ℕ → ℕ
-counted n = min n 65537
+counted n = min n overLong
 
 -- how many bytes a rule line has
 abbrev pub lineWidth : ℕ → ℕ → ℕ → ℕ

@@ -24,14 +24,14 @@ returns : tie.Need-returns
 unfolding unless
 returns c =
     let s = c .before .before .before .before .before in
-    λ before v b kept.
-    by-order before _ (omega (arith, ltb-true, c .if2 .taken, kept .tallied (s .args .service) (search needs)))
-    ∙ rw (sym (c .before .before .in-order .ensures before v b (kept .is)), not-true (c .before .before .in-order .result) (c .before .if1 .taken))
+    λ before v b passed.
+    by-order before _ (omega (arith, ltb-true, c .if2 .taken, passed .tallied (s .args .service) (search needs)))
+    ∙ rw (sym (c .before .before .in-order .ensures before v b (passed .is)), not-true (c .before .before .in-order .result) (c .before .if1 .taken))
 
 returns-2 : tie.Need-returns-2
 returns-2 c =
     let s = c .before .before .before .before .before in
-    λ before v b kept. too-many before _ (omega (arith, c .if3 .taken, kept .tallied (s .args .service) (search needs)))
+    λ before v b passed. too-many before _ (omega (arith, c .if3 .taken, passed .tallied (s .args .service) (search needs)))
 
 add-tally : tie.Need-add-tally
 add-tally c = search needs
@@ -60,10 +60,10 @@ returns-3 : tie.Need-returns-3
 unfolding unless
 returns-3 c =
     let a = c .before .before .before .before .before .before .args in
-    λ before v b kept. (
-      by-order before _ (omega (arith, c .before .if3 .left, kept .tallied (a .service) (search needs)))
-          ∙ rw (sym (c .before .before .before .in-order .ensures before v b (kept .is)), sorted (c .before)),
-      behind-next before (line (a .service) (a .len) v b) (a .last) (a .tally .now) kept (search needs),
+    λ before v b passed. (
+      by-order before _ (omega (arith, c .before .if3 .left, passed .tallied (a .service) (search needs)))
+          ∙ rw (sym (c .before .before .before .in-order .ensures before v b (passed .is)), sorted (c .before)),
+      behind-next before (line (a .service) (a .len) v b) (a .last) (a .tally .now) passed (search needs),
     )
 
 pub place-line-spec : {M : Type 1} → statement M

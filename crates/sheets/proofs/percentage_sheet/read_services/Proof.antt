@@ -11,7 +11,7 @@ use Rattle.sheets.specs.Reading.{got, then}
 use Rattle.sheets.specs.PercentageSheet.{Service, serviceLines, volumesOf, weightsOf}
 use Rattle.sheets.specs.Inner.SheetReader.{Holds, Followed, sheetFrom}
 use Rattle.sheets.proofs.Steps.{behind, behind-none, behind-one, behind-all, behind-refused, lines-end}
-use Rattle.sheets.proofs.Memory.{volumes-more, weights-more, holds-none, holds-more, kept-whole}
+use Rattle.sheets.proofs.Memory.{volumes-more, weights-more, holds-none, holds-more, holds-whole}
 use Rattle.sheets.proofs.percentage_sheet.read_services.Statement.{statement}
 use Rattle.sheets.proofs.percentage_sheet.read_services.Tie as tie
 
@@ -145,7 +145,7 @@ returns-2 c =
     let none : lines (a .text .now) (l .start) ≡ [] ∷ [] = rw (ends, slice-empty (length (a .text .now)) (a .text .now)) in
     let all : serviceLines 0 (lines (a .text .now) (a .from)) ≡ got (l .inv .done) =
     l .inv .read ∙ rw (none, lines-end (l .i)) (behind-all (l .inv .done)) in
-    rw (c .finish .ensures, all) (kept-whole (a .head) (l .inv .done) (l .inv .count) (l .inv .holds))
+    rw (c .finish .ensures, all) (holds-whole (a .head) (l .inv .done) (l .inv .count) (l .inv .holds))
 
 pub read-services-spec : {M : Type 1} → statement M
 read-services-spec =

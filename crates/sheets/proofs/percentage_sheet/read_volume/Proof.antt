@@ -10,7 +10,7 @@ use borrow.Author.Needs.{needs}
 use borrow.Author.Tests.{lt-ltb, le-ltb, lt-leb, le-leb, not-true, not-false}
 use Rattle.numerals.specs.Decimal.{number}
 use Rattle.numerals.specs.Text.{split}
-use Rattle.numerals.specs.Limits.{unit}
+use Rattle.numerals.specs.Limits.{mostBackends, mostServices, mostVolume, unit}
 use Rattle.numerals.specs.declared.refusal.Refusal.the-variants.{Unbalanced}
 use Rattle.sheets.specs.Reading.{got, then, same, field, unless, onField}
 use Rattle.sheets.specs.PercentageSheet.{serviceWord, weightFields, sum, serviceFields}
@@ -39,7 +39,7 @@ returns c = simp (word (c .before) ∙ not-true _ (c .if1 .taken))
 
 returns-2 : tie.Need-returns-2
 unfolding serviceFields unless
-returns-2 c = simp (word (c .before .before) ∙ not-false _ (c .before .if1 .left), le-ltb _ 64 (c .if2 .taken))
+returns-2 c = simp (word (c .before .before) ∙ not-false _ (c .before .if1 .left), le-ltb _ mostServices (c .if2 .taken))
 
 count-fields-requires : tie.Need-count-fields-requires
 count-fields-requires c κs = search needs
@@ -48,19 +48,19 @@ returns-3 : tie.Need-returns-3
 unfolding serviceFields unless
 returns-3 c =
     let few : length (fields (c .before .before .before .before .before .before .before .before)) < 3 = omega arith in
-    simp (word (c .before .before .before .before) ∙ not-false _ (c .before .before .before .if1 .left), lt-ltb _ 64 (c .before .before .if2 .left), lt-leb 3 _ few)
+    simp (word (c .before .before .before .before) ∙ not-false _ (c .before .before .before .if1 .left), lt-ltb _ mostServices (c .before .before .if2 .left), lt-leb 3 _ few)
 
 returns-4 : tie.Need-returns-4
 unfolding serviceFields unless
 returns-4 c =
     let fs = fields (c .before .before .before .before .before .before .before .before .before) in
     let some : 3 ≤ length fs = omega arith in
-    let many : 34 < length fs = omega arith in
+    let many : 2 + mostBackends < length fs = omega arith in
     simp (
       word (c .before .before .before .before .before) ∙ not-false _ (c .before .before .before .before .if1 .left),
-      lt-ltb _ 64 (c .before .before .before .if2 .left),
+      lt-ltb _ mostServices (c .before .before .before .if2 .left),
       le-leb 3 _ some,
-      lt-leb _ 34 many,
+      lt-leb _ (2 + mostBackends) many,
     )
 
 -- the line once all tests were passed
@@ -70,7 +70,7 @@ line :
     let fs = fields s in
     let i = s .args .i in
     serviceFields i fs
-    ≡ onField (number 0 10000 (field fs 1)) (i + 2) (λ v.
+    ≡ onField (number 0 mostVolume (field fs 1)) (i + 2) (λ v.
     then (weightFields (i + 2) (drop 2 fs)) (λ ws.
     unless (eqb (sum ws) unit) Unbalanced (i + 2)
     (got (record { volume = v; weights = ws }))))
@@ -78,12 +78,12 @@ unfolding serviceFields unless
 line c =
     let fs = fields (c .before .before .before .before .before .before .before .before .before) in
     let some : 3 ≤ length fs = omega arith in
-    let few : length fs ≤ 34 = omega arith in
+    let few : length fs ≤ 2 + mostBackends = omega arith in
     simp (
       word (c .before .before .before .before .before) ∙ not-false _ (c .before .before .before .before .if1 .left),
-      lt-ltb _ 64 (c .before .before .before .if2 .left),
+      lt-ltb _ mostServices (c .before .before .before .if2 .left),
       le-leb 3 _ some,
-      le-leb _ 34 few,
+      le-leb _ (2 + mostBackends) few,
     )
 
 number-in-requires : tie.Need-number-in-requires

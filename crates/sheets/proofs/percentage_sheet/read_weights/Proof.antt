@@ -6,6 +6,7 @@ use native.Mathlib.Omega.{arith}
 use lib.ListN.{length, take, length-set, length-append}
 use lib.Seq.{slice}
 use borrow.Author.Needs.{needs}
+use Rattle.numerals.specs.Limits.{mostBackends}
 use Rattle.numerals.specs.Percentage.{percentage}
 use Rattle.numerals.specs.Text.{split}
 use Rattle.numerals.specs.declared.digits.Number.the-variants.{Value}
@@ -25,7 +26,7 @@ record Weighing (text : List ℕ) (from to : ℕ) (weights₀ : List ℕ) (at : 
   small : sum ≤ count * 1000000
   long : length weights ≡ length weights₀
   row : take (at + count) weights ≡ take at weights₀ ++ done
-  few : count + length (fieldsLeft 32 start to text) ≤ 32
+  few : count + length (fieldsLeft 32 start to text) ≤ mostBackends
   whole : (line : ℕ) → weightFields line (split 32 (slice from to text)) ≡ behind done (weightFields line (fieldsLeft 32 start to text))
 
 abbrev Inv-loop : tie.InvT-loop

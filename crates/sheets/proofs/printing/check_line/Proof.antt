@@ -56,7 +56,7 @@ is-line-requires : tie.Need-is-line-requires
 is-line-requires c κs = c .before .before .before .before .before .before .pre .0
 
 returns : tie.Need-returns
-returns c = λ before kept broken ls. line-bad _ broken before _ ls (sym (c .before .is-line .ensures) ∙ not-true (c .before .is-line .result) (c .if1 .taken))
+returns c = λ before passed broken ls. line-bad _ broken before _ ls (sym (c .before .is-line .ensures) ∙ not-true (c .before .is-line .result) (c .if1 .taken))
 
 place-line-requires : tie.Need-place-line-requires
 place-line-requires c κs =
@@ -70,8 +70,8 @@ returns-2 : tie.Need-returns-2
 returns-2 c =
     let a = c .before .before .before .before .before .before .before .before .before .before .before .before .args in
     let t = a .table .now in
-    λ before kept.
-    line-placed _ before (lineAt t (a .i)) (c .before .before .place-line .result) (c .before .before .place-line .last .1 .0) (a-line (c .before .before .before .before)) (c .before .before .place-line .ensures before (getD t (4 * a .i + 2) 0) (getD t (4 * a .i + 3) 0) kept)
+    λ before passed.
+    line-placed _ before (lineAt t (a .i)) (c .before .before .place-line .result) (c .before .before .place-line .last .1 .0) (a-line (c .before .before .before .before)) (c .before .before .place-line .ensures before (getD t (4 * a .i + 2) 0) (getD t (4 * a .i + 3) 0) passed)
 
 pub check-line-spec : {M : Type 1} → statement M
 check-line-spec =

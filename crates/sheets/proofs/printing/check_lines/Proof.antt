@@ -27,14 +27,14 @@ loop-holds : tie.Need-loop-holds Inv-loop μ-loop
 loop-holds c = (omega arith, none-checked _ _)
 
 slice-aggregate-check-line : tie.Need-slice-aggregate-check-line Inv-loop μ-loop
-slice-aggregate-check-line c = sym (c .before .before .loop .inv .1 .kept .places)
+slice-aggregate-check-line c = sym (c .before .before .loop .inv .1 .behind .places)
 
 check-line-requires : tie.Need-check-line-requires Inv-loop μ-loop
 check-line-requires c κs =
     let p = c .before .before .before .before .pre in
     let l = c .before .before .loop in
     let few : l .last .count ≤ mostCapacity = omega (arith, few-checked _ _ _ _ _ (l .inv .1), c .before .loop-test .taken, p .1) in
-    (p .0, (omega (arith, c .before .loop-test .taken), (few, l .inv .1 .kept .places)))
+    (p .0, (omega (arith, c .before .loop-test .taken), (few, l .inv .1 .behind .places)))
 
 enum-known-checked : tie.Need-enum-known-checked Inv-loop μ-loop
 enum-known-checked c = search needs
@@ -45,7 +45,7 @@ returns c =
     let l = c .before .before .before .before .before .before .before .loop in
     let C = l .inv .1 in
     let h = c .before .before .before .before .before .before .loop-test .taken in
-    let line = rw (c .before .checked .given .1) at (c .before .before .before .before .check-line .ensures (C .before) (C .kept)) in
+    let line = rw (c .before .checked .given .1) at (c .before .before .before .before .check-line .ensures (C .before) (C .behind)) in
     C .left ∙ ap (checkedFrom _ _ (C .before)) (lines-more t (length t) (le-refl _) (l .i) (omega (arith, h))) ∙ line _ _
 
 enum-known-checked-2 : tie.Need-enum-known-checked-2 Inv-loop μ-loop
@@ -63,12 +63,12 @@ loop-again c =
     let l = c .before .before .before .before .before .before .before .loop in
     let C = l .inv .1 in
     let h = c .before .before .before .before .before .before .loop-test .taken in
-    let line = rw (c .before .checked2 .given .1) at (c .before .before .before .before .check-line .ensures (C .before) (C .kept)) in (
+    let line = rw (c .before .checked2 .given .1) at (c .before .before .before .before .check-line .ensures (C .before) (C .behind)) in (
       omega (arith, h),
       record {
         before = lineAt t (l .i) ∷ C .before;
         passed = omega (arith, C .passed);
-        kept = line .1;
+        behind = line .1;
         left = C .left ∙ ap (checkedFrom _ _ (C .before)) (lines-more t (length t) (le-refl _) (l .i) (omega (arith, h))) ∙ line .0 _ _;
       },
     )
@@ -96,7 +96,7 @@ returns-3 c =
     let C = c .before .before .before .before .loop .inv .1 in
     ends (c .before .before .before)
     ∙ all-sound _ _ (C .before) (omega (arith, count-broken (s .args .table .now), c .before .before .if1 .left))
-    (ap (λ (q : Last). q .len) (sym (C .kept .is)) ∙ c .if2 .taken)
+    (ap (λ (q : Last). q .len) (sym (C .behind .is)) ∙ c .if2 .taken)
 
 returns-4 : tie.Need-returns-4 Inv-loop μ-loop
 returns-4 c =
@@ -104,7 +104,7 @@ returns-4 c =
     let C = c .before .before .before .before .loop .inv .1 in
     ends (c .before .before .before)
     ∙ left-open _ _ (C .before) (omega (arith, count-broken (s .args .table .now), c .before .before .if1 .left))
-    (λ e. c .if2 .left (ap (λ (q : Last). q .len) (C .kept .is) ∙ e))
+    (λ e. c .if2 .left (ap (λ (q : Last). q .len) (C .behind .is) ∙ e))
 
 pub check-lines-spec : {M : Type 1} → statement M
 check-lines-spec =

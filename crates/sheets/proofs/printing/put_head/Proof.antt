@@ -7,7 +7,8 @@ use lib.ListN.{length, length-set, length-append}
 use lib.Seq.{sets}
 use Rattle.numerals.specs.Decimal.{width, decimal}
 use Rattle.numerals.proofs.Decimal.{length-decimal}
-use Rattle.sheets.specs.Inner.Writing.{Wrote, headText}
+use Rattle.sheets.specs.Inner.Writing.{Wrote}
+use Rattle.sheets.specs.RuleSheet.{headText}
 use Rattle.sheets.proofs.TableTexts.{length-head}
 use Rattle.sheets.proofs.Writes.{chain, same-length}
 use Rattle.sheets.proofs.printing.put_head.Statement.{statement}

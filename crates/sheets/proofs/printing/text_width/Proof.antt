@@ -8,14 +8,14 @@ use Rattle.numerals.specs.Decimal.{width}
 use Rattle.numerals.proofs.Decimal.{width-least}
 use Rattle.numerals.proofs.Slice.{slice-length}
 use Rattle.sheets.specs.Calls.{handedText}
-use Rattle.sheets.specs.Inner.Writing.{counted, lineWidth}
+use Rattle.sheets.specs.Inner.Writing.{overLong, counted, lineWidth}
 use Rattle.sheets.proofs.NumbersText.{handedWidth, length-handed, handed-more, handed-none, handed-last}
 use Rattle.sheets.proofs.printing.text_width.Statement.{statement}
 use Rattle.sheets.proofs.printing.text_width.Tie as tie
 
 abbrev Inv-loop : tie.InvT-loop
 Inv-loop k total table to width₀ i₀ width i =
-    (i ≤ to / 4) × (width ≤ 65537) × (counted (width + handedWidth (slice (4 * i) to table)) ≡ counted (length (handedText k total (slice 0 to table))))
+    (i ≤ to / 4) × (width ≤ overLong) × (counted (width + handedWidth (slice (4 * i) to table)) ≡ counted (length (handedText k total (slice 0 to table))))
 
 abbrev μ-loop : tie.MeasureT-loop
 μ-loop k total table to width₀ i₀ width i = to / 4 - i

@@ -88,8 +88,8 @@ slice-aggregate-tally c = search needs
 
 tally-requires : tie.Need-tally-requires
 tally-requires c κs =
-    let told = c .before .before .before .before .before in
-    (has told .ruled, bits told)
+    let read = c .before .before .before .before .before in
+    (has read .ruled, bits read)
 
 store-requires : tie.Need-store-requires
 store-requires c κs = search needs

@@ -6,21 +6,22 @@ use native.Mathlib.Nat.{zero-add}
 use native.Mathlib.Omega.{arith}
 use lib.ListN.{length, take}
 use lib.Seq.{take-all}
+use Rattle.numerals.specs.Limits.{mostBackends}
 use Rattle.expansion.proofs.Listing.{Copied, copied-length, copied-more}
 use Rattle.sheets.proofs.shares.store.Statement.{statement}
 use Rattle.sheets.proofs.shares.store.Tie as tie
 
 abbrev Inv-loop : tie.InvT-loop
-Inv-loop shares₀ counts b₀ shares b = (b ≤ 32) × Copied (λ (x : ℕ). x) counts 0 b shares₀ shares
+Inv-loop shares₀ counts b₀ shares b = (b ≤ mostBackends) × Copied (λ (x : ℕ). x) counts 0 b shares₀ shares
 
 abbrev μ-loop : tie.MeasureT-loop
-μ-loop shares₀ counts b₀ shares b = 32 - b
+μ-loop shares₀ counts b₀ shares b = mostBackends - b
 
 loop-holds : tie.Need-loop-holds Inv-loop μ-loop
 loop-holds c = (omega arith, record { is = refl })
 
 -- there are 32 counts
-long : (c : tie.At-loop Inv-loop μ-loop) → length (c .before .args .t1) ≡ 32
+long : (c : tie.At-loop Inv-loop μ-loop) → length (c .before .args .t1) ≡ mostBackends
 long c = c .before .good .0 .1 .0 .1
 
 mul-shares : tie.Need-mul-shares Inv-loop μ-loop

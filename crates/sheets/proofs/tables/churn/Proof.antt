@@ -2,7 +2,7 @@
 use mathlib.Core.Path.{_≡_, sym, ap, _∙_}
 use native.Mathlib.Omega.{arith}
 use Rattle.sheets.specs.Calls.{churnAnswer}
-use Rattle.sheets.proofs.HeldTables.{TableHeld, table-held, sheet-refused, both-held}
+use Rattle.sheets.proofs.HeldTables.{TableHeld, table-held, sheet-refused, in-memory, found-there}
 use borrow.Author.Needs.{needs}
 use Rattle.sheets.proofs.tables.churn.Statement.{statement}
 use Rattle.sheets.proofs.tables.churn.Tie as tie
@@ -74,11 +74,16 @@ slice-aggregate-compare-2 c = search needs
 compare-requires : tie.Need-compare-requires
 compare-requires c κs =
     let old = old-held (c .before .before .before .before .before .before .before .before) in
+    let new = new-held (c .before .before) in
     let k : c .before .before .before .before .before .before .before .before .before .old-read .given .0 .0 .k ≡ old .table .k = ap (λ x. x .k) (old .head) in
-    (old .ruled, (new-held (c .before .before) .ruled, omega (arith, old .proper .few-bits)))
+    ((old .ruled, (new .ruled, omega (arith, old .proper .few-bits))), (found-there _ _ _ old _, found-there _ _ _ new _))
 
 returns-3 : tie.Need-returns-3
-returns-3 c = c .compare .ensures ∙ both-held _ _ _ _ _ _ (old-held (c .before .before .before .before .before .before .before .before .before)) (new-held (c .before .before .before)) _
+unfolding churnAnswer
+returns-3 c =
+    let old = old-held (c .before .before .before .before .before .before .before .before .before) in
+    let new = new-held (c .before .before .before) in
+    c .compare .ensures ∙ sym (rw (old .read, new .read, ← in-memory _ _ _ old, ← in-memory _ _ _ new))
 
 pub churn-spec : {M : Type 1} → statement M
 churn-spec =

@@ -1,5 +1,5 @@
 -- `tables::count_moved` meets its contract. The invariant: the suffixes below s that moved are counted.
-use Prim.Native.Nat.{ℕ, _+_, _-_, _^_, _≤_}
+use Prim.Native.Nat.{ℕ, _+_, _-_, _≤_}
 use mathlib.Core.Path.{_≡_, sym, ap, _∙_}
 use mathlib.Core.Logic.{⊎-elim}
 use mathlib.Core.Bool.{Bool, true, false, not}
@@ -11,7 +11,6 @@ use borrow.Author.Tests.{eq-eqb, ne-eqb}
 use Rattle.numerals.specs.Sums.{countTo}
 use Rattle.expansion.specs.FirstMatch.{firstMatch}
 use Rattle.packing.specs.Count.{ownRules}
-use Rattle.numerals.proofs.Powers.{shifted}
 use Rattle.numerals.proofs.Sums.{sum-none, count-suc, count-le}
 use Rattle.sheets.specs.Inner.TableNumbers.{linesIn}
 use Rattle.sheets.specs.Calls.{moved}
@@ -22,13 +21,10 @@ abbrev differs : List ℕ → ℕ → List ℕ → ℕ → ℕ → ℕ → Bool
 differs old n new m service v = not (eqb (firstMatch (ownRules service (linesIn old n)) v) (firstMatch (ownRules service (linesIn new m)) v))
 
 abbrev Inv-loop : tie.InvT-loop
-Inv-loop old n new m service k all moved₀ s₀ moved s = (s ≤ all) × (moved ≡ countTo s (differs old n new m service))
+Inv-loop old n new m service all moved₀ s₀ moved s = (s ≤ all) × (moved ≡ countTo s (differs old n new m service))
 
 abbrev μ-loop : tie.MeasureT-loop
-μ-loop old n new m service k all moved₀ s₀ moved s = all - s
-
-shl-all : tie.Need-shl-all Inv-loop μ-loop
-shl-all c = omega (arith, c .before .before .pre .1 .1)
+μ-loop old n new m service all moved₀ s₀ moved s = all - s
 
 loop-holds : tie.Need-loop-holds Inv-loop μ-loop
 unfolding countTo
@@ -45,7 +41,7 @@ first-backend-requires : tie.Need-first-backend-requires Inv-loop μ-loop
 first-backend-requires c κs = c .before .before .before .before .pre .0
 
 first-backend-requires-2 : tie.Need-first-backend-requires-2 Inv-loop μ-loop
-first-backend-requires-2 c κs = c .before .before .before .before .before .pre .1 .0
+first-backend-requires-2 c κs = c .before .before .before .before .before .pre .1
 
 add-moved : tie.Need-add-moved Inv-loop μ-loop
 add-moved c =
@@ -74,9 +70,7 @@ loop-again c =
 returns : tie.Need-returns Inv-loop μ-loop
 unfolding moved
 returns c =
-    let start = c .before .before .before .before in
-    let all = shifted (start .args .k) (start .pre .1 .1) in
-    let end : c .before .loop .s ≡ 2 ^ (start .args .k) = omega (arith, all) in
+    let end : c .before .loop .s ≡ c .before .before .before .before .args .all = omega arith in
     c .before .loop .inv .1 ∙ rw end
 
 pub count-moved-spec : {M : Type 1} → statement M
@@ -85,7 +79,6 @@ count-moved-spec =
     (tie.spec
     Inv-loop
     μ-loop
-    shl-all
     loop-holds
     first-backend-requires
     first-backend-requires-2
