@@ -21,7 +21,7 @@ byte-then f more v = go (byte f) refl
     go (Value b) e h = (b, only-text 0 255 b f e .high, h)
     go Bad e h = no-value v h
 
-quad-below : (v : ℕ) (fs : List (List ℕ)) → quad fs ≡ Value v → v < 4294967296
+quad-below : (v : ℕ) (fs : List (List ℕ)) → quad fs ≡ Value v → v < (addressLimit + 1)
 unfolding quad
 quad-below v [] h = no-value v h
 quad-below v (a ∷ []) h = no-value v h
@@ -43,6 +43,6 @@ quad-capped fs = go (quad fs) refl
   where
     go : (n : Number) → quad fs ≡ n → capped addressLimit n ≡ n
     go (Value v) e =
-        let is : min v 4294967296 ≡ v = omega (arith, quad-below v fs e) in
+        let is : min v (addressLimit + 1) ≡ v = omega (arith, quad-below v fs e) in
         ap Value is
     go Bad e = refl

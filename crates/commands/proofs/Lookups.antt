@@ -72,23 +72,23 @@ service-capped : (text : List ℕ) (n a : ℕ) → lookupText text (min n (mostS
 unfolding lookupText
 service-capped text n a = ap (λ (l : Answer). lookedText l a) (lookup-capped text n a)
 
-address-capped : (text : List ℕ) (n a : ℕ) → lookupText text n (min a 4294967296) ≡ lookupText text n a
+address-capped : (text : List ℕ) (n a : ℕ) → lookupText text n (min a (addressLimit + 1)) ≡ lookupText text n a
 unfolding lookupText lookedText
 address-capped text n a =
     by-less addressLimit a
-    (λ h. go h (alike text n (min a 4294967296) a))
+    (λ h. go h (alike text n (min a (addressLimit + 1)) a))
     (λ h.
-    let is : min a 4294967296 ≡ a = omega arith in
+    let is : min a (addressLimit + 1) ≡ a = omega arith in
     ap (lookupText text n) is)
   where
-    go : addressLimit < a → {x y : Answer} → Alike x y → lookedText x (min a 4294967296) ≡ lookedText y a
+    go : addressLimit < a → {x y : Answer} → Alike x y → lookedText x (min a (addressLimit + 1)) ≡ lookedText y a
     go h refusals = refl
     go h backends =
-        let over : addressLimit < min a 4294967296 = omega arith in
-        rw (lt-leb a addressLimit h, lt-leb (min a 4294967296) addressLimit over)
+        let over : addressLimit < min a (addressLimit + 1) = omega arith in
+        rw (lt-leb a addressLimit h, lt-leb (min a (addressLimit + 1)) addressLimit over)
 
-text-capped : (text : List ℕ) (n a : ℕ) → lookupText text (min n (mostServices + 1)) (min a 4294967296) ≡ lookupText text n a
-text-capped text n a = service-capped text n (min a 4294967296) ∙ address-capped text n a
+text-capped : (text : List ℕ) (n a : ℕ) → lookupText text (min n (mostServices + 1)) (min a (addressLimit + 1)) ≡ lookupText text n a
+text-capped text n a = service-capped text n (min a (addressLimit + 1)) ∙ address-capped text n a
 
 -- the words of the call
 module _ (table service address : List ℕ) where

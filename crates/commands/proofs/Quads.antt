@@ -12,7 +12,7 @@ use Rattle.numerals.specs.declared.digits.Number.{Number}
 use Rattle.numerals.specs.declared.digits.Number.the-variants.{Value, Bad}
 use Rattle.numerals.proofs.Decimal.{only-text}
 use Rattle.sheets.proofs.FieldParts.{fieldsLeft, left-all, left-none, left-more}
-use Rattle.commands.specs.Address.{byte, quad}
+use Rattle.commands.specs.Address.{addressLimit, byte, quad}
 
 -- what v is once the bytes of these fields are put behind it
 unfoldable pub bytesFrom : ℕ → List (List ℕ) → Number
@@ -47,7 +47,7 @@ pub record ReadTo (s : List ℕ) (v at : ℕ) : Type 0 where
   pub few : length (rest s at) ≤ 4
   pub small : v < 256 ^ (4 - length (rest s at))
 
-pub read-below : {s : List ℕ} {v at : ℕ} → ReadTo s v at → v < 4294967296
+pub read-below : {s : List ℕ} {v at : ℕ} → ReadTo s v at → v < (addressLimit + 1)
 read-below {s} {v} {at} q =
     lt-of-lt-of-le (q .small) (pow-le-pow-right {n = 256} (omega arith) {i = 4 - length (rest s at)} {j = 4} (omega arith))
 

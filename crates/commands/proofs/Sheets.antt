@@ -18,39 +18,39 @@ use Rattle.sheets.proofs.DemandThree.{demand-three}
 use Rattle.commands.specs.Refused.{refusedText}
 use Rattle.commands.specs.Split.{splitOf, splitPrints}
 
-sheet-fits : (text : List ℕ) (S : Sheet) → readSheet text ≡ got S → length (sheetText S) ≤ 65536
-unfolding readTable tableLine firstLine textLimit
+sheet-fits : (text : List ℕ) (S : Sheet) → readSheet text ≡ got S → length (sheetText S) ≤ textLimit
+unfolding readTable tableLine firstLine
 sheet-fits text S e =
     let line = then-got (tableLine (sheetText S)) _ (demand-three text S e .table-read) in
-    leb-true (length (sheetText S)) 65536 (unless-got _ _ _ _ (line .1) .0)
+    leb-true (length (sheetText S)) textLimit (unless-got _ _ _ _ (line .1) .0)
 
 module _ (text : List ℕ) where
-  prints : (S : Sheet) → readSheet text ≡ got S → printText (sheetText S) 65536 ≡ Value (length (sheetText S))
+  prints : (S : Sheet) → readSheet text ≡ got S → printText (sheetText S) textLimit ≡ Value (length (sheetText S))
   unfolding printText
-  prints S e = rw (le-leb (length (sheetText S)) 65536 (sheet-fits text S e))
+  prints S e = rw (le-leb (length (sheetText S)) textLimit (sheet-fits text S e))
 
   -- the rule sheet was printed
   pub ended :
-      (n : ℕ) → Value n ≡ printRead (readSheet text) sheetText 65536
+      (n : ℕ) → Value n ≡ printRead (readSheet text) sheetText textLimit
       → (n ≡ length (splitPrints text)) × (valuesOf (readSheet text) sheetText ≡ splitPrints text)
   unfolding splitPrints splitOf
   ended n = go (readSheet text) refl
     where
       go :
-          (r : Reading Sheet) → readSheet text ≡ r → Value n ≡ printRead r sheetText 65536
+          (r : Reading Sheet) → readSheet text ≡ r → Value n ≡ printRead r sheetText textLimit
           → (n ≡ length (splitOf r)) × (valuesOf r sheetText ≡ splitOf r)
       go (got S) e h = (cc (prints S e), refl)
       go (refused why line) e h = absurd (let z : _≡_ {A = ℕ} 0 1 = cc in omega arith)
 
   -- it was refused
   pub not-printed :
-      (r : answer.Refused) → Refused r ≡ printRead (readSheet text) sheetText 65536
+      (r : answer.Refused) → Refused r ≡ printRead (readSheet text) sheetText textLimit
       → (splitPrints text ≡ refusedText r) × ((S : Sheet) → readSheet text ≡ got S → ⊥)
   unfolding splitPrints splitOf
   not-printed w = go (readSheet text) refl
     where
       go :
-          (r : Reading Sheet) → readSheet text ≡ r → Refused w ≡ printRead r sheetText 65536
+          (r : Reading Sheet) → readSheet text ≡ r → Refused w ≡ printRead r sheetText textLimit
           → (splitOf r ≡ refusedText w) × ((S : Sheet) → r ≡ got S → ⊥)
       go (got S) e h = absurd (let z : _≡_ {A = ℕ} 0 1 = cc (prints S e) in omega arith)
       go (refused why line) e h = (cc, λ S g. not-got g)

@@ -31,7 +31,7 @@ fn read_quad(s: &[u8]) -> Number
 pub fn read_address(s: &[u8]) -> Number
     ensures { λ r. ⌜ r ≡ capped addressLimit (addressOf (now (s .entry))) ⌝ }
 {
-    let read = crate::numeral::read_numeral(s, 4294967295);
+    let read = crate::numeral::read_numeral(s, crate::numeral::MOST_ADDRESS);
     match read {
         Number::Value(v) => Number::Value(v),
         Number::Bad => read_quad(s),

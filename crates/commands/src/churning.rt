@@ -27,7 +27,7 @@ pub fn churn(old: &[u8], new: &[u8], service: &[u8], out: &mut [u8; crate::ROOM]
     ensures answer { λ r. ⌜ r ≡ outcome (churnSays (now (old .entry)) (now (new .entry)) (now (service .entry))) ⌝ }
     ensures buffer { λ _. ⌜ now (out .exit) ≡ filled (churnSays (now (old .entry)) (now (new .entry)) (now (service .entry))) (now (out .entry)) ⌝ }
 {
-    let number = crate::numeral::read_numeral(service, 64);
+    let number = crate::numeral::read_numeral(service, crate::numeral::MOST_SERVICE);
     let Number::Value(n) = number else {
         return Outcome::NoNumber(3);
     };

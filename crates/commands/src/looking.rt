@@ -1,5 +1,6 @@
 // lookup TABLE SERVICE ADDRESS
 use crate::answer::Outcome;
+use crate::numeral::MOST_ADDRESS;
 use numerals::Number;
 use numerals::Refusal;
 use sheets::Answer;
@@ -11,16 +12,19 @@ ghost use Rattle.sheets.specs.Inner.Writing.{Wrote};
 ghost use Rattle.commands.specs.Said.{outcome, filled};
 ghost use Rattle.commands.specs.Lookup.{lookupText, lookupSays};
 
+// The addresses of 32 bits.
+const ADDRESSES: u64 = MOST_ADDRESS + 1;
+
 // The backend of an address, or a refusal; an address above 32 bits is refused once the sheet is read and has the service.
 fn look(table: &[u8], service: u64, address: u64, out: &mut [u8]) -> usize
     requires { ⌜ 50 ≤ length (now out) ⌝ }
     ensures { λ r. ⌜ Wrote (now (out .entry)) (now (out .exit)) 0 r (lookupText (now (table .entry)) service address) ⌝ }
 {
-    let looked = sheets::lookup(table, service as usize, (address % 4294967296) as u32);
+    let looked = sheets::lookup(table, service as usize, (address % ADDRESSES) as u32);
     match looked {
         Answer::Refused(r) => crate::writing::put_refused(out, r),
         Answer::Value(b) => {
-            if 4294967295 < address {
+            if MOST_ADDRESS < address {
                 let r = Refused {
                     why: Refusal::BadField,
                     line: 0,
@@ -38,7 +42,7 @@ pub fn lookup(table: &[u8], service: &[u8], address: &[u8], out: &mut [u8; crate
     ensures answer { λ r. ⌜ r ≡ outcome (lookupSays (now (table .entry)) (now (service .entry)) (now (address .entry))) ⌝ }
     ensures buffer { λ _. ⌜ now (out .exit) ≡ filled (lookupSays (now (table .entry)) (now (service .entry)) (now (address .entry))) (now (out .entry)) ⌝ }
 {
-    let number = crate::numeral::read_numeral(service, 64);
+    let number = crate::numeral::read_numeral(service, crate::numeral::MOST_SERVICE);
     let Number::Value(n) = number else {
         return Outcome::NoNumber(2);
     };

@@ -3,8 +3,14 @@ use numerals::Number;
 ghost use mathlib.Core.Path.{_≡_};
 ghost use Prim.Native.Nat.{_≤_};
 ghost use Rattle.numerals.specs.Decimal.{isNumeral};
+ghost use Rattle.commands.specs.Address.{addressLimit};
 ghost use Rattle.commands.specs.Numeral.{numeral};
 ghost use Rattle.commands.specs.Inner.Numeral.{capped};
+
+// The largest number of a service.
+pub const MOST_SERVICE: u64 = numerals::MOST_SERVICES as u64;
+// The largest address of 32 bits.
+pub const MOST_ADDRESS: u64 = u32::MAX as u64;
 
 // Whether a text is a numeral, however long.
 pub fn is_numeral(s: &[u8]) -> bool
@@ -33,7 +39,7 @@ pub fn is_numeral(s: &[u8]) -> bool
 
 // The number that a numeral is, or one more than `most` where it is above that, so that nothing wraps.
 pub fn read_numeral(s: &[u8], most: u64) -> Number
-    requires { ⌜ most ≤ 4294967295 ⌝ }
+    requires { ⌜ most ≤ addressLimit ⌝ }
     ensures { λ r. ⌜ r ≡ capped most (numeral (now (s .entry))) ⌝ }
 {
     if !is_numeral(s) {

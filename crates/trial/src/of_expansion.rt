@@ -19,12 +19,12 @@ fn ending(list: Record) {
 // Rule i, and the stair after it.
 fn show_rule(
     i: usize,
-    lens: &[usize; 32],
-    values: &[usize; 32],
-    backends: &[usize; 32],
-    stairs: &[u64; 32],
+    lens: &[usize; numerals::MOST_RULES],
+    values: &[usize; numerals::MOST_RULES],
+    backends: &[usize; numerals::MOST_RULES],
+    stairs: &[u64; numerals::MOST_RULES],
 ) {
-    if i < 32 {
+    if i < numerals::MOST_RULES {
         print::bytes(b" ");
         print::suffix(lens[i], values[i]);
         print::bytes(b">");
@@ -36,10 +36,10 @@ fn show_rule(
 
 fn show_rules(
     n: usize,
-    lens: &[usize; 32],
-    values: &[usize; 32],
-    backends: &[usize; 32],
-    stairs: &[u64; 32],
+    lens: &[usize; numerals::MOST_RULES],
+    values: &[usize; numerals::MOST_RULES],
+    backends: &[usize; numerals::MOST_RULES],
+    stairs: &[u64; numerals::MOST_RULES],
 ) {
     for i in 0..n {
         show_rule(i, lens, values, backends, stairs);
@@ -54,10 +54,10 @@ fn expand(h: Header, text: &[u8]) {
 }
 
 fn expand_weights(h: Header, weights: &[u64]) {
-    let mut lens = [0usize; 32];
-    let mut values = [0usize; 32];
-    let mut backends = [0usize; 32];
-    let mut stairs = [0u64; 32];
+    let mut lens = [0usize; numerals::MOST_RULES];
+    let mut values = [0usize; numerals::MOST_RULES];
+    let mut backends = [0usize; numerals::MOST_RULES];
+    let mut stairs = [0u64; numerals::MOST_RULES];
     let made = expansion::expand(
         h.first as usize,
         h.second,

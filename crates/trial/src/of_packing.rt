@@ -67,11 +67,11 @@ fn show_grants(n: usize, figures: &[usize; 240]) {
 }
 
 // Line i of the table, `service suffix backend`, behind a comma but the first.
-fn show_line(i: usize, table: &[usize; 8192]) {
+fn show_line(i: usize, table: &[usize; crate::shown::CELLS]) {
     if 0 < i {
         print::bytes(b",");
     }
-    if i < 2048 {
+    if i < numerals::MOST_CAPACITY {
         print::number(table[4 * i] as u64);
         print::bytes(b" ");
         print::suffix(table[4 * i + 1], table[4 * i + 2]);
@@ -80,13 +80,13 @@ fn show_line(i: usize, table: &[usize; 8192]) {
     }
 }
 
-fn show_lines(n: usize, table: &[usize; 8192]) {
+fn show_lines(n: usize, table: &[usize; crate::shown::CELLS]) {
     for i in 0..n {
         show_line(i, table);
     }
 }
 
-fn show(packed: Packed, n: usize, figures: &[usize; 240], table: &[usize; 8192]) {
+fn show(packed: Packed, n: usize, figures: &[usize; 240], table: &[usize; crate::shown::CELLS]) {
     print::bytes(b"total");
     print::field(packed.total);
     print::bytes(b" grants");
@@ -115,7 +115,7 @@ fn pack_services(
     weights: &[u64; 4096],
 ) {
     let mut figures = [0usize; 240];
-    let mut table = [0usize; 8192];
+    let mut table = [0usize; crate::shown::CELLS];
     let packed = packing::pack(
         h.first as usize,
         h.second,

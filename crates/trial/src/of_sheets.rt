@@ -58,7 +58,7 @@ fn written(back: bool) {
 }
 
 // Whether the table that was read from a text is written to the same bytes again.
-fn write_back(text: &[u8], read: TableRecord, table: &[usize; 8192]) {
+fn write_back(text: &[u8], read: TableRecord, table: &[usize; crate::shown::CELLS]) {
     let mut array = [0u8; numerals::TEXT_LIMIT];
     let space: &mut [u8] = &mut array;
     let n = read.rules;
@@ -74,7 +74,7 @@ fn write_back(text: &[u8], read: TableRecord, table: &[usize; 8192]) {
 }
 
 fn read(text: &[u8]) {
-    let mut table = [0usize; 8192];
+    let mut table = [0usize; crate::shown::CELLS];
     match sheets::read_table(text, &mut table) {
         TableRead::Made(made) => write_back(text, made, &table),
         TableRead::Refused(r) => shown::refused(r),
@@ -83,7 +83,7 @@ fn read(text: &[u8]) {
 
 fn lookup(h: Header, text: &[u8]) {
     let address = h.second;
-    if 4294967295 < address {
+    if (u32::MAX as u64) < address {
         return;
     }
     match sheets::lookup(text, h.first as usize, address as u32) {

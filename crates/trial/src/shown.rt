@@ -4,6 +4,9 @@ use sheets::Refused;
 use vectors::print;
 use vectors::walk;
 
+// The numbers of the largest table, four for each line.
+pub const CELLS: usize = 4 * numerals::MOST_CAPACITY;
+
 // The refusal of a sheet: its number and its line.
 pub fn refused(r: Refused) {
     let why = r.why;

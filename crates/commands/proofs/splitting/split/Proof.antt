@@ -3,6 +3,7 @@ use mathlib.Core.Path.{_≡_, sym, ap, _∙_}
 use lib.ListN.{length}
 use lib.Seq.{sets}
 use borrow.Author.Needs.{needs}
+use Rattle.numerals.specs.Limits.{textLimit}
 use Rattle.sheets.specs.PercentageSheet.{readSheet}
 use Rattle.sheets.specs.Calls.{printRead, sheetText}
 use Rattle.commands.proofs.Texts.{whole}
@@ -25,10 +26,11 @@ put-refused-requires c κs = search needs
 -- what was answered, at the buffer's length
 answered :
     (c : tie.After-split-sheet)
-    → c .split-sheet .result ≡ printRead (readSheet (c .before .before .before .args .sheet .now)) sheetText 65536
+    → c .split-sheet .result ≡ printRead (readSheet (c .before .before .before .args .sheet .now)) sheetText textLimit
+unfolding textLimit
 answered c =
     let a = c .before .before .before .args in
-    let long : length (a .out .now) ≡ 65536 = search needs in
+    let long : length (a .out .now) ≡ textLimit = search needs in
     c .split-sheet .ensures .0 ∙ ap (printRead (readSheet (a .sheet .now)) sheetText) long
 
 returns : tie.Need-returns

@@ -68,7 +68,7 @@ returns : tie.Need-returns
 unfolding then unless unit
 returns c =
     let w = weighed (c .before) in
-    opened (c .before .before .before .before .before .before .before .before .before) .rest ∙ rw (w .read _, ne-eqb _ 1000000 (λ e. c .if1 .taken (sym (w .total) ∙ e)))
+    opened (c .before .before .before .before .before .before .before .before .before) .rest ∙ rw (w .read _, ne-eqb _ unit (λ e. c .if1 .taken (sym (w .total) ∙ e)))
 
 mul-volumes : tie.Need-mul-volumes
 mul-volumes c = omega (arith, opened (c .before .before .before .before .before .before .before .before .before) .place)
@@ -102,7 +102,7 @@ returns-4 c =
     let a = c .before .before .before .before .before .before .before .before .before .before .before .before .before .before .before .before .args in
     record {
       service = record { volume = c .before .before .before .before .before .before .before .before .before .before .opened2 .given .0 .0; weights = w .weights };
-      read = o .rest ∙ rw (w .read _, eq-eqb _ 1000000 (w .total ∙ c .if1 .left));
+      read = o .rest ∙ rw (w .read _, eq-eqb _ unit (w .total ∙ c .if1 .left));
       stored =
           record {
             place = o .place;

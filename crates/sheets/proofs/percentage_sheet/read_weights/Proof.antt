@@ -1,12 +1,12 @@
 -- `percentage_sheet::read_weights` meets its contract. The invariant: the weights read so far stand in the row, and before what is read from `start` on.
-use Prim.Native.Nat.{ℕ, _+_, _*_, _≤_}
+use Prim.Native.Nat.{_^_, ℕ, _+_, _*_, _≤_}
 use mathlib.Core.Path.{_≡_, refl, sym, ap, _∙_}
 use mathlib.Core.List.{List, [], _∷_, _++_, append-nil}
 use native.Mathlib.Omega.{arith}
 use lib.ListN.{length, take, length-set, length-append}
 use lib.Seq.{slice}
 use borrow.Author.Needs.{needs}
-use Rattle.numerals.specs.Limits.{mostBackends}
+use Rattle.numerals.specs.Limits.{decimals, mostBackends}
 use Rattle.numerals.specs.Percentage.{percentage}
 use Rattle.numerals.specs.Text.{split}
 use Rattle.numerals.specs.declared.digits.Number.the-variants.{Value}
@@ -23,7 +23,7 @@ record Weighing (text : List ℕ) (from to : ℕ) (weights₀ : List ℕ) (at : 
   done : List ℕ
   size : length done ≡ count
   total : sheet.sum done ≡ sum
-  small : sum ≤ count * 1000000
+  small : sum ≤ count * (100 * 10 ^ decimals)
   long : length weights ≡ length weights₀
   row : take (at + count) weights ≡ take at weights₀ ++ done
   few : count + length (fieldsLeft 32 start to text) ≤ mostBackends
