@@ -52,10 +52,7 @@ module _ {M : Type 1} (𝓤 : URA M) (H : Heap 𝓤) (A : Atoms 𝓤) where
   Changed = tripleOf 𝓤 H A signature (closing 𝓤 H A ended clauses)
 
   module _ (e : Backend) (lost gained : ℕ) where
-    abbrev Arg : Type 0
-    Arg = Backend × (ℕ × (ℕ × Unit {0}))
-
-    abbrev a : Arg
+    abbrev a : Backend × (ℕ × (ℕ × Unit {0}))
     a = (e, (lost, (gained, tt)))
 
     -- what the triple binds outside
@@ -68,7 +65,7 @@ module _ {M : Type 1} (𝓤 : URA M) (H : Heap 𝓤) (A : Atoms 𝓤) where
         qed W [] ∵ says ! p $ nothing ! $ number ! gained m $ number ! lost l $
         owned ! Entry (Is Entry) (LL.makes B.the-type B′.the-plain 𝓤 H A) e _ g $ fjoin ! $ nothing ! $ done !
 
-    -- the answer r, and what is said of it
+    -- what is said of the answer
     abbrev told : Backend → SProp 𝓤
     told = ensured 𝓤 H A ended clauses tt a tt
 

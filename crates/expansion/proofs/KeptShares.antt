@@ -15,7 +15,7 @@ use Rattle.expansion.specs.Imbalance.{backends, label, weight, has, want
 use Rattle.expansion.specs.Steps.{isWithin, reduction, reductionAt, term, isNoGain, Frame}
 use Rattle.expansion.specs.Inner.Sound.{Sound}
 use Rattle.numerals.specs.Limits.{mostBits, mostSuffixes, unit}
-use Rattle.expansion.specs.Inner.Ledger.{over, under, Small, noBackend, entryAt, errorAt, entryOf, changedBy, movedOf, Changeable, largestOf, Keeps}
+use Rattle.expansion.specs.Inner.Ledger.{over, under, Small, noBackend, entryAt, errorAt, entryOf, changedBy, movedOf, Changeable, Movable, largestOf, Keeps}
 use Rattle.expansion.specs.Inner.Terms.{nextFor, nextOf}
 use Rattle.expansion.specs.declared.rule.Rule.{Rule}
 use Rattle.expansion.specs.declared.rule.Ended.the-variants.{Within, NoGain}
@@ -135,8 +135,7 @@ module _ (F : Frame) (rs : List Rule) (L : Ledger) (K : Keeps (F .targets) rs L)
 module _ (F : Frame) (rs rs′ : List Rule) (L M : Ledger) (K : Keeps (F .targets) rs L) (same : F .targets .unit ≡ unit) (g r c : ℕ) (apart : g ≢ r)
     (gave : share (F .targets .k) rs′ (label (F .targets) g) + c ≡ share (F .targets .k) rs (label (F .targets) g)) (got : share (F .targets .k) rs′ (label (F .targets) r) ≡ share (F .targets .k) rs (label (F .targets) r) + c)
     (other : (b : ℕ) → b < backends (F .targets) → b ≢ g → b ≢ r → share (F .targets .k) rs′ (label (F .targets) b) ≡ share (F .targets .k) rs (label (F .targets) b))
-    (from : g < length (L .at)) (to : r < length (L .at))
-    (is : M .at ≡ movedOf (L .at) g r c) where
+    (can : Movable (L .at) g r c) (is : M .at ≡ movedOf (L .at) g r c) where
   abbrev entry : List Rule → ℕ → Backend
   entry xs b = entryOf unit (F .targets .k) (weight (F .targets) b) (share (F .targets .k) xs (label (F .targets) b))
 
@@ -152,7 +151,7 @@ module _ (F : Frame) (rs rs′ : List Rule) (L M : Ledger) (K : Keeps (F .target
   at-r : r < backends (F .targets) → entryAt M r ≡ entry rs′ r
   at-r l =
       now r
-      ∙ getD-set-same mid r (changedBy (entryAt L r) 0 c) noBackend (omega (arith, length-set (L .at) g (changedBy (entryAt L g) c 0)))
+      ∙ getD-set-same mid r (changedBy (entryAt L r) 0 c) noBackend (omega (arith, can .receiver-in, length-set (L .at) g (changedBy (entryAt L g) c 0)))
       ∙ ap (λ (x : Backend). changedBy x 0 c) (before r l)
       ∙ entry-change (F .targets .k) (weight (F .targets) r) (share (F .targets .k) rs (label (F .targets) r)) 0 c (omega arith)
       ∙ ap (entryOf unit (F .targets .k) (weight (F .targets) r)) (omega arith)
@@ -161,7 +160,7 @@ module _ (F : Frame) (rs rs′ : List Rule) (L M : Ledger) (K : Keeps (F .target
   at-g l =
       now g
       ∙ getD-set-other mid r g (changedBy (entryAt L r) 0 c) noBackend apart
-      ∙ getD-set-same (L .at) g (changedBy (entryAt L g) c 0) noBackend from
+      ∙ getD-set-same (L .at) g (changedBy (entryAt L g) c 0) noBackend (can .giver-in)
       ∙ ap (λ (x : Backend). changedBy x c 0) (before g l)
       ∙ entry-change (F .targets .k) (weight (F .targets) g) (share (F .targets .k) rs (label (F .targets) g)) c 0 (omega arith)
       ∙ ap (entryOf unit (F .targets .k) (weight (F .targets) g)) (omega arith)

@@ -130,8 +130,7 @@ fn shift(ledger: &mut [Backend], giver: usize, receiver: usize, count: u64)
 
 // The ledger after `count` suffixes went from the giver to the receiver. Whoever calls this needs no walk.
 pub fn moved(ledger: Ledger, giver: usize, receiver: usize, count: u64) -> Ledger
-    requires { ⌜ (giver < mostBackends) × (receiver < mostBackends) ⌝ }
-    requires { ⌜ kept.Changeable (kept.entryAt ledger giver) count 0 × kept.Changeable (kept.entryAt ledger receiver) 0 count ⌝ }
+    requires { ⌜ kept.Movable (ledger .at) giver receiver count ⌝ }
     ensures { λ r. ⌜ r .at ≡ kept.movedOf (ledger .at) giver receiver count ⌝ }
 {
     let mut at = ledger.at;

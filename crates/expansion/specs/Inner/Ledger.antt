@@ -56,7 +56,7 @@ unfoldable pub changedBy : Backend → ℕ → ℕ → Backend
 changedBy b lost gained =
     record { weight = b .weight; share = b .share - lost + gained; error = b .error -ℤ pos (lost * unit) +ℤ pos (gained * unit) }
 
--- it can: it has what it loses, and no number gets large
+-- it can change so: it has what it loses, and no number gets large
 pub record Changeable (b : Backend) (lost gained : ℕ) : Type 0 where
   pub held : lost ≤ b .share
   pub bounded : b .share ≤ mostSuffixes
@@ -68,7 +68,7 @@ abbrev pub movedOf : List Backend → ℕ → ℕ → ℕ → List Backend
 movedOf es giver receiver c =
     set (set es giver (changedBy (getD es giver noBackend) c 0)) receiver (changedBy (getD es receiver noBackend) 0 c)
 
--- they can go
+-- they can go: both backends are in the ledger, and can change so
 pub record Movable (es : List Backend) (giver receiver c : ℕ) : Type 0 where
   pub giver-in : giver < length es
   pub receiver-in : receiver < length es

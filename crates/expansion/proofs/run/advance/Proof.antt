@@ -80,10 +80,7 @@ shl-moved : tie.Need-shl-moved
 shl-moved c = omega (arith, low (begun c))
 
 moved-requires : tie.Need-moved-requires
-moved-requires c κs =
-    let s = begun c in
-    let R = ready s in
-    rw (shifted (s .args .m .index) (low s)) ((omega (arith, R .giver, fits s .few), omega (arith, R .receiver, fits s .few)), (R .gives, R .takes))
+moved-requires c κs = let s = begun c in rw (shifted (s .args .m .index) (low s)) (ready s .movable)
 
 -- the ledger afterwards
 moved-at : (c : tie.After-moved) → let a = begun (c .before) .args in c .moved .result .at ≡ movedBy (a .state .ledger) (a .m)
