@@ -15,7 +15,7 @@ use Rattle.expansion.specs.Imbalance.{backends, label, weight, has, want
 use Rattle.expansion.specs.Steps.{isWithin, reduction, reductionAt, term, isNoGain, Frame}
 use Rattle.expansion.specs.Inner.Sound.{Sound}
 use Rattle.numerals.specs.Limits.{mostBits, mostSuffixes, unit}
-use Rattle.expansion.specs.Inner.Ledger.{over, under, Small, noBackend, entryAt, errorAt, entryOf, lessOf, moreOf, largestOf, Keeps}
+use Rattle.expansion.specs.Inner.Ledger.{over, under, Small, noBackend, entryAt, errorAt, entryOf, changedBy, movedOf, Changeable, Movable, largestOf, Keeps}
 use Rattle.expansion.specs.Inner.Terms.{nextFor, nextOf}
 use Rattle.expansion.specs.declared.rule.Rule.{Rule}
 use Rattle.expansion.specs.declared.rule.Ended.the-variants.{Within, NoGain}
@@ -30,7 +30,7 @@ use Rattle.numerals.proofs.Searches.{argmax-ext}
 use Rattle.expansion.proofs.Balance.{giver-lt, receiver-lt}
 use Rattle.expansion.proofs.Within.{within-is}
 use Rattle.expansion.proofs.Bounds.{share-le, excess-bound, shortfall-bound}
-use Rattle.expansion.proofs.Signed.{over-sub, under-sub, mag-sides, wants-few, entry-less, entry-more}
+use Rattle.expansion.proofs.Signed.{over-sub, under-sub, mag-sides, wants-few, entry-change}
 
 -- the move of a turn
 unfoldable pub moveOf : Frame → List Rule → Move
@@ -100,6 +100,11 @@ module _ (F : Frame) (rs : List Rule) (L : Ledger) (K : Keeps (F .targets) rs L)
           );
         }
 
+    pub kept-change : F .targets .k ≤ mostBits → (b : ℕ) → b < backends (F .targets) → (lost gained : ℕ)
+        → lost ≤ share (F .targets .k) rs (label (F .targets) b) → gained ≤ mostSuffixes → Changeable (entryAt L b) lost gained
+    kept-change few b l lost gained h m =
+        record { held = omega (arith, kept-share b l); bounded = kept-few few b l; few = m; small = kept-small few b l }
+
     largest-over : over (errorAt L (argmax (λ b. over (errorAt L b)) (backends (F .targets)))) ≡ largestExcess (F .targets) rs
     unfolding largestExcess
     largest-over = ap (λ (b : ℕ). over (errorAt L b)) kept-giver ∙ kept-over (giver (F .targets) rs) (giver-lt F S rs)
@@ -130,8 +135,7 @@ module _ (F : Frame) (rs : List Rule) (L : Ledger) (K : Keeps (F .targets) rs L)
 module _ (F : Frame) (rs rs′ : List Rule) (L M : Ledger) (K : Keeps (F .targets) rs L) (same : F .targets .unit ≡ unit) (g r c : ℕ) (apart : g ≢ r)
     (gave : share (F .targets .k) rs′ (label (F .targets) g) + c ≡ share (F .targets .k) rs (label (F .targets) g)) (got : share (F .targets .k) rs′ (label (F .targets) r) ≡ share (F .targets .k) rs (label (F .targets) r) + c)
     (other : (b : ℕ) → b < backends (F .targets) → b ≢ g → b ≢ r → share (F .targets .k) rs′ (label (F .targets) b) ≡ share (F .targets .k) rs (label (F .targets) b))
-    (from : g < length (L .at)) (to : r < length (L .at))
-    (is : M .at ≡ set (set (L .at) g (lessOf (entryAt L g) c)) r (moreOf (entryAt L r) c)) where
+    (can : Movable (L .at) g r c) (is : M .at ≡ movedOf (L .at) g r c) where
   abbrev entry : List Rule → ℕ → Backend
   entry xs b = entryOf unit (F .targets .k) (weight (F .targets) b) (share (F .targets .k) xs (label (F .targets) b))
 
@@ -139,33 +143,33 @@ module _ (F : Frame) (rs rs′ : List Rule) (L M : Ledger) (K : Keeps (F .target
   before b l = K .entries b l ∙ ap (λ (u : ℕ). entryOf u (F .targets .k) (weight (F .targets) b) (share (F .targets .k) rs (label (F .targets) b))) same
 
   abbrev mid : List Backend
-  mid = set (L .at) g (lessOf (entryAt L g) c)
+  mid = set (L .at) g (changedBy (entryAt L g) c 0)
 
-  now : (b : ℕ) → entryAt M b ≡ getD (set mid r (moreOf (entryAt L r) c)) b noBackend
+  now : (b : ℕ) → entryAt M b ≡ getD (set mid r (changedBy (entryAt L r) 0 c)) b noBackend
   now b = ap (λ (xs : List Backend). getD xs b noBackend) is
 
   at-r : r < backends (F .targets) → entryAt M r ≡ entry rs′ r
   at-r l =
       now r
-      ∙ getD-set-same mid r (moreOf (entryAt L r) c) noBackend (omega (arith, length-set (L .at) g (lessOf (entryAt L g) c)))
-      ∙ ap (λ (x : Backend). moreOf x c) (before r l)
-      ∙ entry-more (F .targets .k) (weight (F .targets) r) (share (F .targets .k) rs (label (F .targets) r)) c
-      ∙ ap (entryOf unit (F .targets .k) (weight (F .targets) r)) (sym got)
+      ∙ getD-set-same mid r (changedBy (entryAt L r) 0 c) noBackend (omega (arith, can .receiver-in, length-set (L .at) g (changedBy (entryAt L g) c 0)))
+      ∙ ap (λ (x : Backend). changedBy x 0 c) (before r l)
+      ∙ entry-change (F .targets .k) (weight (F .targets) r) (share (F .targets .k) rs (label (F .targets) r)) 0 c (omega arith)
+      ∙ ap (entryOf unit (F .targets .k) (weight (F .targets) r)) (omega arith)
 
   at-g : g < backends (F .targets) → entryAt M g ≡ entry rs′ g
   at-g l =
       now g
-      ∙ getD-set-other mid r g (moreOf (entryAt L r) c) noBackend apart
-      ∙ getD-set-same (L .at) g (lessOf (entryAt L g) c) noBackend from
-      ∙ ap (λ (x : Backend). lessOf x c) (before g l)
-      ∙ entry-less (F .targets .k) (weight (F .targets) g) (share (F .targets .k) rs (label (F .targets) g)) c (omega arith)
+      ∙ getD-set-other mid r g (changedBy (entryAt L r) 0 c) noBackend apart
+      ∙ getD-set-same (L .at) g (changedBy (entryAt L g) c 0) noBackend (can .giver-in)
+      ∙ ap (λ (x : Backend). changedBy x c 0) (before g l)
+      ∙ entry-change (F .targets .k) (weight (F .targets) g) (share (F .targets .k) rs (label (F .targets) g)) c 0 (omega arith)
       ∙ ap (entryOf unit (F .targets .k) (weight (F .targets) g)) (omega arith)
 
   at-other : (b : ℕ) → b < backends (F .targets) → b ≢ g → b ≢ r → entryAt M b ≡ entry rs′ b
   at-other b l d e =
       now b
-      ∙ getD-set-other mid r b (moreOf (entryAt L r) c) noBackend e
-      ∙ getD-set-other (L .at) g b (lessOf (entryAt L g) c) noBackend d
+      ∙ getD-set-other mid r b (changedBy (entryAt L r) 0 c) noBackend e
+      ∙ getD-set-other (L .at) g b (changedBy (entryAt L g) c 0) noBackend d
       ∙ before b l
       ∙ ap (entryOf unit (F .targets .k) (weight (F .targets) b)) (sym (other b l d e))
 

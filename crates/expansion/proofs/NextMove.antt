@@ -10,11 +10,11 @@ use borrow.Author.Tests.{eqb-true, eq-eqb}
 use Rattle.numerals.specs.Pick.{pick, both}
 use Rattle.numerals.specs.Suffix.{place}
 use Rattle.numerals.specs.Sums.{lastmax}
-use Rattle.expansion.specs.Imbalance.{backends, label, excess, shortfall, giver, receiver, largestExcess, largestShortfall}
+use Rattle.expansion.specs.Imbalance.{backends, label, giver, receiver, largestExcess, largestShortfall}
 use Rattle.expansion.specs.Steps.{Frame, reduction, isWithin, isNoGain, term, termLength, lowestPlace, newRule, step, endOf}
 use Rattle.expansion.specs.Inner.Sound.{Sound}
-use Rattle.numerals.specs.Limits.{mostBackends, mostSuffixes, unit}
-use Rattle.expansion.specs.Inner.Ledger.{over, entryAt, movedOf, Keeps}
+use Rattle.numerals.specs.Limits.{mostBackends, unit}
+use Rattle.expansion.specs.Inner.Ledger.{over, movedOf, Movable, Keeps}
 use Rattle.expansion.specs.Inner.Terms.{nextFor}
 use Rattle.expansion.specs.Inner.Holders.{Holds, Given, lowered, nodeOf}
 use Rattle.expansion.specs.Inner.Run.{Fits}
@@ -27,12 +27,13 @@ use Rattle.expansion.specs.declared.ledger.Extreme.{Extreme}
 use Rattle.expansion.specs.declared.rule.Move.{Move}
 use Rattle.expansion.specs.declared.run.Next.{Next}
 use Rattle.expansion.specs.declared.run.Next.the-variants.{Stop, Go}
+use Rattle.numerals.proofs.Powers.{pow-few}
 use Rattle.numerals.proofs.Searches.{lastmax-is, lastmax-fewer}
 use Rattle.expansion.proofs.Balance.{giver-lt, receiver-lt}
 use Rattle.expansion.proofs.NoGain.{term-le}
 use Rattle.expansion.proofs.Moves.{Good, some-excess, some-shortfall, apart, place-found, new-giver, new-receiver, new-other}
 use Rattle.expansion.proofs.Turns.{Going, step-within, step-none, ended-within, ended-none}
-use Rattle.expansion.proofs.KeptShares.{moveOf, nextBy, kept-share, kept-few, kept-inside, kept-moved}
+use Rattle.expansion.proofs.KeptShares.{moveOf, nextBy, kept-change, kept-inside, kept-moved}
 use Rattle.expansion.proofs.Found.{found-lowest, found-holds}
 
 -- what it means that the program stops, or goes on
@@ -94,8 +95,7 @@ pub record Ready (F : Frame) (holder low : List ℕ) (rs : List Rule) (L : Ledge
   pub giver : m .giver < backends (F .targets)
   pub receiver : m .receiver < backends (F .targets)
   pub found : nodeOf (F .targets .k) m holder low < 2 ^ (F .targets .k - m .index)
-  pub held : 2 ^ m .index ≤ entryAt L (m .giver) .share
-  pub taken : entryAt L (m .receiver) .share ≤ mostSuffixes
+  pub movable : Movable (L .at) (m .giver) (m .receiver) (2 ^ m .index)
   pub rule :
       record { len = F .targets .k - m .index; value = place (F .targets .k - m .index) (nodeOf (F .targets .k) m holder low); backend = label (F .targets) (m .receiver) }
       ≡ newRule F rs
@@ -120,8 +120,7 @@ module _ (F : Frame) (fits : Fits F) (holder low : List ℕ) (rs : List Rule) (L
         giver = giver-lt F S rs;
         receiver = receiver-lt F S rs;
         found = subst (λ (p : ℕ). p < 2 ^ termLength F rs) lowest (place-found F S rs G gain);
-        held = omega (arith, new-giver F S rs G gain, kept-share F rs L K (giver (F .targets) rs) (giver-lt F S rs));
-        taken = kept-few F rs L K (fits .few-bits) (receiver (F .targets) rs) (receiver-lt F S rs);
+        movable = can;
         rule = ap (λ (p : ℕ). record { len = termLength F rs; value = place (termLength F rs) p; backend = label (F .targets) (receiver (F .targets) rs) }) (sym lowest);
         holds = λ holder′ low′.
             subst (λ (p : ℕ). Given (p * 2 ^ term F rs) (2 ^ term F rs) (receiver (F .targets) rs) holder holder′
@@ -131,9 +130,7 @@ module _ (F : Frame) (fits : Fits F) (holder low : List ℕ) (rs : List Rule) (L
         moved = λ M e.
             kept-moved F rs (newRule F rs ∷ rs) L M K (fits .millionths) (giver (F .targets) rs) (receiver (F .targets) rs) (2 ^ term F rs) (apart F S rs gain)
             (new-giver F S rs G gain) (new-receiver F S rs G gain) (new-other F S rs G gain)
-            (kept-inside F rs L K (giver (F .targets) rs) (giver-lt F S rs) (omega (arith, over-some)))
-            (kept-inside F rs L K (receiver (F .targets) rs) (receiver-lt F S rs) (omega (arith, under-some)))
-            e;
+            can e;
       }
     where
       S : Sound F
@@ -142,8 +139,15 @@ module _ (F : Frame) (fits : Fits F) (holder low : List ℕ) (rs : List Rule) (L
       lowest : lowestPlace F rs ≡ nodeOf (F .targets .k) (moveOf F rs) holder low
       lowest = found-lowest F S rs G gain holder low H
 
-      over-some : 0 < excess (F .targets) rs (giver (F .targets) rs)
-      over-some = some-excess F S rs gain
-
-      under-some : 0 < shortfall (F .targets) rs (receiver (F .targets) rs)
-      under-some = some-shortfall F S rs gain
+      can : Movable (L .at) (giver (F .targets) rs) (receiver (F .targets) rs) (2 ^ term F rs)
+      can =
+          record {
+            giver-in = kept-inside F rs L K (giver (F .targets) rs) (giver-lt F S rs) (omega (arith, some-excess F S rs gain));
+            receiver-in = kept-inside F rs L K (receiver (F .targets) rs) (receiver-lt F S rs) (omega (arith, some-shortfall F S rs gain));
+            gives =
+                kept-change F rs L K S (fits .millionths) (fits .few-bits) (giver (F .targets) rs) (giver-lt F S rs) (2 ^ term F rs) 0
+                (omega (arith, new-giver F S rs G gain)) (omega arith);
+            takes =
+                kept-change F rs L K S (fits .millionths) (fits .few-bits) (receiver (F .targets) rs) (receiver-lt F S rs) 0 (2 ^ term F rs)
+                (omega arith) (pow-few (term F rs) (omega (arith, term-le F rs, S .below, fits .few-bits)));
+          }

@@ -13,7 +13,7 @@ use mir.Facts.{toZ-ofZ, toZ-pos}
 use borrow.Author.Needs.{sfits-of}
 use borrow.Author.Tests.{ltb-true, ltb-false, le-ltb}
 use Rattle.numerals.specs.Limits.{mostSuffixes, mostBits, unit}
-use Rattle.expansion.specs.Inner.Ledger.{over, under, side, Small, entryOf, lessOf, moreOf}
+use Rattle.expansion.specs.Inner.Ledger.{over, under, side, Small, entryOf, changedBy}
 use Rattle.numerals.proofs.Powers.{pow-few, shifted}
 
 -- the sides of a number
@@ -184,29 +184,22 @@ wants-few w k h l = omega (arith, parts-few (2 ^ k) w (pow-few k l) h)
 pub parts-read : (a : ℕ) → a ≤ mostSuffixes → toZ w64 (a * unit) ≡ pos (a * unit)
 parts-read a h = plain (a * unit) (omega (arith, parts-few a unit h (omega arith)))
 
-pub few-more : (z : ℤ) (n : ℕ) → Small z → n ≤ 4096 → mag (z +ℤ pos (n * unit)) < 2 ^ 63
-few-more z n h l = omega (arith, mag-more z (n * unit), h .small, parts-few n unit l (omega arith))
-
-pub few-less : (z : ℤ) (n : ℕ) → Small z → n ≤ 4096 → mag (z -ℤ pos (n * unit)) < 2 ^ 63
+pub few-less : (z : ℤ) (n : ℕ) → Small z → n ≤ mostSuffixes → mag (z -ℤ pos (n * unit)) < 2 ^ 51
 few-less z n h l = omega (arith, mag-less z (n * unit), h .small, parts-few n unit l (omega arith))
+
+pub few-more : (z : ℤ) (n : ℕ) → mag z < 2 ^ 51 → n ≤ mostSuffixes → mag (z +ℤ pos (n * unit)) < 2 ^ 63
+few-more z n h l = omega (arith, mag-more z (n * unit), parts-few n unit l (omega arith))
 
 -- UNIT * (1 << i)
 pub term-read : (i : ℕ) → i ≤ 12 → toZ w64 (unit * (1 * 2 ^ i % 18446744073709551616)) ≡ pos (2 ^ i * unit)
 term-read i h = rw (shifted i h, mul-comm unit (2 ^ i)) (parts-read (2 ^ i) (pow-few i h))
 
--- the entry of a backend that gave suffixes away or was given some
-
-pub entry-less : (k w a c : ℕ) → c ≤ a → lessOf (entryOf unit k w a) c ≡ entryOf unit k w (a - c)
-unfolding lessOf entryOf
-entry-less k w a c h =
+-- the entry of a backend that lost some suffixes and gained others
+pub entry-change : (k w a c d : ℕ) → c ≤ a → changedBy (entryOf unit k w a) c d ≡ entryOf unit k w (a - c + d)
+unfolding changedBy entryOf
+entry-change k w a c d h =
     let e : a ≡ a - c + c = omega arith in
-    let m : a * unit - c * unit ≡ (a - c) * unit = omega (arith, ap (λ (x : ℕ). x * unit) e) in
-    ap (λ (z : ℤ). record { weight = w; share = a - c; error = z })
-    (sub-less (a * unit) (w * 2 ^ k) (c * unit) (mul-le-mul-right unit h) ∙ ap (λ (x : ℕ). subℕ x (w * 2 ^ k)) m)
-
-pub entry-more : (k w a c : ℕ) → moreOf (entryOf unit k w a) c ≡ entryOf unit k w (a + c)
-unfolding moreOf entryOf
-entry-more k w a c =
-    let m : a * unit + c * unit ≡ (a + c) * unit = omega arith in
-    ap (λ (z : ℤ). record { weight = w; share = a + c; error = z })
-    (sub-more (a * unit) (w * 2 ^ k) (c * unit) ∙ ap (λ (x : ℕ). subℕ x (w * 2 ^ k)) m)
+    let m : a * unit - c * unit + d * unit ≡ (a - c + d) * unit = omega (arith, ap (λ (x : ℕ). x * unit) e) in
+    ap (λ (z : ℤ). record { weight = w; share = a - c + d; error = z })
+    (ap (λ (z : ℤ). z +ℤ pos (d * unit)) (sub-less (a * unit) (w * 2 ^ k) (c * unit) (mul-le-mul-right unit h))
+    ∙ sub-more (a * unit - c * unit) (w * 2 ^ k) (d * unit) ∙ ap (λ (x : ℕ). subℕ x (w * 2 ^ k)) m)

@@ -105,27 +105,15 @@ pub fn survey_of(ledger: Ledger, n: usize) -> Survey
     }
 }
 
-// A backend that gave `count` suffixes away.
-fn less(b: Backend, count: u64) -> Backend
-    requires { ⌜ (count ≤ mostSuffixes) × ((count ≤ b .share) × kept.Small (b .error)) ⌝ }
-    ensures { λ r. ⌜ r ≡ kept.lessOf b count ⌝ }
+// A backend that lost some suffixes and gained others.
+fn changed(b: Backend, lost: u64, gained: u64) -> Backend
+    requires { ⌜ kept.Changeable b lost gained ⌝ }
+    ensures { λ r. ⌜ r ≡ kept.changedBy b lost gained ⌝ }
 {
     Backend {
         weight: b.weight,
-        share: b.share - count as u32,
-        error: b.error - (count * UNIT) as i64,
-    }
-}
-
-// A backend that was given `count` suffixes.
-fn more(b: Backend, count: u64) -> Backend
-    requires { ⌜ (count ≤ mostSuffixes) × ((b .share ≤ mostSuffixes) × kept.Small (b .error)) ⌝ }
-    ensures { λ r. ⌜ r ≡ kept.moreOf b count ⌝ }
-{
-    Backend {
-        weight: b.weight,
-        share: b.share + count as u32,
-        error: b.error + (count * UNIT) as i64,
+        share: b.share - lost as u32 + gained as u32,
+        error: b.error - (lost * UNIT) as i64 + (gained * UNIT) as i64,
     }
 }
 
@@ -136,15 +124,13 @@ fn shift(ledger: &mut [Backend], giver: usize, receiver: usize, count: u64)
 {
     let from = ledger[giver];
     let to = ledger[receiver];
-    ledger[giver] = less(from, count);
-    ledger[receiver] = more(to, count);
+    ledger[giver] = changed(from, count, 0);
+    ledger[receiver] = changed(to, 0, count);
 }
 
 // The ledger after `count` suffixes went from the giver to the receiver. Whoever calls this needs no walk.
 pub fn moved(ledger: Ledger, giver: usize, receiver: usize, count: u64) -> Ledger
-    requires { ⌜ (giver < mostBackends) × ((receiver < mostBackends) × (count ≤ mostSuffixes)) ⌝ }
-    requires { ⌜ (count ≤ kept.entryAt ledger giver .share) × (kept.entryAt ledger receiver .share ≤ mostSuffixes) ⌝ }
-    requires { ⌜ kept.Small (kept.errorAt ledger giver) × kept.Small (kept.errorAt ledger receiver) ⌝ }
+    requires { ⌜ kept.Movable (ledger .at) giver receiver count ⌝ }
     ensures { λ r. ⌜ r .at ≡ kept.movedOf (ledger .at) giver receiver count ⌝ }
 {
     let mut at = ledger.at;

@@ -51,27 +51,29 @@ entryOf unit k w a = record { weight = w; share = a; error = subℕ (a * unit) (
 pub record Keeps (T : Targets) (rs : List Rule) (L : Ledger) : Type 0 where
   pub entries : (b : ℕ) → b < backends T → entryAt L b ≡ entryOf (T .unit) (T .k) (weight T b) (share (T .k) rs (label T b))
 
--- a backend that gave c suffixes away, and one that was given them
-unfoldable pub lessOf : Backend → ℕ → Backend
-lessOf b c = record { weight = b .weight; share = b .share - c; error = b .error -ℤ pos (c * unit) }
+-- a backend that lost some suffixes and gained others
+unfoldable pub changedBy : Backend → ℕ → ℕ → Backend
+changedBy b lost gained =
+    record { weight = b .weight; share = b .share - lost + gained; error = b .error -ℤ pos (lost * unit) +ℤ pos (gained * unit) }
 
-unfoldable pub moreOf : Backend → ℕ → Backend
-moreOf b c = record { weight = b .weight; share = b .share + c; error = b .error +ℤ pos (c * unit) }
+-- it can change so: it has what it loses, and no number gets large
+pub record Changeable (b : Backend) (lost gained : ℕ) : Type 0 where
+  pub held : lost ≤ b .share
+  pub bounded : b .share ≤ mostSuffixes
+  pub few : gained ≤ mostSuffixes
+  pub small : Small (b .error)
 
 -- the entries after c suffixes went from the giver to the receiver
 abbrev pub movedOf : List Backend → ℕ → ℕ → ℕ → List Backend
 movedOf es giver receiver c =
-    set (set es giver (lessOf (getD es giver noBackend) c)) receiver (moreOf (getD es receiver noBackend) c)
+    set (set es giver (changedBy (getD es giver noBackend) c 0)) receiver (changedBy (getD es receiver noBackend) 0 c)
 
--- they can go: the giver has them, and no number gets large
+-- they can go: both backends are in the ledger, and can change so
 pub record Movable (es : List Backend) (giver receiver c : ℕ) : Type 0 where
   pub giver-in : giver < length es
   pub receiver-in : receiver < length es
-  pub few : c ≤ mostSuffixes
-  pub held : c ≤ getD es giver noBackend .share
-  pub bounded : getD es receiver noBackend .share ≤ mostSuffixes
-  pub giver-small : Small (getD es giver noBackend .error)
-  pub receiver-small : Small (getD es receiver noBackend .error)
+  pub gives : Changeable (getD es giver noBackend) c 0
+  pub takes : Changeable (getD es receiver noBackend) 0 c
 
 -- the backend of the largest excess or shortfall of the first n, and its size
 unfoldable pub largestOf : Ledger → ℕ → Bool → Extreme

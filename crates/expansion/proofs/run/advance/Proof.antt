@@ -15,7 +15,7 @@ use Rattle.expansion.specs.Inner.Run.{framed, Fits, Stands}
 use Rattle.expansion.specs.declared.rule.Rule.{Rule}
 use Rattle.expansion.specs.declared.rule.Move.{Move}
 use Rattle.expansion.specs.declared.run.Next.the-variants.{Go}
-use Rattle.numerals.proofs.Powers.{pow-few, shifted}
+use Rattle.numerals.proofs.Powers.{shifted}
 use Rattle.expansion.proofs.NextMove.{Ready, movedBy, next-fewer}
 use Rattle.expansion.proofs.Surveys.{surveyed-sized, surveyed-next}
 use Rattle.expansion.proofs.Turning.{small, someone, ready-go, index-falls, adds-rule, stands-moved}
@@ -80,16 +80,7 @@ shl-moved : tie.Need-shl-moved
 shl-moved c = omega (arith, low (begun c))
 
 moved-requires : tie.Need-moved-requires
-moved-requires c κs =
-    let s = begun c in
-    let m = s .args .m in
-    let R = ready s in
-    let each : (b : ℕ) → b < backends (F s .targets) → Small (errorAt (s .args .state .ledger) b) =
-    small (F s) (fits s) (after (F s) (x s)) (s .args .state .ledger) (S s .keeps) in
-    rw (shifted (m .index) (low s)) (
-      (omega (arith, R .giver, fits s .few), (omega (arith, R .receiver, fits s .few), pow-few (m .index) (low s))),
-      ((R .held, R .taken), (each (m .giver) (R .giver), each (m .receiver) (R .receiver))),
-    )
+moved-requires c κs = let s = begun c in rw (shifted (s .args .m .index) (low s)) (ready s .movable)
 
 -- the ledger afterwards
 moved-at : (c : tie.After-moved) → let a = begun (c .before) .args in c .moved .result .at ≡ movedBy (a .state .ledger) (a .m)
