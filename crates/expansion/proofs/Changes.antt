@@ -66,10 +66,10 @@ module _ {M : Type 1} (𝓤 : URA M) (H : Heap 𝓤) (A : Atoms 𝓤) where
         owned ! Entry (Is Entry) (LL.makes B.the-type B′.the-plain 𝓤 H A) e _ g $ fjoin ! $ nothing ! $ done !
 
     -- what is said of the answer
-    abbrev told : Backend → SProp 𝓤
-    told = ensured 𝓤 H A ended clauses tt a tt
+    abbrev ensured-is : Backend → SProp 𝓤
+    ensured-is = ensured 𝓤 H A ended clauses tt a tt
 
-    tells : (r : Backend) → ent 𝓤 (told r) (fact 𝓤 (r ≡ changedBy e lost gained))
+    tells : (r : Backend) → ent 𝓤 (ensured-is r) (fact 𝓤 (r ≡ changedBy e lost gained))
     tells r = exE 𝓤 _ (λ ws. snd∗ 𝓤 (sem 𝓤 H A (lasts ended tt a ws)) (fact 𝓤 (r ≡ changedBy e lost gained)))
 
 module _ {M : Type 1} {𝓤 : URA M} {H : Heap 𝓤} {A : Atoms 𝓤} {K : Type 0} {W : Given 𝓤 H A} {Γ : List (Item 𝓤)}
@@ -85,7 +85,7 @@ module _ {M : Type 1} {𝓤 : URA M} {H : Heap 𝓤} {A : Atoms 𝓤} {K : Type 
       nothing t $ calls-from t fm (‵ ftrue) (val e ∷ vint w64 lost ∷ vint w64 gained ∷ []) (Changed 𝓤 H A .post (bound 𝓤 H A e lost gained))
       (via 𝓤 _ (asked 𝓤 H A e lost gained W g l m p) (known (bound 𝓤 H A e lost gained))) os (λ v.
       -- some entry r is returned, at its machine value v; the contract says which one it is
-      use1 W (later (some (λ (r : Backend). (‵ ftrue ⊛ ‵ (Entry .own r (v ∷ []))) ⊛ raw (told 𝓤 H A e lost gained r)))) (id⊢ 𝓤 _) $
+      use1 W (later (some (λ (r : Backend). (‵ ftrue ⊛ ‵ (Entry .own r (v ∷ []))) ⊛ raw (ensured-is 𝓤 H A e lost gained r)))) (id⊢ 𝓤 _) $
       await t tt $ pick t (λ r. split t $ move t (1 ∷ []) $
       use1 W (raw (fact 𝓤 (r ≡ changedBy e lost gained))) (tells 𝓤 H A e lost gained r) $ heard t (r ≡ changedBy e lost gained) (λ is.
       split t $ drop t $ facts t Entry (Is Entry) (shows 𝓤 H A Entry) r (v ∷ []) (λ fits.

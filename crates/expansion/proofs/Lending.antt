@@ -50,8 +50,8 @@ arr es = arrayVal (map val es)
 abbrev pub Fits : List Backend → Type 0
 Fits es = Is All es (arr es ∷ [])
 
-told : (es : List Backend) (vs : List Val) → Is All es vs → vs ≡ arr es ∷ []
-told = array-tells Entry (λ e. val e ∷ []) (LL.tells B.the-type B′.the-laws) mostBackends
+array-is : (es : List Backend) (vs : List Val) → Is All es vs → vs ≡ arr es ∷ []
+array-is = array-tells Entry (λ e. val e ∷ []) (LL.tells B.the-type B′.the-laws) mostBackends
 
 -- as a field, an entry is the tuple of its numbers
 each-same : (es : List Backend) (us : List Val)
@@ -66,7 +66,7 @@ of-ledger l vs p =
     let q = p .1 .1 .0 in
     let long : length (l .at) ≡ mostBackends = sym (length-map (l .at) (B.the-type .to)) ∙ q .1 .0 .1 in
     let is : Is All (l .at) (p .0 .0) = (q .0, ((q .1 .0 .0, long), subst shadow (sym (each-same (l .at) (q .0))) (q .1 .1))) in
-    subst (Is All (l .at)) (told (l .at) (p .0 .0) is) is
+    subst (Is All (l .at)) (array-is (l .at) (p .0 .0) is) is
 
 pub to-ledger : (es : List Backend) → Fits es → Is L.the-row (record { at = es }) (vstruct (vcons (arr es) vnil) ∷ [])
 to-ledger es q =
@@ -108,4 +108,4 @@ module _ {M : Type 1} {𝓤 : URA M} {H : Heap 𝓤} {A : Atoms 𝓤} {K : Type 
       use1 W (‵ (partAt All fullShare es b 0)) (array-whole 𝓤 H A W Entry fullShare mostBackends es b 0) $
       use1 W (some (λ (v : Val). ‵ (fat fullShare (tyArray B′.mir mostBackends) b 0 v) ⊛ ‵ (All .own es (v ∷ [])))) (part-out 𝓤 H A W All refl fullShare es b 0) $
       pick t (λ v. split t $ move t (1 ∷ []) $ facts t All (Is All) (shows 𝓤 H A All) es (v ∷ []) (λ is.
-      rewrite t 0 (λ (u : Val). ‵ (fat fullShare (tyArray B′.mir mostBackends) b 0 u)) (ap only (told es (v ∷ []) is)) refl $ k (subst (Is All es) (told es (v ∷ []) is) is)))
+      rewrite t 0 (λ (u : Val). ‵ (fat fullShare (tyArray B′.mir mostBackends) b 0 u)) (ap only (array-is es (v ∷ []) is)) refl $ k (subst (Is All es) (array-is es (v ∷ []) is) is)))

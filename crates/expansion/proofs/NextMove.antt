@@ -90,7 +90,7 @@ abbrev pub movedBy : Ledger → Move → List Backend
 movedBy L m = movedOf (L .at) (m .giver) (m .receiver) (2 ^ m .index)
 
 -- a move that the program is about to make, after the rules rs
-pub record Ready (F : Frame) (holder low : List ℕ) (rs : List Rule) (L : Ledger) (m : Move) : Type 0 where
+pub record Feasible (F : Frame) (holder low : List ℕ) (rs : List Rule) (L : Ledger) (m : Move) : Type 0 where
   pub index : m .index ≤ F .cap
   pub giver : m .giver < backends (F .targets)
   pub receiver : m .receiver < backends (F .targets)
@@ -112,9 +112,9 @@ pub record Ready (F : Frame) (holder low : List ℕ) (rs : List Rule) (L : Ledge
 module _ (F : Frame) (fits : Fits F) (holder low : List ℕ) (rs : List Rule) (L : Ledger)
     (H : Holds (F .targets) rs holder low) (long : length low ≡ mostBackends) (K : Keeps (F .targets) rs L)
     (G : Good F rs) (gain : isNoGain F rs ≡ false) where
-  pub ready : Ready F holder low rs L (moveOf F rs)
+  pub feasible : Feasible F holder low rs L (moveOf F rs)
   unfolding moveOf nodeOf termLength newRule largestExcess largestShortfall
-  ready =
+  feasible =
       record {
         index = term-le F rs;
         giver = giver-lt F S rs;

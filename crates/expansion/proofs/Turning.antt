@@ -39,7 +39,7 @@ use Rattle.expansion.proofs.Base.{star-share}
 use Rattle.expansion.proofs.Checks.{first-lt}
 use Rattle.expansion.proofs.KeptShares.{moveOf, nextBy, kept-small, kept-imbalance, kept-next}
 use Rattle.expansion.proofs.Listing.{newest-more}
-use Rattle.expansion.proofs.NextMove.{next-stop, next-go, movedBy, Ready, ready}
+use Rattle.expansion.proofs.NextMove.{next-stop, next-go, movedBy, Feasible, feasible}
 
 -- a move in the budget
 pub in-budget : (x : Next) (c budget : ℕ) (m : Move) → inBudget x c budget ≡ Go m → (x ≡ Go m) × (c < budget)
@@ -190,10 +190,10 @@ module _ (F : Frame) (x : ℕ) (holder low : List ℕ) (st : State) (S : Stands 
     going : Going F (after F x) × (m ≡ moveOf F (after F x))
     going = next-go F (after F x) m (sym stands-next ∙ n)
 
-    pub ready-go : Ready F holder low (after F x) (st .ledger) m
-    ready-go =
-        subst (Ready F holder low (after F x) (st .ledger)) (sym (going .1))
-        (ready F (S .fits) holder low (after F x) (st .ledger) (S .holds) (S .long .1) (S .keeps) (good-after F (S .fits .sound) x) (going .0 .gain))
+    pub feasible-go : Feasible F holder low (after F x) (st .ledger) m
+    feasible-go =
+        subst (Feasible F holder low (after F x) (st .ledger)) (sym (going .1))
+        (feasible F (S .fits) holder low (after F x) (st .ledger) (S .holds) (S .long .1) (S .keeps) (good-after F (S .fits .sound) x) (going .0 .gain))
 
     after-go : after F (suc x) ≡ newRule F (after F x) ∷ after F x
     after-go = after-suc F x ∙ step-moves F (after F x) (going .0 .outside) (going .0 .gain)
@@ -205,7 +205,7 @@ module _ (F : Frame) (x : ℕ) (holder low : List ℕ) (st : State) (S : Stands 
     index-falls M e w h =
         let rs : List Rule = after F x in
         let rs′ : List Rule = newRule F rs ∷ rs in
-        let q = next-go F rs′ w (sym (kept-next F rs′ M (ready-go .moved M e) (S .fits .sound) (S .fits .millionths)) ∙ h) in
+        let q = next-go F rs′ w (sym (kept-next F rs′ M (feasible-go .moved M e) (S .fits .sound) (S .fits .millionths)) ∙ h) in
         omega (
           arith,
           ap (λ (o : Move). o .index) (going .1),
@@ -220,7 +220,7 @@ module _ (F : Frame) (x : ℕ) (holder low : List ℕ) (st : State) (S : Stands 
           rules =
               after-go
               ∙ ap (λ (r : Rule). r ∷ after F x)
-              (sym (ap (λ (o : ℕ). record { len = F .targets .k - m .index; value = o; backend = label (F .targets) (m .receiver) }) v ∙ ready-go .rule));
+              (sym (ap (λ (o : ℕ). record { len = F .targets .k - m .index; value = o; backend = label (F .targets) (m .receiver) }) v ∙ feasible-go .rule));
         }
 
     pub stands-moved : (value : ℕ) (holder′ low′ : List ℕ) → Handed (F .targets .k) m value holder low holder′ low′
@@ -233,10 +233,10 @@ module _ (F : Frame) (x : ℕ) (holder low : List ℕ) (st : State) (S : Stands 
     stands-moved value holder′ low′ handed M e sum s next t r =
         record {
           fits = S .fits;
-          keeps = subst (λ (xs : List Rule). Keeps (F .targets) xs M) now (ready-go .moved M e);
-          holds = subst (λ (xs : List Rule). Holds (F .targets) xs holder′ low′) now (ready-go .holds holder′ low′ (handed .given) (handed .lows));
+          keeps = subst (λ (xs : List Rule). Keeps (F .targets) xs M) now (feasible-go .moved M e);
+          holds = subst (λ (xs : List Rule). Holds (F .targets) xs holder′ low′) now (feasible-go .holds holder′ low′ (handed .given) (handed .lows));
           long = (handed .given .long ∙ S .long .0, ap length (handed .lows) ∙ simp length-set (S .long .1));
-          stair = s ∙ kept-imbalance F (newRule F (after F x) ∷ after F x) M (ready-go .moved M e) ∙ ap (imbalance (F .targets)) now;
+          stair = s ∙ kept-imbalance F (newRule F (after F x) ∷ after F x) M (feasible-go .moved M e) ∙ ap (imbalance (F .targets)) now;
           next = t;
         }
       where

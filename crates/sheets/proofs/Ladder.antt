@@ -39,14 +39,14 @@ abbrev lineOf : ℕ → Rule → Line
 lineOf s r = record { service = s; rule = r }
 
 -- behind these lines, whose last is a `*`, lines of the services from s on may begin
-pub record Ready (s : ℕ) (before : List Line) : Type 0 where
+pub record Admits (s : ℕ) (before : List Line) : Type 0 where
   pub none : (t : ℕ) → s ≤ t → countOf t before ≡ 0
   pub next : (t : ℕ) → s ≤ t → (r : Rule) → inOrder before (lineOf t r) ≡ true
   pub shut : closed before ≡ true
 
-ready-first : (s : ℕ) → Ready s []
+admits-first : (s : ℕ) → Admits s []
 unfolding countOf ownRules inOrder closed
-ready-first s = record { none = λ t h. refl; next = λ t h r. refl; shut = refl }
+admits-first s = record { none = λ t h. refl; next = λ t h r. refl; shut = refl }
 
 -- each rule is well-formed, and its label is one of 32
 pub record Labelled (k : ℕ) (r : Rule) : Type 0 where
@@ -91,19 +91,19 @@ module _ (k s : ℕ) (numbered : 1 ≤ s) (known : s ≤ mostServices) where
   )
 
 -- and behind a ladder's lines the next service may begin
-ladder-ready :
+ladder-admits :
     (s : ℕ) (before : List Line) (rs : List Rule) → Ladder rs → ((t : ℕ) → s < t → countOf t before ≡ 0)
-    → Ready (suc s) (reverseAux (linesOf s rs) before)
+    → Admits (suc s) (reverseAux (linesOf s rs) before)
 unfolding linesOf inOrder closed
-ladder-ready s before [] h none = absurd h
-ladder-ready s before (r ∷ []) h none =
+ladder-admits s before [] h none = absurd h
+ladder-admits s before (r ∷ []) h none =
     record {
       none = λ t l. count-other t (lineOf s r) before (λ e. omega arith) ∙ none t l;
       next = λ t l q. rw (ne-eqb s t (λ e. omega arith), lt-ltb s t l, eq-eqb (r .len) 0 h);
       shut = eq-eqb (r .len) 0 h;
     }
-ladder-ready s before (r ∷ q ∷ rs) h none =
-    ladder-ready s (lineOf s r ∷ before) (q ∷ rs) (h .2) (λ t l. count-other t (lineOf s r) before (λ e. omega arith) ∙ none t l)
+ladder-admits s before (r ∷ q ∷ rs) h none =
+    ladder-admits s (lineOf s r ∷ before) (q ∷ rs) (h .2) (λ t l. count-other t (lineOf s r) before (λ e. omega arith) ∙ none t l)
 
 in-order-append :
     (k : ℕ) (before xs ys : List Line) → InOrder k before xs → InOrder k (reverseAux xs before) ys → InOrder k before (xs ++ ys)
@@ -118,7 +118,7 @@ pub record Granted (k : ℕ) (rs : List Rule) : Type 0 where
   pub few : length rs ≤ mostRules
 
 granted-lines :
-    (k s : ℕ) → 1 ≤ s → s ≤ mostServices → (before : List Line) (rs : List Rule) → Granted k rs → Ready s before → InOrder k before (linesOf s rs)
+    (k s : ℕ) → 1 ≤ s → s ≤ mostServices → (before : List Line) (rs : List Rule) → Granted k rs → Admits s before → InOrder k before (linesOf s rs)
 granted-lines k s one l before [] G R = absurd (G .steps)
 granted-lines k s one l before (r ∷ rs) G R =
     ladder-lines k s one l before r rs (G .steps) (G .labelled) (omega (arith, R .none s (le-refl s), G .few)) (R .next s (le-refl s) r)
@@ -126,9 +126,9 @@ granted-lines k s one l before (r ∷ rs) G R =
 -- the table of ladders: that of service s has the number s + 1
 pub table-sorted :
     (k n : ℕ) (lists : ℕ → List Rule) (g : Grants) → n ≤ mostServices → ((s : ℕ) → s < n → Granted k (oldest (g s) (lists s)))
-    → InOrder k [] (tableOf n lists g) × Ready (suc n) (reverse (tableOf n lists g))
+    → InOrder k [] (tableOf n lists g) × Admits (suc n) (reverse (tableOf n lists g))
 unfolding tableOf InOrder
-table-sorted k zero lists g few all = (tt, ready-first 1)
+table-sorted k zero lists g few all = (tt, admits-first 1)
 table-sorted k (suc n) lists g few all =
     let before = tableOf n lists g in
     let rs = oldest (g n) (lists n) in
@@ -136,5 +136,5 @@ table-sorted k (suc n) lists g few all =
     let G = all n (omega arith) in (
       in-order-append k [] before (linesOf (suc n) rs) (ih .0) (granted-lines k (suc n) (omega arith) few (reverse before) rs G (ih .1)),
       rw (reverseAux-append before (linesOf (suc n) rs) [])
-          (ladder-ready (suc n) (reverse before) rs (G .steps) (λ t l. ih .1 .none t (omega arith))),
+          (ladder-admits (suc n) (reverse before) rs (G .steps) (λ t l. ih .1 .none t (omega arith))),
     )

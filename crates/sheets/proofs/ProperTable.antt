@@ -30,7 +30,7 @@ use Rattle.sheets.specs.Reading.{got}
 use Rattle.sheets.specs.PercentageSheet.{Sheet, readSheet}
 use Rattle.sheets.specs.Inner.Premises.{checkTable}
 use Rattle.sheets.specs.Calls.{servicesIn, tableFor}
-use Rattle.sheets.proofs.Ladder.{Ladder, ladder, ladder-some, all-labelled, Granted, Ready, table-sorted}
+use Rattle.sheets.proofs.Ladder.{Ladder, ladder, ladder-some, all-labelled, Granted, Admits, table-sorted}
 use Rattle.sheets.proofs.SheetLimits.{Limits, limits, sum-places}
 use Rattle.sheets.proofs.TableChecks.{InOrder, Proper, checked}
 
@@ -186,7 +186,7 @@ module _ (S : Sheet) (L : Limits S) where
         ladder-some (oldest (g 0) (lists 0)) (all-granted 0 first .steps),
       )
 
-  sorted : InOrder (S .k) [] (linesMade T (S .tolerance) (S .capacity)) × Ready (suc (services T)) (reverse (linesMade T (S .tolerance) (S .capacity)))
+  sorted : InOrder (S .k) [] (linesMade T (S .tolerance) (S .capacity)) × Admits (suc (services T)) (reverse (linesMade T (S .tolerance) (S .capacity)))
   unfolding linesMade table
   sorted =
       table-sorted (S .k) (services T) (listFor T (S .tolerance)) g (omega (arith, count, L .few)) (λ s l. all-granted s (omega (arith, count)))

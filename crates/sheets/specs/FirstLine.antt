@@ -10,7 +10,7 @@ use Rattle.numerals.specs.Refusals.{no1, no11}
 use Rattle.numerals.specs.declared.digits.Number.{Number}
 use Rattle.sheets.specs.Reading.{Reading, got, refused, unless, onField, same, field}
 
--- what line 1 says, and the lines behind it
+-- what line 1 says, k in its field 1 behind the word and the numbers of fields 2 and 3, and the lines behind it
 pub record Opening : Type 0 where
   pub k : ℕ
   pub second : ℕ

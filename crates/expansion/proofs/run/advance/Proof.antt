@@ -16,9 +16,9 @@ use Rattle.expansion.specs.declared.rule.Rule.{Rule}
 use Rattle.expansion.specs.declared.rule.Move.{Move}
 use Rattle.expansion.specs.declared.run.Next.the-variants.{Go}
 use Rattle.numerals.proofs.Powers.{shifted}
-use Rattle.expansion.proofs.NextMove.{Ready, movedBy, next-fewer}
+use Rattle.expansion.proofs.NextMove.{Feasible, movedBy, next-fewer}
 use Rattle.expansion.proofs.Surveys.{surveyed-sized, surveyed-next}
-use Rattle.expansion.proofs.Turning.{small, someone, ready-go, index-falls, adds-rule, stands-moved}
+use Rattle.expansion.proofs.Turning.{small, someone, feasible-go, index-falls, adds-rule, stands-moved}
 use Rattle.expansion.proofs.run.advance.Statement.{statement}
 use Rattle.expansion.proofs.run.advance.Tie as tie
 
@@ -40,8 +40,8 @@ module _ (s : tie.Start) where
   abbrev fits : Fits F
   fits = S .fits
 
-  ready : Ready F (s .args .holder .now) (s .args .low .now) (after F x) (s .args .state .ledger) (s .args .m)
-  ready = ready-go F x (s .args .holder .now) (s .args .low .now) (s .args .state) S (s .args .m) (s .pre .1 .1)
+  feasible : Feasible F (s .args .holder .now) (s .args .low .now) (after F x) (s .args .state .ledger) (s .args .m)
+  feasible = feasible-go F x (s .args .holder .now) (s .args .low .now) (s .args .state) S (s .args .m) (s .pre .1 .1)
 
   some : 0 < length (s .args .weights .now)
   unfolding backends
@@ -53,20 +53,20 @@ module _ (s : tie.Start) where
 
   -- the term
   low : s .args .m .index ≤ mostBits
-  low = omega (arith, ready .index, fits .sound .below, fits .few-bits)
+  low = omega (arith, feasible .index, fits .sound .below, fits .few-bits)
 
 mul-label : tie.Need-mul-label
-mul-label c = let s = c .before .before .before .before .before in omega (arith, ready s .receiver, fits s .few)
+mul-label c = let s = c .before .before .before .before .before in omega (arith, feasible s .receiver, fits s .few)
 
 shared-slice-read-label : tie.Need-shared-slice-read-label
 unfolding backends
 shared-slice-read-label c =
-    let s = c .before .before .before .before .before .before in omega (arith, ready s .receiver, fits s .labelled)
+    let s = c .before .before .before .before .before .before in omega (arith, feasible s .receiver, fits s .labelled)
 
 hand-over-requires : tie.Need-hand-over-requires
 hand-over-requires c κs =
     let s = c .before .before .before .before .before .before .before .before in
-    let R = ready s in
+    let R = feasible s in
     let f = fits s in (
       (f .few-bits, (omega (arith, R .index, f .sound .below), (omega (arith, R .giver, f .few), omega (arith, R .receiver, f .few)))),
       ((S s .long .0, (S s .long .1, s .pre .1 .0)), R .found),
@@ -80,7 +80,7 @@ shl-moved : tie.Need-shl-moved
 shl-moved c = omega (arith, low (begun c))
 
 moved-requires : tie.Need-moved-requires
-moved-requires c κs = let s = begun c in rw (shifted (s .args .m .index) (low s)) (ready s .movable)
+moved-requires c κs = let s = begun c in rw (shifted (s .args .m .index) (low s)) (feasible s .movable)
 
 -- the ledger afterwards
 moved-at : (c : tie.After-moved) → let a = begun (c .before) .args in c .moved .result .at ≡ movedBy (a .state .ledger) (a .m)
@@ -91,13 +91,13 @@ unfolding backends
 moved-small c =
     let s = begun (c .before) in
     let rs = after (F s) (x s) in
-    small (F s) (fits s) (newRule (F s) rs ∷ rs) (c .moved .result) (ready s .moved (c .moved .result) (moved-at c))
+    small (F s) (fits s) (newRule (F s) rs ∷ rs) (c .moved .result) (feasible s .moved (c .moved .result) (moved-at c))
 
 survey-of-requires : tie.Need-survey-of-requires
 survey-of-requires c κs = let s = begun (c .before) in ((some s, few s), moved-small c)
 
 sub-t17 : tie.Need-sub-t17
-sub-t17 c = let s = begun (c .before .before .before) in omega (arith, ready s .index, fits s .sound .below)
+sub-t17 c = let s = begun (c .before .before .before) in omega (arith, feasible s .index, fits s .sound .below)
 
 decide-requires : tie.Need-decide-requires
 decide-requires c κs =
@@ -134,7 +134,7 @@ module _ (c : tie.After-decide) (cap y : ℕ) (start : List Rule) where
         let next = surveyed-next (M .moved .result) (length (a .weights .now)) (w .survey-of .result) (w .survey-of .ensures) (a .k) (a .tolerance) cap in
         let falls : (o : Move) → nextFor (w .survey-of .result .give) (w .survey-of .result .take) (a .k) (a .tolerance) cap ≡ Go o → o .index ≤ a .m .index =
         λ o h. index-falls E y (a .holder .now) (a .low .now) (a .state) T (a .m) (z .pre .1 .1) (M .moved .result) (moved-at M) o (sym next ∙ h) in
-        let less : a .m .index ≤ cap = ready-go E y (a .holder .now) (a .low .now) (a .state) T (a .m) (z .pre .1 .1) .index in
+        let less : a .m .index ≤ cap = feasible-go E y (a .holder .now) (a .low .now) (a .state) T (a .m) (z .pre .1 .1) .index in
         c .decide .ensures ∙ next-fewer (w .survey-of .result .give) (w .survey-of .result .take) (a .k) (a .tolerance) cap (a .m .index) less falls ∙ next
 
 returns : tie.Need-returns
