@@ -191,7 +191,7 @@ pub few-more : (z : ℤ) (n : ℕ) → mag z < 2 ^ 51 → n ≤ mostSuffixes →
 few-more z n h l = omega (arith, mag-more z (n * unit), parts-few n unit l (omega arith))
 
 -- UNIT * (1 << i)
-pub term-read : (i : ℕ) → i ≤ 12 → toZ w64 (unit * (1 * 2 ^ i % 18446744073709551616)) ≡ pos (2 ^ i * unit)
+pub term-read : (i : ℕ) → i ≤ mostBits → toZ w64 (unit * (1 * 2 ^ i % 18446744073709551616)) ≡ pos (2 ^ i * unit)
 term-read i h = rw (shifted i h, mul-comm unit (2 ^ i)) (parts-read (2 ^ i) (pow-few i h))
 
 -- the entry of a backend that lost some suffixes and gained others

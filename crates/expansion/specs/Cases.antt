@@ -3,6 +3,7 @@ use Prim.Native.Nat.{ℕ, suc}
 use mathlib.Core.List.{List, [], _∷_}
 use mathlib.Core.Path.{_≡_}
 use lib.ListN.{length}
+use Rattle.numerals.specs.Limits.{mostRules}
 use Rattle.numerals.specs.Sums.{listTo}
 use Rattle.expansion.specs.Steps.{frame, endOf, listOf, stairsTo, Frame}
 use Rattle.expansion.specs.declared.rule.Rule.{Rule}
@@ -15,9 +16,9 @@ pub record Worked : Type 0 where
   pub ended : Ended
   pub stairs : List ℕ
 
--- the list of budget 32 is the rules, the newest first; it ends so, and has these stairs
+-- the list of the whole budget is the rules, the newest first; it ends so, and has these stairs
 pub record Shows (w : Worked) : Type 0 where
-  pub rules : listOf (w .given) 32 ≡ w .rules
+  pub rules : listOf (w .given) mostRules ≡ w .rules
   pub ended : endOf (w .given) (w .rules) ≡ w .ended
   pub stairs : stairsTo (w .given) (w .rules) (length (w .rules)) ≡ w .stairs
 

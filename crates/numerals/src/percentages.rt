@@ -19,7 +19,7 @@ fn worth(n: usize) -> u64
     ensures { λ r. ⌜ r ≡ 10 ^ (decimals - n) ⌝ }
 {
     match n {
-        0 => 10000,
+        0 => PERCENT,
         1 => 1000,
         2 => 100,
         3 => 10,

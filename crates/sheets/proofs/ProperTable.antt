@@ -81,9 +81,9 @@ module _ (k tolerance : ℕ) (labels ws : List ℕ) (one : 1 ≤ k) (few : lengt
   list-imbalance x h =
       omega (arith, imbalance-bound F sound (after F x) (good-after F sound x .complete), pow-mono {i = k} {j = mostBits} h)
 
-  oldest-list : (c : ℕ) → 1 ≤ c → oldest c (listOf F ruleBudget) ≡ after F (min (c - 1) 31)
+  oldest-list : (c : ℕ) → 1 ≤ c → oldest c (listOf F ruleBudget) ≡ after F (min (c - 1) (mostRules - 1))
   unfolding listOf ruleBudget frame firstRule
-  oldest-list c h = oldest-after F c 31 h
+  oldest-list c h = oldest-after F c (mostRules - 1) h
 
 -- the table of a sheet in its limits
 module _ (S : Sheet) (L : Limits S) where
@@ -127,7 +127,7 @@ module _ (S : Sheet) (L : Limits S) where
       → (x : ℕ) × (x < mostRules) × (oldest (g s) (listFor T (S .tolerance) s) ≡ after (frameOf T (S .tolerance) s) x)
   unfolding listFor frameOf servicesIn services targetsOf numbered
   granted-oldest s l = (
-    min (g s - 1) 31,
+    min (g s - 1) (mostRules - 1),
     omega arith,
     oldest-list (S .k) (S .tolerance) (getD (T .labels) s []) (getD (S .weights) s []) (L .bits) (L .row s l .few) (weigh s l) (numbers s) (g s) (fitting .enough s l),
   )

@@ -75,8 +75,8 @@ unfolding sheetText
 sample-printed = rw sample-packed sample-written
 
 -- and the call that prints answers so many bytes
-pub sample-answer : printRead (readSheet sheetBytes) sheetText 65536 ≡ Value 54
-unfolding cases printText bytes
+pub sample-answer : printRead (readSheet sheetBytes) sheetText textLimit ≡ Value 54
+unfolding cases printText bytes textLimit
 sample-answer = rw (right .0, sample-printed)
 
 -- it is accepted, and passes the check of a table in numbers

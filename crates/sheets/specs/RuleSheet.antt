@@ -103,7 +103,7 @@ readTable text =
     then (tableLine text) (λ line.
     then (ruleLines (line .k) [] (line .behind)) (wholeTable (line .k) (line .second) (line .third)))
 
--- a table that is no text, checked as its sheet would be: the numbers of line 1, then line by line, then the end
+-- the numbers of a rule's line are within their limits
 unfoldable pub isLine : ℕ → Line → Bool
 isLine k l =
     both (inLimits 1 mostServices (l .service))

@@ -1,4 +1,4 @@
--- What the test programs find in a record's text.
+-- What the test program finds in a record's text.
 pub mod Parts
 pub mod Numbers
 pub mod Header
