@@ -9,6 +9,7 @@ use lib.Dec.{leb, ltb, eqb}
 use lib.Pow.{mod-mod-pow}
 use borrow.Author.Tests.{leb-true, ltb-true, eqb-true, le-leb, lt-ltb}
 use Rattle.numerals.specs.Pick.{pick}
+use Rattle.numerals.specs.Suffix.{isSuffix}
 use Rattle.expansion.specs.FirstMatch.{isRule, matches, firstMatch, gives}
 use Rattle.expansion.specs.Inner.Sound.{Lengths}
 use Rattle.expansion.specs.declared.rule.Rule.{Rule}
@@ -16,15 +17,15 @@ use Rattle.numerals.proofs.Searches.{both-true, true-both}
 
 -- a well-formed rule
 pub rule-short : (k : ℕ) (r : Rule) → isRule k r ≡ true → r .len ≤ k
-unfolding isRule
+unfolding isRule isSuffix
 rule-short k r e = leb-true (r .len) k (both-true (leb (r .len) k) (ltb (r .value) (2 ^ (r .len))) e .0)
 
 pub rule-bits : (k : ℕ) (r : Rule) → isRule k r ≡ true → r .value < 2 ^ (r .len)
-unfolding isRule
+unfolding isRule isSuffix
 rule-bits k r e = ltb-true (r .value) (2 ^ (r .len)) (both-true (leb (r .len) k) (ltb (r .value) (2 ^ (r .len))) e .1)
 
 pub is-rule : (k : ℕ) (r : Rule) → r .len ≤ k → r .value < 2 ^ (r .len) → isRule k r ≡ true
-unfolding isRule
+unfolding isRule isSuffix
 is-rule k r l m = true-both (leb (r .len) k) (ltb (r .value) (2 ^ (r .len))) (le-leb (r .len) k l) (lt-ltb (r .value) (2 ^ (r .len)) m)
 
 pub gives-matched : (r : Rule) (rs : List Rule) (s b : ℕ) → matches r s ≡ true → gives (r ∷ rs) s b ≡ eqb (r .backend) b

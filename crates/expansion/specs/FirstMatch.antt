@@ -2,8 +2,9 @@
 use Prim.Native.Nat.{ℕ, _%_, _^_}
 use mathlib.Core.Bool.{Bool}
 use mathlib.Core.List.{List, [], _∷_}
-use lib.Dec.{leb, ltb, eqb}
-use Rattle.numerals.specs.Pick.{pick, both}
+use lib.Dec.{eqb}
+use Rattle.numerals.specs.Pick.{pick}
+use Rattle.numerals.specs.Suffix.{isSuffix}
 use Rattle.numerals.specs.Sums.{countTo}
 use Rattle.expansion.specs.declared.rule.Rule.{Rule}
 
@@ -11,9 +12,9 @@ use Rattle.expansion.specs.declared.rule.Rule.{Rule}
 abbrev pub nobody : ℕ
 nobody = 0
 
--- a well-formed rule of k bits: its suffix has at most k, and its value is one of so many bits
+-- a well-formed rule of k bits
 unfoldable pub isRule : ℕ → Rule → Bool
-isRule k r = both (leb (r .len) k) (ltb (r .value) (2 ^ (r .len)))
+isRule k r = isSuffix k (r .len) (r .value)
 
 -- a rule matches s if its bits are the lowest bits of s
 unfoldable pub matches : Rule → ℕ → Bool

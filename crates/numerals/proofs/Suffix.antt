@@ -27,11 +27,11 @@ pub record Limits (l v : ℕ) : Type 0 where
   pub short : l ≤ mostBits
   pub small : v < 2 ^ l
 
-pub is-suffix : (l v : ℕ) → Limits l v → isSuffix l v ≡ true
+pub is-suffix : (l v : ℕ) → Limits l v → isSuffix mostBits l v ≡ true
 unfolding isSuffix
 is-suffix l v h = rw (le-leb l mostBits (h .short), lt-ltb v (2 ^ l) (h .small))
 
-pub suffix-limits : (l v : ℕ) → isSuffix l v ≡ true → Limits l v
+pub suffix-limits : (l v : ℕ) → isSuffix mostBits l v ≡ true → Limits l v
 unfolding isSuffix
 suffix-limits l v e =
     record {

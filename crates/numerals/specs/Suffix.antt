@@ -16,9 +16,9 @@ use Rattle.numerals.specs.declared.digits.Written.the-variants.{Refused}
 use Rattle.numerals.specs.declared.suffixes.SuffixRead.{SuffixRead}
 use Rattle.numerals.specs.declared.suffixes.SuffixRead.the-variants.{Suffix, Bad}
 
--- a suffix has at most so many bits, and a value that its l bits have
-unfoldable pub isSuffix : ℕ → ℕ → Bool
-isSuffix l v = both (leb l mostBits) (ltb v (2 ^ l))
+-- a suffix of at most k bits: a length in that limit, and a value that its l bits have
+unfoldable pub isSuffix : ℕ → ℕ → ℕ → Bool
+isSuffix k l v = both (leb l k) (ltb v (2 ^ l))
 
 -- the text of the suffix of l bits: '*' and the bits
 unfoldable pub suffixText : ℕ → ℕ → List ℕ
@@ -26,11 +26,11 @@ suffixText l v = 42 ∷ lowest 2 l v
 
 -- a lent buffer after a suffix was to be written into it at a position: one out of its limits isn't written
 unfoldable pub putSuffix : List ℕ → ℕ → ℕ → ℕ → List ℕ
-putSuffix out at l v = pick (isSuffix l v) (put out at (suffixText l v)) out
+putSuffix out at l v = pick (isSuffix mostBits l v) (put out at (suffixText l v)) out
 
 -- the answer of that: a number out of its limits is refusal 2, which comes before 7
 unfoldable pub putSuffixEnd : List ℕ → ℕ → ℕ → ℕ → Written
-putSuffixEnd out at l v = pick (isSuffix l v) (putEnd out at (suffixText l v)) (Refused no2)
+putSuffixEnd out at l v = pick (isSuffix mostBits l v) (putEnd out at (suffixText l v)) (Refused no2)
 
 -- the suffix of at most k bits that a text is, k itself in its limits
 unfoldable pub suffix : ℕ → List ℕ → SuffixRead
@@ -46,7 +46,7 @@ place l v = value 2 (reverse (lowest 2 l v))
 
 -- the answer to a length and a value: the place of the suffix that they are
 unfoldable pub suffixPlace : ℕ → ℕ → Number
-suffixPlace l v = pick (isSuffix l v) (Value (place l v)) NoValue
+suffixPlace l v = pick (isSuffix mostBits l v) (Value (place l v)) NoValue
 
 -- a listing of the tree places of all suffixes of l bits, by their value
 pub record Places (l : ℕ) (ps : List ℕ) : Type 0 where

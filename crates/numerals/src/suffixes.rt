@@ -6,6 +6,7 @@ use crate::limits::MOST_SUFFIXES;
 use crate::refusal::Refusal;
 ghost use mathlib.Core.Path.{_≡_};
 ghost use lib.Seq.{slice};
+ghost use Rattle.numerals.specs.Limits.{mostBits};
 ghost use Rattle.numerals.specs.Suffix.{isSuffix, suffix, putSuffix, putSuffixEnd, suffixPlace};
 
 // The largest value that the bits of a suffix have.
@@ -19,7 +20,7 @@ pub enum SuffixRead {
 
 // The length and the value are those of a suffix.
 fn is_suffix(len: usize, value: usize) -> bool
-    ensures { λ r. ⌜ r ≡ isSuffix len value ⌝ }
+    ensures { λ r. ⌜ r ≡ isSuffix mostBits len value ⌝ }
 {
     if MOST_BITS < len {
         return false;

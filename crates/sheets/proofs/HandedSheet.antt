@@ -9,7 +9,7 @@ use lib.ListN.{length, length-reverse}
 use borrow.Author.Tests.{eq-eqb, lt-ltb, le-leb, lt-leb}
 use Rattle.numerals.specs.Pick.{pick, both}
 use Rattle.numerals.specs.Decimal.{isNumeral, number, decimal}
-use Rattle.numerals.specs.Suffix.{suffix, suffixText}
+use Rattle.numerals.specs.Suffix.{isSuffix, suffix, suffixText}
 use Rattle.numerals.specs.Text.{split}
 use Rattle.numerals.specs.declared.digits.Number.the-variants.{Value, Bad}
 use Rattle.numerals.specs.declared.suffixes.SuffixRead.{SuffixRead}
@@ -154,7 +154,7 @@ module _ (k : ℕ) (some : 1 ≤ k) (few : k ≤ mostBits) where
   line-read :
       (before : List Line) (at : ℕ) (l : Line) → l .rule .value < 2 ^ (l .rule .len)
       → ruleFields k before at (lineRow l) ≡ unless (isLine k l) no2 at (placed before l at (got l))
-  unfolding ruleFields isLine isRule unless
+  unfolding ruleFields isLine isRule isSuffix unless
   line-read before at l small =
       let s = inLimits 1 mostServices (l .service) in
       let m = leb (l .rule .len) k in

@@ -9,7 +9,7 @@ use borrow.Author.Tests.{lt-leb}
 use Rattle.numerals.specs.Digits.{isDigit, allDigits, value, valueFrom, lowest, onValue}
 use Rattle.numerals.specs.Decimal.{noLeadingZero, isNumeral, number, widthIn, width, decimal}
 use Rattle.numerals.specs.Percentage.{fraction, atMostAll, percentOf, percentage}
-use Rattle.numerals.specs.Suffix.{suffix, suffixText}
+use Rattle.numerals.specs.Suffix.{isSuffix, suffix, suffixText}
 use Rattle.numerals.specs.Text.{onto, split}
 use Rattle.numerals.specs.Limits.{unit, textLimit, totalLimit}
 use Rattle.numerals.specs.Refusals.{no1, no2, no4, no5, no8, no9, no10, no11, no12}
@@ -149,7 +149,7 @@ pub record Handed : Type 0 where
   pub before-star : tableHanded 1 0 (1 ∷ 1 ∷ 0 ∷ 1 ∷ 1 ∷ 0 ∷ []) ≡ refused no1 0
 
 pub all-handed : Handed
-unfolding tableHanded handedText headText linesHanded brokenText brokenFrom linesFrom linesText lineText checkSheet checkEnd checkLines isLine isRule inLimits placed inOrder countOf ownRules closed totalLimit textLimit unless then decimal width widthIn suffixText lowest
+unfolding tableHanded handedText headText linesHanded brokenText brokenFrom linesFrom linesText lineText checkSheet checkEnd checkLines isLine isRule isSuffix inLimits placed inOrder countOf ownRules closed totalLimit textLimit unless then decimal width widthIn suffixText lowest
 all-handed =
     record {
       accepted = refl;

@@ -16,6 +16,7 @@ use Rattle.sheets.specs.Reading.{got, then, unless}
 use Rattle.sheets.specs.RuleSheet.{Table, countOf, inOrder, placed, closed, isLine, checkLines, checkEnd, checkSheet}
 use Rattle.sheets.specs.Inner.Premises.{checkTable}
 use Rattle.numerals.specs.Limits.{mostBits, mostBackends, mostServices, mostRules, mostCapacity, totalLimit}
+use Rattle.numerals.specs.Suffix.{isSuffix}
 use Rattle.sheets.proofs.Readings.{got-same, unless-got, then-got}
 
 -- a number in its limits
@@ -41,7 +42,7 @@ pub record Formed (k : ℕ) (l : Line) : Type 0 where
   pub backend : l .rule .backend ≤ mostBackends
 
 pub formed : (k : ℕ) (l : Line) → isLine k l ≡ true → Formed k l
-unfolding isLine isRule
+unfolding isLine isRule isSuffix
 formed k l h =
     let service = within 1 mostServices (l .service) (both-left (inLimits 1 mostServices (l .service)) _ h) in
     let rest = both-right (inLimits 1 mostServices (l .service)) _ h in
@@ -57,7 +58,7 @@ formed k l h =
     }
 
 pub is-formed : (k : ℕ) (l : Line) → Formed k l → isLine k l ≡ true
-unfolding isLine isRule
+unfolding isLine isRule isSuffix
 is-formed k l f =
     rw (
       is-within 1 mostServices (l .service) (f .numbered) (f .service),

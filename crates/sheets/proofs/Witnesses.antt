@@ -9,7 +9,7 @@ use Rattle.numerals.specs.Digits.{isDigit, allDigits, value, valueFrom, lowest,
 use Rattle.numerals.specs.Decimal.{noLeadingZero, isNumeral, number, width, widthIn, decimal}
 use Rattle.numerals.specs.Percentage.{fraction, atMostAll, percentOf, percentage}
 use Rattle.numerals.specs.Pick.{pick}
-use Rattle.numerals.specs.Suffix.{suffix, suffixText, place}
+use Rattle.numerals.specs.Suffix.{isSuffix, suffix, suffixText, place}
 use Rattle.numerals.specs.Text.{onto, split}
 use Rattle.numerals.specs.Limits.{unit, textLimit, totalLimit}
 use Rattle.numerals.specs.Refusals.{no7}
@@ -85,7 +85,7 @@ unfolding bytes readTable textLimit tableLine firstLine openingLines openingFiel
 sample-accepted = refl
 
 pub sample-checked : checkTable sampleTable ≡ got sampleTable
-unfolding checkTable checkSheet checkEnd checkLines isLine isRule inLimits placed inOrder countOf ownRules closed totalLimit unless then
+unfolding checkTable checkSheet checkEnd checkLines isLine isRule isSuffix inLimits placed inOrder countOf ownRules closed totalLimit unless then
 sample-checked = refl
 
 -- and demand 3 holds of it

@@ -21,7 +21,7 @@ returns : tie.Need-returns
 unfolding suffixPlace
 returns c = rw (sym (c .before .is-suffix .ensures) ∙ not-true (c .before .is-suffix .result) (c .if1 .taken))
 
-passed : (c : tie.Else1) → let a = c .before .before .args in isSuffix (a .len) (a .value) ≡ true
+passed : (c : tie.Else1) → let a = c .before .before .args in isSuffix mostBits (a .len) (a .value) ≡ true
 passed c = sym (c .before .is-suffix .ensures) ∙ not-false (c .before .is-suffix .result) (c .if1 .left)
 
 limits : (c : tie.Else1) → let a = c .before .before .args in Limits (a .len) (a .value)

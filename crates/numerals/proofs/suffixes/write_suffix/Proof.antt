@@ -8,6 +8,7 @@ use native.Mathlib.Omega.{arith}
 use lib.ListN.{length, set, length-set}
 use lib.Seq.{sets}
 use borrow.Author.Tests.{not-true, not-false}
+use Rattle.numerals.specs.Limits.{mostBits}
 use Rattle.numerals.specs.Refusals.{no7}
 use Rattle.numerals.specs.Digits.{lowest}
 use Rattle.numerals.specs.Suffix.{isSuffix, suffixText, putSuffix, putSuffixEnd}
@@ -23,16 +24,16 @@ is-suffix-requires c κs = tt
 returns : tie.Need-returns
 unfolding putSuffix putSuffixEnd
 returns c =
-    let bad : isSuffix (c .before .before .before .args .len) (c .before .before .before .args .value) ≡ false =
+    let bad : isSuffix mostBits (c .before .before .before .args .len) (c .before .before .before .args .value) ≡ false =
     sym (c .before .is-suffix .ensures) ∙ not-true (c .before .is-suffix .result) (c .if1 .taken) in
     (rw bad, rw bad)
 
-passed : (c : tie.Else1) → let a = c .before .before .before .args in isSuffix (a .len) (a .value) ≡ true
+passed : (c : tie.Else1) → let a = c .before .before .before .args in isSuffix mostBits (a .len) (a .value) ≡ true
 passed c = sym (c .before .is-suffix .ensures) ∙ not-false (c .before .is-suffix .result) (c .if1 .left)
 
 -- no room: nothing is written
 too-long :
-    (out : List ℕ) (at l v : ℕ) → isSuffix l v ≡ true → length out ≤ at + l
+    (out : List ℕ) (at l v : ℕ) → isSuffix mostBits l v ≡ true → length out ≤ at + l
     → (Refused no7 ≡ putSuffixEnd out at l v) × (out ≡ putSuffix out at l v)
 unfolding putSuffix putSuffixEnd
 too-long out at l v e h =

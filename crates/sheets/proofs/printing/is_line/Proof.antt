@@ -5,6 +5,7 @@ use mathlib.Core.Bool.{true}
 use native.Mathlib.Omega.{arith}
 use borrow.Author.Tests.{lt-ltb, le-ltb, le-leb, lt-leb}
 use Rattle.numerals.specs.Limits.{mostServices}
+use Rattle.numerals.specs.Suffix.{isSuffix}
 use Rattle.numerals.proofs.Powers.{shifted}
 use Rattle.expansion.specs.Answer.{inLimits}
 use Rattle.expansion.specs.FirstMatch.{isRule}
@@ -26,14 +27,14 @@ service : (c : tie.Else2) → inLimits 1 mostServices (c .before .before .args .
 service c = is-within 1 mostServices _ (c .before .if1 .left) (c .if2 .left)
 
 returns-3 : tie.Need-returns-3
-unfolding isLine isRule
+unfolding isLine isRule isSuffix
 returns-3 c = simp (service (c .before), lt-leb _ _ (c .if3 .taken))
 
 shl-all : tie.Need-shl-all
 shl-all c = omega arith
 
 returns-4 : tie.Need-returns-4
-unfolding isLine isRule
+unfolding isLine isRule isSuffix
 returns-4 c =
     let a = c .before .before .before .before .args in
     let over : 2 ^ (a .len) ≤ a .value = omega (arith, shifted (a .len) (omega arith)) in
@@ -41,7 +42,7 @@ returns-4 c =
 
 -- the rule is well-formed
 rule : (c : tie.Else4) → let a = c .before .before .before .before .args in isRule (a .k) (record { len = a .len; value = a .value; backend = a .backend }) ≡ true
-unfolding isRule
+unfolding isRule isSuffix
 rule c =
     let a = c .before .before .before .before .args in
     let under : a .value < 2 ^ (a .len) = omega (arith, shifted (a .len) (omega arith)) in
