@@ -267,7 +267,7 @@ module _ (k tolerance : ℕ) (volumes sizes ws : List ℕ) (s : ℕ) (inside : s
       (f : Rule → ℕ) → f noRule ≡ 0 → (l : List ℕ)
       → Column l s (map f (reverse (listMade k tolerance mostRules (part sizes ws s)))) → (j : ℕ)
       → j < length (listFor (servicesOf k volumes sizes ws) tolerance s)
-      → getD l (placeOf s (suc j)) 0 ≡ f (ruleAt (servicesOf k volumes sizes ws) tolerance s j)
+      → getD l (placeOf s (suc j)) 0 ≡ f (ruleAt (listFor (servicesOf k volumes sizes ws) tolerance) s j)
   unfolding ruleAt
   column-of f e l C j h =
       let rs = listMade k tolerance mostRules (part sizes ws s) in

@@ -11,11 +11,13 @@ use Rattle.numerals.specs.Pick.{pick}
 use Rattle.numerals.specs.Sums.{sumTo}
 use Rattle.numerals.specs.declared.refusal.Refusal.{Refusal}
 use Rattle.numerals.specs.declared.refusal.Refusal.the-variants.{ShortLoan}
+use Rattle.expansion.specs.Steps.{Frame}
+use Rattle.expansion.specs.declared.rule.Rule.{Rule}
 use Rattle.expansion.specs.declared.call.Checked.the-variants.{Sound as Passed, Refused as Failed}
 use Rattle.numerals.proofs.Sums.{sum-ext}
-use Rattle.packing.specs.Grants.{total}
+use Rattle.packing.specs.Grants.{Grants, total}
 use Rattle.packing.specs.Count.{services, volume}
-use Rattle.packing.specs.Table.{problem, granted, oneEach}
+use Rattle.packing.specs.Table.{frameOf, listFor, table, problem, granted, oneEach}
 use Rattle.packing.specs.Answer.{numbered, servicesOf, checkAll, linesMade, packedOf, figuresOf, cellsOf, Demanded, noBuffer, figuresBuffer, tableBuffer, written, answer, onMade}
 use Rattle.packing.specs.Inner.Lists.{places, Listed, Granted}
 use Rattle.packing.specs.Inner.Stored.{storedTotal, storedLines, storedFigures, storedTable, held, AllPayable, Started, Allotted, Counted, Writable}
@@ -24,7 +26,7 @@ use Rattle.packing.specs.declared.answer.Packing.{Packing}
 use Rattle.packing.specs.declared.answer.Packing.the-variants.{Made, Refused}
 use Rattle.packing.proofs.Demand.{granted-fitting, one-fits, demand}
 use Rattle.packing.proofs.Checks.{Accepted, balanced, volume-le}
-use Rattle.packing.proofs.StoredCosts.{granted-kept, total-kept, all-payable, all-started}
+use Rattle.packing.proofs.StoredCosts.{granted-kept, total-kept, all-payable, all-started, stair-low, stair-down}
 use Rattle.packing.proofs.Written.{table-kept, lines-kept, lines-le, figures-kept, counted}
 
 -- what holds of the table holds of an answer that it was made
@@ -73,12 +75,14 @@ pub record Outcome (k tolerance capacity : ℕ) (volumes sizes ws lens values ba
 
 module _ (k tolerance capacity : ℕ) (volumes sizes ws lens values backends stairs counts ends : List ℕ)
     (A : Accepted k tolerance capacity volumes sizes ws)
-    (L : Listed (servicesOf k volumes sizes ws) tolerance lens values backends stairs counts ends) where
+    (L : let S = servicesOf k volumes sizes ws in
+    Listed (services S) (frameOf S tolerance) (listFor S tolerance) lens values backends stairs counts ends) where
   pub payable : length stairs ≡ places → length counts ≡ mostServices → AllPayable volumes stairs counts
   unfolding numbered services volume
   payable stored room =
-      all-payable (servicesOf k volumes sizes ws) tolerance stairs counts (L .stepped) (balanced A) refl (A .few-bits)
-      (omega (arith, A .few, A .same)) (volume-le A) stored (omega (arith, A .few, A .same))
+      let S = servicesOf k volumes sizes ws in
+      all-payable volumes (frameOf S tolerance) (listFor S tolerance) stairs counts (L .stepped)
+      (stair-low S tolerance (balanced A) refl (A .few-bits)) (omega (arith, A .few, A .same)) (volume-le A) stored (omega (arith, A .few, A .same))
 
   -- grants of one rule each
   pub started :
@@ -86,8 +90,9 @@ module _ (k tolerance capacity : ℕ) (volumes sizes ws lens values backends sta
       → Started volumes stairs counts grants
   unfolding numbered services
   started grants long ones =
-      all-started (servicesOf k volumes sizes ws) tolerance stairs counts (L .stepped) (balanced A) refl (A .few-bits) grants
-      (omega (arith, A .few, A .same)) (λ s l. omega (arith, ones s l))
+      let S = servicesOf k volumes sizes ws in
+      all-started volumes (frameOf S tolerance) (listFor S tolerance) stairs counts (L .stepped) grants
+      (omega (arith, A .few, A .same)) (λ s x l from. stair-down S tolerance (balanced A) s x l (omega (arith, ones s l)))
 
   -- they fit
   pub ones-fit :
@@ -107,20 +112,23 @@ module _ (k tolerance capacity : ℕ) (volumes sizes ws lens values backends sta
       → length stairs ≡ places → length counts ≡ mostServices → length ends ≡ mostServices → length grants ≡ mostServices
       → Allotted (held from) capacity volumes stairs counts grants r
       → Outcome k tolerance capacity volumes sizes ws lens values backends stairs counts ends grants
-  unfolding numbered services packedOf linesMade
-  outcome from grants r ones e f g h i m j G =
+  unfolding numbered services volume problem granted table packedOf linesMade
+  outcome from grants r ones e f b h i m j G =
       let S = servicesOf k volumes sizes ws in
       let few : length volumes ≤ mostServices = omega (arith, A .few, A .same) in
       let room : sumTo (length volumes) oneEach ≤ capacity = one-fits S capacity (omega (arith, A .room, A .same)) in
       let some : 0 < length volumes = omega (arith, A .some, A .same) in
-      let kept : Granted S (granted S tolerance oneEach capacity) grants =
-      granted-kept S tolerance stairs counts (L .stepped) oneEach capacity grants from ones some r G in
+      let frames : ℕ → Frame = frameOf S tolerance in
+      let lists : ℕ → List Rule = listFor S tolerance in
+      let g : Grants = granted S tolerance oneEach capacity in
+      let kept : Granted (length volumes) g grants =
+      granted-kept volumes frames lists stairs counts (L .stepped) oneEach capacity grants from ones some r G in
       let lines : sumTo (length volumes) (storedLines grants counts) ≡ length (linesMade S tolerance capacity) =
-      lines-kept S tolerance lens values backends stairs counts ends L capacity grants kept in
-      let whole : storedTotal volumes stairs counts grants ≡ total (problem S tolerance oneEach capacity) (granted S tolerance oneEach capacity) =
-      total-kept S tolerance stairs counts (L .stepped) oneEach capacity grants kept in
+      lines-kept (length volumes) frames lists lens values backends stairs counts ends L g grants kept in
+      let whole : storedTotal volumes stairs counts grants ≡ total (problem S tolerance oneEach capacity) g =
+      total-kept volumes frames lists stairs counts (L .stepped) oneEach capacity grants g kept in
       let C : Counted (length volumes) grants counts =
-      counted S tolerance lens values backends stairs counts ends L grants few (omega arith) (omega arith) in
+      counted (length volumes) frames lists lens values backends stairs counts ends L grants few (omega arith) (omega arith) in
       record {
         payable = payable h i;
         counted = C;
@@ -128,16 +136,16 @@ module _ (k tolerance capacity : ℕ) (volumes sizes ws lens values backends sta
           little = omega (
             arith,
             p,
-            lines-le S tolerance lens values backends stairs counts ends L capacity grants kept,
+            lines-le (length volumes) frames lists lens values backends stairs counts ends L g grants kept,
             granted-fitting S tolerance oneEach capacity room .room,
             A .little-room,
           );
           counted = C;
           ended = omega arith;
-          tabled = λ n l. record { counted = C; all-lens = e; all-values = f; all-backends = g; fits = omega (arith, p) };
+          tabled = λ n l. record { counted = C; all-lens = e; all-values = f; all-backends = b; fits = omega (arith, p) };
         };
         figures = figures-kept S tolerance lens values backends stairs counts ends L capacity grants kept;
-        table = table-kept S tolerance lens values backends stairs counts ends L capacity grants kept;
+        table = table-kept (length volumes) frames lists lens values backends stairs counts ends L g grants kept;
         made = λ r t p q. ap₂ (λ (r t : ℕ). record { rules = r; total = t }) (p ∙ lines) (q ∙ whole);
         demand = λ t p. rw (p ∙ whole) (demand S tolerance (balanced A) oneEach capacity (λ s l. omega arith) room);
       }

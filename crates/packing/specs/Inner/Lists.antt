@@ -7,9 +7,9 @@ use Rattle.numerals.specs.Limits.{mostServices, mostRules}
 use Rattle.expansion.specs.Answer.{checkCall}
 use Rattle.expansion.specs.declared.call.Checked.the-variants.{Sound as Passed}
 use Rattle.expansion.specs.Inner.Lists.{noRule}
-use Rattle.expansion.specs.Steps.{endOf, stair}
+use Rattle.expansion.specs.Steps.{Frame, endOf, stair}
 use Rattle.packing.specs.Grants.{Grants}
-use Rattle.packing.specs.Count.{Services, services}
+use Rattle.packing.specs.Count.{services}
 use Rattle.packing.specs.Table.{ruleBudget, frameOf, listFor}
 use Rattle.packing.specs.Answer.{servicesOf, endNumber}
 use Rattle.expansion.specs.declared.rule.Rule.{Rule}
@@ -27,36 +27,29 @@ abbrev pub placeOf : ℕ → ℕ → ℕ
 placeOf s c = stride * s + c
 
 -- rule j of the list of service s, the oldest being 0
-unfoldable pub ruleAt : Services → ℕ → ℕ → ℕ → Rule
-ruleAt S tolerance s j = getD (reverse (listFor S tolerance s)) j noRule
+unfoldable pub ruleAt : (ℕ → List Rule) → ℕ → ℕ → Rule
+ruleAt lists s j = getD (reverse (lists s)) j noRule
 
--- the numbers of rules of all services, and their stairs, that before any rule too
-pub record Stepped (S : Services) (tolerance : ℕ) (stairs counts : List ℕ) : Type 0 where
-  pub count : (s : ℕ) → s < services S → getD counts s 0 ≡ length (listFor S tolerance s)
-  pub few : (s : ℕ) → s < services S → length (listFor S tolerance s) ≤ mostRules
-  pub step :
-      (s c : ℕ) → s < services S → c ≤ length (listFor S tolerance s)
-      → getD stairs (placeOf s c) 0 ≡ stair (frameOf S tolerance s) c (listFor S tolerance s)
+-- the numbers of rules of n services, by any frames and lists, and their stairs, that before any rule too
+pub record Stepped (n : ℕ) (frames : ℕ → Frame) (lists : ℕ → List Rule) (stairs counts : List ℕ) : Type 0 where
+  pub count : (s : ℕ) → s < n → getD counts s 0 ≡ length (lists s)
+  pub few : (s : ℕ) → s < n → length (lists s) ≤ mostRules
+  pub step : (s c : ℕ) → s < n → c ≤ length (lists s) → getD stairs (placeOf s c) 0 ≡ stair (frames s) c (lists s)
 
 -- their rules and ends too
-pub record Listed (S : Services) (tolerance : ℕ) (lens values backends stairs counts ends : List ℕ) : Type 0 where
-  pub stepped : Stepped S tolerance stairs counts
-  pub ended : (s : ℕ) → s < services S → getD ends s 0 ≡ endNumber (endOf (frameOf S tolerance s) (listFor S tolerance s))
-  pub len :
-      (s j : ℕ) → s < services S → j < length (listFor S tolerance s)
-      → getD lens (placeOf s (suc j)) 0 ≡ ruleAt S tolerance s j .len
-  pub value :
-      (s j : ℕ) → s < services S → j < length (listFor S tolerance s)
-      → getD values (placeOf s (suc j)) 0 ≡ ruleAt S tolerance s j .value
-  pub backend :
-      (s j : ℕ) → s < services S → j < length (listFor S tolerance s)
-      → getD backends (placeOf s (suc j)) 0 ≡ ruleAt S tolerance s j .backend
+pub record Listed (n : ℕ) (frames : ℕ → Frame) (lists : ℕ → List Rule) (lens values backends stairs counts ends : List ℕ) : Type 0 where
+  pub stepped : Stepped n frames lists stairs counts
+  pub ended : (s : ℕ) → s < n → getD ends s 0 ≡ endNumber (endOf (frames s) (lists s))
+  pub len : (s j : ℕ) → s < n → j < length (lists s) → getD lens (placeOf s (suc j)) 0 ≡ ruleAt lists s j .len
+  pub value : (s j : ℕ) → s < n → j < length (lists s) → getD values (placeOf s (suc j)) 0 ≡ ruleAt lists s j .value
+  pub backend : (s j : ℕ) → s < n → j < length (lists s) → getD backends (placeOf s (suc j)) 0 ≡ ruleAt lists s j .backend
 
--- the lists of the first n services: no list looks at a volume
+-- the lists of the first n services by the frames of document 01: no list looks at a volume
 abbrev pub ListedTo : ℕ → ℕ → List ℕ → List ℕ → ℕ → List ℕ → List ℕ → List ℕ → List ℕ → List ℕ → List ℕ → Type 0
 ListedTo k tolerance sizes ws n lens values backends stairs counts ends =
     (volumes : List ℕ) → length volumes ≡ n
-    → Listed (servicesOf k volumes sizes ws) tolerance lens values backends stairs counts ends
+    → let S = servicesOf k volumes sizes ws in
+    Listed (services S) (frameOf S tolerance) (listFor S tolerance) lens values backends stairs counts ends
 
 -- where the weights of service s begin: after those of the services before it
 unfoldable pub start : List ℕ → ℕ → ℕ
@@ -71,6 +64,6 @@ pub record Sized (k tolerance : ℕ) (sizes ws : List ℕ) : Type 0 where
   pub sound :
       (s : ℕ) → s < length sizes → checkCall k tolerance ruleBudget (take (getD sizes s 0) (drop (start sizes s) ws)) ≡ Passed
 
--- grants kept in a listing
-pub record Granted (S : Services) (g : Grants) (grants : List ℕ) : Type 0 where
-  pub grant : (s : ℕ) → s < services S → getD grants s 0 ≡ g s
+-- the grants of n services kept in a listing
+pub record Granted (n : ℕ) (g : Grants) (grants : List ℕ) : Type 0 where
+  pub grant : (s : ℕ) → s < n → getD grants s 0 ≡ g s

@@ -5,6 +5,8 @@ use native.Mathlib.Omega.{arith}
 use lib.ListN.{length, getD, replicate, getD-replicate}
 use Rattle.numerals.specs.Limits.{mostServices}
 use Rattle.expansion.specs.declared.call.Checked.the-variants.{Sound as Passed}
+use Rattle.packing.specs.Count.{services}
+use Rattle.packing.specs.Table.{frameOf, listFor}
 use Rattle.packing.specs.Answer.{servicesOf, checkAll}
 use Rattle.packing.specs.Inner.Lists.{Listed}
 use Rattle.packing.proofs.Checks.{Accepted, all-passed, sized}
@@ -76,7 +78,8 @@ listed :
     (c : tie.After-make-lists)
     → let a = c .before .before .before .before .before .before .before .before .before .before .before .before .before .before .before .args in
     let m = c .make-lists in
-    Listed (servicesOf (a .k) (a .volumes .now) (a .sizes .now) (a .weights .now)) (a .tolerance)
+    let S = servicesOf (a .k) (a .volumes .now) (a .sizes .now) (a .weights .now) in
+    Listed (services S) (frameOf S (a .tolerance)) (listFor S (a .tolerance))
     (m .last .1 .1 .1 .1 .0) (m .last .1 .1 .1 .1 .1 .0) (m .last .1 .1 .1 .1 .1 .1 .0)
     (m .last .1 .1 .1 .1 .1 .1 .1 .0) (m .last .1 .1 .1 .1 .1 .1 .1 .1 .0) (m .last .1 .1 .1 .1 .1 .1 .1 .1 .1 .0)
 listed c = c .make-lists .ensures (c .before .before .before .before .before .before .before .before .before .before .before .before .before .before .before .args .volumes .now) (accepted (c .before .before .before .before .before .before .before) .same)
