@@ -1,4 +1,5 @@
--- A ledger in memory, a row of entries: while a proof walks code, an entry is read and written where it lies. These are the steps of `denote.Index` at the laws of `Backend`, which owns nothing but facts.
+-- A ledger in memory, a row of entries: while a proof walks code, an entry is read and written where it lies. These are the steps of `denote.Index`
+-- at the laws of `Backend`, which owns nothing but facts.
 --     val e            the machine value of the entry e.        Fit e        its numbers fit their widths
 --     entries es b o   the entries es in memory, in the block b from o on
 --     entry-fits       the entries of a row fit

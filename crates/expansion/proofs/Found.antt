@@ -1,4 +1,5 @@
--- The search of a move, over the holders kept: the node found is the lowest whose suffix the giver holds wholly; the new rule is for that suffix, and the holders go on with it.
+-- The search of a move, over the holders kept: the node found is the lowest whose suffix the giver holds wholly; the new rule is for that suffix, and
+-- the holders go on with it.
 use Prim.Native.Nat.{ℕ, _+_, _-_, _*_, _/_, _^_, _≤_, _<_}
 use mathlib.Core.Bool.{true, false}
 use mathlib.Core.List.{List, _∷_}

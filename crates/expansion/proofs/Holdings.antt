@@ -1,4 +1,5 @@
--- Holders by tree place: a node that the listing has wholly is a suffix held wholly by first match, and the listing goes on saying who holds what as a node moves.
+-- Holders by tree place: a node that the listing has wholly is a suffix held wholly by first match, and the listing goes on saying who holds what as
+-- a node moves.
 use Prim.Native.Nat.{ℕ, zero, suc, _+_, _-_, _*_, _/_, _%_, _^_, _≤_, _<_, min}
 use mathlib.Core.Bool.{Bool, true, false}
 use mathlib.Core.List.{List, [], _∷_}

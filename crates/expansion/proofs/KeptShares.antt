@@ -1,4 +1,5 @@
--- A ledger that keeps the shares of its rules: its errors are the excesses and shortfalls of the definitions, so giver, receiver, imbalance and what comes next are too; and it goes on keeping them as suffixes move.
+-- A ledger that keeps the shares of its rules: its errors are the excesses and shortfalls of the definitions, so giver, receiver, imbalance and what
+-- comes next are too; and it goes on keeping them as suffixes move.
 use Prim.Native.Nat.{ℕ, _+_, _-_, _*_, _^_, _≤_, _<_}
 use mathlib.Core.List.{List}
 use mathlib.Core.Logic.{_≢_}

@@ -1,4 +1,5 @@
--- One turn with a gain: the giver holds a suffix of the term's length wholly, the new rule moves just the term, the imbalance falls by half the reduction, and nothing that is largest grows.
+-- One turn with a gain: the giver holds a suffix of the term's length wholly, the new rule moves just the term, the imbalance falls by half the
+-- reduction, and nothing that is largest grows.
 use Prim.Native.Nat.{ℕ, _+_, _-_, _*_, _%_, _^_, _≤_, _<_, min}
 use mathlib.Core.Bool.{Bool, true, false}
 use mathlib.Core.List.{List, _∷_}

@@ -1,4 +1,5 @@
--- The move that comes next, as the program makes it: its giver, its receiver and its term are those of the definitions, its search finds a place that gives the new rule, and the ledger keeps the shares after it.
+-- The move that comes next, as the program makes it: its giver, its receiver and its term are those of the definitions, its search finds a place that
+-- gives the new rule, and the ledger keeps the shares after it.
 use Prim.Native.Nat.{ℕ, _+_, _-_, _*_, _^_, _≤_, _<_}
 use mathlib.Core.Bool.{Bool, true, false}
 use mathlib.Core.List.{List, _∷_}

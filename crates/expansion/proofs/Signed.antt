@@ -1,4 +1,5 @@
--- Errors are signed in the code. Here each law about them is about their two sides, the excess and the shortfall, which are naturals; and what the machine reads back of a number is the number.
+-- Errors are signed in the code. Here each law about them is about their two sides, the excess and the shortfall, which are naturals; and what the
+-- machine reads back of a number is the number.
 use Prim.Native.Nat.{ℕ, zero, suc, _+_, _-_, _*_, _%_, _^_, _≤_, _<_}
 use mathlib.Core.Bool.{Bool, true, false, cond}
 use mathlib.Core.Path.{_≡_, refl, ap, sym, _∙_}

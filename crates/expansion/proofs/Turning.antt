@@ -1,4 +1,5 @@
--- The run of the program, turn after turn: what it keeps stands as the definitions say at the start and after each move, its list has the rules and the stairs, and where it stops that list is the one of the budget.
+-- The run of the program, turn after turn: what it keeps stands as the definitions say at the start and after each move, its list has the rules and
+-- the stairs, and where it stops that list is the one of the budget.
 use Prim.Native.Nat.{ℕ, suc, _+_, _-_, _^_, _≤_, _<_, min}
 use mathlib.Core.Bool.{Bool, true, false}
 use mathlib.Core.List.{List, [], _∷_}

@@ -1,4 +1,5 @@
--- Error and imbalance (document 01, "Expansion"), of a list of rules against the targets of a service. The unit is one part in unit × 2^k. The error of a backend is share × unit - weight × 2^k; it is kept as its two sides, of which one is 0: the excess above zero and the shortfall below.
+-- Error and imbalance (document 01, "Expansion"), of a list of rules against the targets of a service. The unit is one part in unit × 2^k. The error
+-- of a backend is share × unit - weight × 2^k; it is kept as its two sides, of which one is 0: the excess above zero and the shortfall below.
 use Prim.Native.Nat.{ℕ, _-_, _*_, _^_}
 use mathlib.Core.List.{List}
 use lib.ListN.{length, getD}
@@ -6,7 +7,8 @@ use Rattle.numerals.specs.Sums.{sumTo, argmax}
 use Rattle.expansion.specs.FirstMatch.{share, nobody}
 use Rattle.expansion.specs.declared.rule.Rule.{Rule}
 
--- What the shares of a service are measured against: k suffix bits, and for each backend, by its place from 0, the label that its rules carry and its weight. The weights sum to the unit, which is 1,000,000 in document 01.
+-- What the shares of a service are measured against: k suffix bits, and for each backend, by its place from 0, the label that its rules carry and its
+-- weight. The weights sum to the unit, which is 1,000,000 in document 01.
 pub record Targets : Type 0 where
   pub k : ℕ
   pub unit : ℕ

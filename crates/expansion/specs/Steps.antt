@@ -13,7 +13,8 @@ use Rattle.expansion.specs.declared.rule.Rule.{Rule}
 use Rattle.expansion.specs.declared.rule.Ended.{Ended}
 use Rattle.expansion.specs.declared.rule.Ended.the-variants.{Within, NoGain, Budget}
 
--- One expansion: its targets, the tolerance in parts of the unit, terms of at most 2^cap suffixes, and the rules that it starts from. Document 01 has the cap k - 1 and the one rule `*`.
+-- One expansion: its targets, the tolerance in parts of the unit, terms of at most 2^cap suffixes, and the rules that it starts from. Document 01 has
+-- the cap k - 1 and the one rule `*`.
 pub record Frame : Type 0 where
   pub targets : Targets
   pub tolerance : ℕ

@@ -1,4 +1,5 @@
--- Tree places, for suffixes of every length at once: one bit more at either end, two suffixes joined, and places as a permutation of the 2 ^ l suffixes of l bits.
+-- Tree places, for suffixes of every length at once: one bit more at either end, two suffixes joined, and places as a permutation of the 2 ^ l
+-- suffixes of l bits.
 use mathlib.Core.Path.{_≡_, refl, sym, ap, _∙_}
 use mathlib.Core.List.{List, [], _∷_, reverse, reverse-append}
 use Prim.Native.Nat.{ℕ, zero, suc, _+_, _-_, _*_, _/_, _%_, _^_, _≤_, _<_}

@@ -40,7 +40,8 @@ unfoldable pub onValue : Number → (ℕ → Number) → Number
 onValue (Value v) f = f v
 onValue Bad f = Bad
 
--- a lent buffer after the text bs was to be written into it at a position: where bs fits, its bytes from there on, and nothing else changed; where it doesn't, the buffer as it was
+-- a lent buffer after the text bs was to be written into it at a position: where bs fits, its bytes from there on, and nothing else changed; where it
+-- doesn't, the buffer as it was
 unfoldable pub put : List ℕ → ℕ → List ℕ → List ℕ
 put out at bs = filled (leb (at + length bs) (length out)) out at bs
 

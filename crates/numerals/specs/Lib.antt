@@ -1,4 +1,5 @@
--- What document 01 says of numbers, percentages, suffixes, fields and lines, its limits and its refusals: what a reader must believe. The contracts of inner functions stand in `Inner`.
+-- What document 01 says of numbers, percentages, suffixes, fields and lines, its limits and its refusals: what a reader must believe. The contracts
+-- of inner functions stand in `Inner`.
 pub mod Pick
 pub mod Limits
 pub mod Sums

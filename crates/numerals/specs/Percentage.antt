@@ -1,4 +1,5 @@
--- A percentage (document 01, "Units and limits"): a whole part of 1 to 3 digits without leading zeros and, optionally, a dot and 1 to d digits; at most 100. It stands for a whole number of parts, 10 ^ d of them one percent: with d = 4 they are millionths.
+-- A percentage (document 01, "Units and limits"): a whole part of 1 to 3 digits without leading zeros and, optionally, a dot and 1 to d digits; at
+-- most 100. It stands for a whole number of parts, 10 ^ d of them one percent: with d = 4 they are millionths.
 use Prim.Native.Nat.{ℕ, _+_, _-_, _*_, _^_}
 use mathlib.Core.List.{List, [], _∷_}
 use lib.Dec.{leb, ltb}

@@ -1,4 +1,5 @@
--- Suffixes and tree places (document 01, "Suffixes and tree places"). A suffix is its number of bits and their value: the bits as a number, the last bit lowest.
+-- Suffixes and tree places (document 01, "Suffixes and tree places"). A suffix is its number of bits and their value: the bits as a number, the last
+-- bit lowest.
 use Prim.Native.Nat.{ℕ, _^_, _<_}
 use mathlib.Core.Bool.{Bool}
 use mathlib.Core.List.{List, [], _∷_, reverse}

@@ -1,4 +1,6 @@
--- No allowed grants have a smaller total than the packing's, for falling convex costs. The proof goes by a price for a rule: the greatest saving left at the end. Every rule granted saved at least that price, every next one saves at most that, so for each service cost + rules × price is least at its grant; and the price is zero or all the capacity is spent.
+-- No allowed grants have a smaller total than the packing's, for falling convex costs. The proof goes by a price for a rule: the greatest saving left
+-- at the end. Every rule granted saved at least that price, every next one saves at most that, so for each service cost + rules × price is least at
+-- its grant; and the price is zero or all the capacity is spent.
 use Prim.Native.Nat.{ℕ, suc, _+_, _-_, _*_, _≤_, _<_}
 use mathlib.Core.Path.{_≡_}
 use mathlib.Core.Logic.{inl, inr}

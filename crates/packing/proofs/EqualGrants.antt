@@ -1,4 +1,5 @@
--- The packing looks at the grants of its services only: grants that agree there have the same rules, savings, total and turns. So a program may keep them in a list.
+-- The packing looks at the grants of its services only: grants that agree there have the same rules, savings, total and turns. So a program may keep
+-- them in a list.
 use Prim.Native.Nat.{ℕ, zero, suc, _<_}
 use mathlib.Core.Path.{_≡_, sym, ap, _∙_}
 use mathlib.Core.List.{List}

@@ -1,4 +1,5 @@
--- The tournament: it stays one where the nodes from a replaced key up to the root are filled anew, and the root names the greatest saving, the lowest number if equal.
+-- The tournament: it stays one where the nodes from a replaced key up to the root are filled anew, and the root names the greatest saving, the lowest
+-- number if equal.
 use Prim.Native.Nat.{ℕ, zero, suc, _+_, _-_, _*_, _/_, _%_, _≤_, _<_, max}
 use mathlib.Core.Path.{_≡_, refl, sym, ap, ap₂, _∙_}
 use mathlib.Core.List.{List}

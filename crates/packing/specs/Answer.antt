@@ -1,4 +1,5 @@
--- The packing as a call (document 01, "Packing" and "Turned-back work"): what it checks, in the order of the sheet that would hold its numbers, what it answers, and what it writes.
+-- The packing as a call (document 01, "Packing" and "Turned-back work"): what it checks, in the order of the sheet that would hold its numbers, what
+-- it answers, and what it writes.
 use Prim.Native.Nat.{ℕ, zero, suc, _*_}
 use mathlib.Core.Bool.{Bool, true, false}
 use mathlib.Core.List.{List, [], _∷_, _++_, map}
@@ -41,7 +42,8 @@ numbered k volumes weights =
 abbrev pub servicesOf : ℕ → List ℕ → List ℕ → List ℕ → Services
 servicesOf k volumes sizes ws = numbered k volumes (chunks sizes ws)
 
--- the line of one service, whose weights are the first `size` of the row: the field count (no weight is 1, a 33rd is 4, and a row that has not so many is 1), then the volume, the weights and their sum
+-- the line of one service, whose weights are the first `size` of the row: the field count (no weight is 1, a 33rd is 4, and a row that has not so
+-- many is 1), then the volume, the weights and their sum
 unfoldable pub checkService : ℕ → ℕ → List ℕ → Checked
 checkService volume size ws =
     andThen (orElse (ltb 0 size) no1)
@@ -50,7 +52,8 @@ checkService volume size ws =
     (andThen (orElse (leb volume mostVolume) no2)
     (checkWeights (take size ws)))))
 
--- the lines of the services from s on, each with its volume and its size: a 65th is 4, one that lacks either has too few fields, and weights left over stand on no service's line
+-- the lines of the services from s on, each with its volume and its size: a 65th is 4, one that lacks either has too few fields, and weights left
+-- over stand on no service's line
 unfoldable pub checkFrom : ℕ → List ℕ → List ℕ → List ℕ → Checked
 checkFrom s [] [] ws = orElse (eqb (length ws) 0) no1
 checkFrom s [] (n ∷ ns) ws = andThen (orElse (ltb s mostServices) no4) (Failed no1)

@@ -1,4 +1,5 @@
--- The count by first match over the lines of a table (document 01, under that heading). It is fed the k, the volumes and the weights of the percentage sheet, and lines, and sees no share, stair or total that the program keeps.
+-- The count by first match over the lines of a table (document 01, under that heading). It is fed the k, the volumes and the weights of the
+-- percentage sheet, and lines, and sees no share, stair or total that the program keeps.
 use Prim.Native.Nat.{ℕ, suc, _*_}
 use mathlib.Core.List.{List, [], _∷_}
 use lib.Dec.{eqb}
@@ -13,7 +14,8 @@ pub record Line : Type 0 where
   pub service : ℕ
   pub rule : Rule
 
--- What the count is fed: k, the unit (1,000,000 in document 01), and the volume and the weights of each service, with the label of each weight's backend. The service at place s has the number s + 1.
+-- What the count is fed: k, the unit (1,000,000 in document 01), and the volume and the weights of each service, with the label of each weight's
+-- backend. The service at place s has the number s + 1.
 pub record Services : Type 0 where
   pub k : ℕ
   pub unit : ℕ

@@ -1,4 +1,5 @@
--- Demand 2 over the numbers that the calls are lent: what `write_table` accepts reads back to the same numbers, and what `read_table` accepts is what `write_table` writes of its numbers.
+-- Demand 2 over the numbers that the calls are lent: what `write_table` accepts reads back to the same numbers, and what `read_table` accepts is what
+-- `write_table` writes of its numbers.
 use Prim.Native.Nat.{ℕ, _*_}
 use mathlib.Core.Path.{_≡_, refl, sym, ap, _∙_}
 use mathlib.Core.List.{List, [], _∷_}

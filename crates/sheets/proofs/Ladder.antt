@@ -1,4 +1,5 @@
--- The lines of a table in the order of the rule sheet. A ladder is a list of rules that doesn't lengthen and ends in its only `*`; the ladders of one service after the other make lines in order.
+-- The lines of a table in the order of the rule sheet. A ladder is a list of rules that doesn't lengthen and ends in its only `*`; the ladders of one
+-- service after the other make lines in order.
 use Prim.Native.Nat.{ℕ, zero, suc, _+_, _≤_, _<_}
 use mathlib.Core.Path.{_≡_, refl, _∙_}
 use mathlib.Core.Bool.{true}

@@ -1,4 +1,5 @@
--- From the one call to the rule sheet: what its answers tell of the sheet, that its buffers are long enough, that the numbers it leaves are the sheet's table, and that demand 3 holds of what is printed.
+-- From the one call to the rule sheet: what its answers tell of the sheet, that its buffers are long enough, that the numbers it leaves are the
+-- sheet's table, and that demand 3 holds of what is printed.
 use Prim.Native.Nat.{ℕ, _+_, _*_, _≤_}
 use mathlib.Core.Path.{_≡_, refl, sym, ap, subst, _∙_}
 use mathlib.Core.Bool.{Bool, true, false}

@@ -1,4 +1,5 @@
--- Lines that each passed behind those before them, the last first, as a reader has them: at most 32 of a service and 2,048 in all; and a text that was read is a table that passes the checks.
+-- Lines that each passed behind those before them, the last first, as a reader has them: at most 32 of a service and 2,048 in all; and a text that
+-- was read is a table that passes the checks.
 use Prim.Native.Nat.{ℕ, suc, _+_, _-_, _≤_}
 use mathlib.Core.Path.{_≡_, refl, sym, ap}
 use mathlib.Core.List.{List, [], _∷_, reverse, reverseAux, reverse-reverse}

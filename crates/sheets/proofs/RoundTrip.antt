@@ -1,4 +1,5 @@
--- The rule sheet's text and its table: a proper table's text reads back as that table, and a text that is read as a table is the text of that table, byte for byte.
+-- The rule sheet's text and its table: a proper table's text reads back as that table, and a text that is read as a table is the text of that table,
+-- byte for byte.
 use Prim.Native.Nat.{ℕ, _+_, _*_, _≤_}
 use mathlib.Core.Path.{_≡_, refl, sym, ap, ap₂, _∙_}
 use mathlib.Core.List.{List, [], _∷_, reverse, reverseAux, reverse-reverse}

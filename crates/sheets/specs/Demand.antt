@@ -1,4 +1,5 @@
--- Demand 3, over the text of a percentage sheet and the bytes that were printed for it. It speaks of the printed lines alone: the rule sheet's own definition reads them.
+-- Demand 3, over the text of a percentage sheet and the bytes that were printed for it. It speaks of the printed lines alone: the rule sheet's own
+-- definition reads them.
 use Prim.Native.Nat.{ℕ}
 use mathlib.Core.Path.{_≡_}
 use mathlib.Core.List.{List}

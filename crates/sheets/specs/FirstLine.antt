@@ -1,4 +1,5 @@
--- Line 1 of both sheets (document 01, "Percentage sheet" and "Rule sheet and program"): a word, k, and two fields with a form of their own. The length of the whole text comes before it.
+-- Line 1 of both sheets (document 01, "Percentage sheet" and "Rule sheet and program"): a word, k, and two fields with a form of their own. The
+-- length of the whole text comes before it.
 use Prim.Native.Nat.{ℕ}
 use mathlib.Core.List.{List, [], _∷_}
 use lib.Dec.{leb, eqb}

@@ -1,4 +1,6 @@
--- What document 01 says of the percentage sheet, the rule sheet, lookup, churn and the count of shares. `specs/` is what a reader must believe: the definitions that the public contracts cite, and the worked cases, in files named so. `specs/Inner/` has the contracts of inner functions, which are proved against these.
+-- What document 01 says of the percentage sheet, the rule sheet, lookup, churn and the count of shares. `specs/` is what a reader must believe: the
+-- definitions that the public contracts cite, and the worked cases, in files named so. `specs/Inner/` has the contracts of inner functions, which are
+-- proved against these.
 pub mod Reading
 pub mod FirstLine
 pub mod PercentageSheet

@@ -53,7 +53,8 @@ onSuffix Bad line f = refused no2 line
 unfoldable pub countOf : ℕ → List Line → ℕ
 countOf n ls = length (ownRules n ls)
 
--- a line behind these, the last of them first, keeps the order: services ascending, each ending in its only `*`, and the suffix doesn't lengthen within a service
+-- a line behind these, the last of them first, keeps the order: services ascending, each ending in its only `*`, and the suffix doesn't lengthen
+-- within a service
 unfoldable pub inOrder : List Line → Line → Bool
 inOrder [] l = true
 inOrder (p ∷ ps) l =

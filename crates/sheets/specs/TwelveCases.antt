@@ -17,7 +17,8 @@ use Rattle.sheets.specs.PercentageSheet.{Sheet, readSheet}
 use Rattle.sheets.specs.Calls.{servicesIn, sheetText}
 use Rattle.sheets.specs.Cases.{bytes}
 
--- a list of rules with its end and stairs; such a list and what excess and shortfall it leaves; a percentage sheet, the grants of its services and its rule sheet; the place of a suffix; a percentage, or its refusal in a field of line 1
+-- a list of rules with its end and stairs; such a list and what excess and shortfall it leaves; a percentage sheet, the grants of its services and
+-- its rule sheet; the place of a suffix; a percentage, or its refusal in a field of line 1
 pub data Figure : Type 0 where
   makes : Worked → Figure
   leaves : Worked → ℕ → ℕ → Figure

@@ -21,7 +21,8 @@ heldBy holder size b j = allTo size (λ i. eqb (getD holder (j * size + i) 0) b)
 unfoldable pub lowestHeld : List ℕ → ℕ → ℕ → ℕ → ℕ → ℕ
 lowestHeld holder size b from n = from + firstTo (n - from) (λ j. heldBy holder size b (from + j))
 
--- which backend, by its place in the weights, holds the k-bit suffix of each tree place after the rules rs; and for each backend a tree place below which it holds none
+-- which backend, by its place in the weights, holds the k-bit suffix of each tree place after the rules rs; and for each backend a tree place below
+-- which it holds none
 pub record Holds (T : Targets) (rs : List Rule) (holder low : List ℕ) : Type 0 where
   pub known : (p : ℕ) → p < 2 ^ (T .k) → getD holder p 0 < backends T
   pub holders : (p : ℕ) → p < 2 ^ (T .k) → gives rs (place (T .k) p) (label T (getD holder p 0)) ≡ true

@@ -1,4 +1,5 @@
--- What a frame has to have, so that the theorems on its expansion hold. The frame of document 01 has it where k and the unit are above 0, its weights sum to the unit and its labels differ.
+-- What a frame has to have, so that the theorems on its expansion hold. The frame of document 01 has it where k and the unit are above 0, its weights
+-- sum to the unit and its labels differ.
 use Prim.Native.Nat.{ℕ, _-_, _^_, _≤_, _<_}
 use mathlib.Core.Bool.{true}
 use mathlib.Core.List.{List, [], _∷_}

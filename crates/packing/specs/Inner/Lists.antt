@@ -1,4 +1,5 @@
--- The lists of all services as the program stores them, and how that stands to the definitions. Service s has the places from stride * s on: the first is for no rule, the c-th after it for the c-th oldest rule.
+-- The lists of all services as the program stores them, and how that stands to the definitions. Service s has the places from stride * s on: the
+-- first is for no rule, the c-th after it for the c-th oldest rule.
 use Prim.Native.Nat.{ℕ, zero, suc, _+_, _*_, _≤_, _<_}
 use mathlib.Core.Path.{_≡_}
 use mathlib.Core.List.{List, [], _∷_, reverse}

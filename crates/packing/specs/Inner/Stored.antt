@@ -1,4 +1,5 @@
--- The packing read off the stored lists, place by place: costs and savings by the stairs, the total of the grants, the number of lines, the figures and the cells of the table. `proofs/StoredCosts.antt` and `proofs/Written.antt` show that they are those of document 01 where the lists are.
+-- The packing read off the stored lists, place by place: costs and savings by the stairs, the total of the grants, the number of lines, the figures
+-- and the cells of the table. `proofs/StoredCosts.antt` and `proofs/Written.antt` show that they are those of document 01 where the lists are.
 use Prim.Native.Nat.{ℕ, zero, suc, _+_, _-_, _*_, _^_, _≤_, _<_, min}
 use mathlib.Core.Path.{_≡_}
 use mathlib.Core.List.{List, [], _∷_, _++_}

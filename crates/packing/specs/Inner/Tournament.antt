@@ -1,4 +1,5 @@
--- The tournament that the program keeps to find the greatest saving: a tree with a key for each service in its leaves, the places from `leaves` on. `proofs/Winner.antt` shows that its root, node 1, names the service that document 01 asks for.
+-- The tournament that the program keeps to find the greatest saving: a tree with a key for each service in its leaves, the places from `leaves` on.
+-- `proofs/Winner.antt` shows that its root, node 1, names the service that document 01 asks for.
 use Prim.Native.Nat.{ℕ, _+_, _-_, _*_, _≤_, _<_, max}
 use mathlib.Core.Path.{_≡_}
 use mathlib.Core.List.{List}

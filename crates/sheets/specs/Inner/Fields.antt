@@ -13,7 +13,8 @@ linesAt s from = split 10 (slice from (length s) s)
 abbrev pub fieldsAt : List ℕ → ℕ → ℕ → List (List ℕ)
 fieldsAt s from to = split 32 (slice from to s)
 
--- the part from a to b of a text is field n, from 0, of the line between two positions, and nothing if the line has no such field; from a on stand this field and those behind it
+-- the part from a to b of a text is field n, from 0, of the line between two positions, and nothing if the line has no such field; from a on stand
+-- this field and those behind it
 pub record IsField (s : List ℕ) (from to n a b : ℕ) : Type 0 where
   pub after : from ≤ a
   pub order : a ≤ b

@@ -1,4 +1,5 @@
--- `holders::lowest_whole` meets its contract. The outer loop's invariant: no node passed is the giver's. The inner one's: the giver holds the node's suffixes from `left` on, and an even number of them is left.
+-- `holders::lowest_whole` meets its contract. The outer loop's invariant: no node passed is the giver's. The inner one's: the giver holds the node's
+-- suffixes from `left` on, and an even number of them is left.
 use Prim.Native.Nat.{ℕ, _+_, _-_, _*_, _%_, _≤_, _<_}
 use mathlib.Core.Bool.{false}
 use mathlib.Core.Logic.{_≢_}

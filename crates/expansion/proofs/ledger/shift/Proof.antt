@@ -1,5 +1,7 @@
--- `ledger::shift`: a walk of its MIR, by hand. The lent ledger is opened once; both entries are read, changed by calls of `changed`, and stored; and it is closed at the ledger with both changed.
--- Of `changed` the walk knows the contract alone (`Changes.antt`). How an entry is read and stored is in `Entries.antt`, and the short names of steps are in `Walk.antt`.
+-- `ledger::shift`: a walk of its MIR, by hand. The lent ledger is opened once; both entries are read, changed by calls of `changed`, and stored; and
+-- it is closed at the ledger with both changed.
+-- Of `changed` the walk knows the contract alone (`Changes.antt`). How an entry is read and stored is in `Entries.antt`, and the short names of steps
+-- are in `Walk.antt`.
 use mathlib.Core.Path.{_≡_, refl, sym, _∙_, subst}
 use Prim.Native.Nat.{ℕ, _*_, _<_, _^_}
 use native.Mathlib.Omega.{arith}

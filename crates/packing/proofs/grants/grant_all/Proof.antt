@@ -1,4 +1,5 @@
--- `grants::grant_all` meets its contract. The loop's invariant: the grants are those of some turn of the run, `rules` is their sum, and the tournament has the services with their savings.
+-- `grants::grant_all` meets its contract. The loop's invariant: the grants are those of some turn of the run, `rules` is their sum, and the
+-- tournament has the services with their savings.
 -- Assumes nothing.
 use Prim.Native.Nat.{_-_, _%_, _≤_, _<_}
 use mathlib.Core.Path.{_≡_, refl}

@@ -1,4 +1,5 @@
--- `percentage_sheet::read_services` meets its contract. The invariant: the memory holds the services read so far, and they stand before what is read from `start` on.
+-- `percentage_sheet::read_services` meets its contract. The invariant: the memory holds the services read so far, and they stand before what is read
+-- from `start` on.
 use Prim.Native.Nat.{ℕ, _-_, _≤_}
 use mathlib.Core.Path.{_≡_, refl, sym, ap, _∙_}
 use mathlib.Core.List.{List, [], _∷_, _++_}
