@@ -77,8 +77,12 @@ AllRight [] = Unit {0}
 AllRight (c ∷ cs) = (lookupSays (bytes (c .first)) (bytes (c .service)) (bytes (c .address)) ≡ c .said) × AllRight cs
 
 pub right : AllRight cases
-unfolding lookupSays onNumber numeral addressOf orElse quad byte lookupText lookedText numberText refusedText refusal numberOf decimal width widthIn lowest onValue lookupAnswer lookupIn hasService firstMatch ownRules matches bytes readTable textLimit tableLine firstLine openingLines openingFields wholeTable closed ruleLines ruleFields placed inOrder countOf onSuffix totalLimit same onField unless then number isNumeral noLeadingZero allDigits isDigit value valueFrom suffix split onto
-right = (refl, (refl, (refl, (refl, (refl, (refl, (refl, (refl, (refl, (refl, (refl, (refl, (refl, (refl, (refl, (refl, (refl, (refl, (refl, tt)))))))))))))))))))
+unfolding lookupSays onNumber numeral addressOf orElse quad byte lookupText lookedText numberText refusedText refusal numberOf decimal width
+    widthIn lowest onValue lookupAnswer lookupIn hasService firstMatch ownRules matches bytes readTable textLimit tableLine firstLine
+    openingLines openingFields wholeTable closed ruleLines ruleFields placed inOrder countOf onSuffix totalLimit same onField unless then
+    number isNumeral noLeadingZero allDigits isDigit value valueFrom suffix split onto
+right =
+    (refl, (refl, (refl, (refl, (refl, (refl, (refl, (refl, (refl, (refl, (refl, (refl, (refl, (refl, (refl, (refl, (refl, (refl, (refl, tt)))))))))))))))))))
 
 -- Churn: what moved, and the sheet that a refusal is about.
 
@@ -94,5 +98,8 @@ pub record Churns : Type 0 where
   pub no-number : churns cut cut "-1" ≡ noNumber 3
 
 pub all-churns : Churns
-unfolding churnSays onNumber numeral churnedText numberText refusedOfText refusal numberOf decimal width widthIn lowest churnAnswer churnOf moved sumTo countTo hasService firstMatch ownRules matches bytes readTable textLimit tableLine firstLine openingLines openingFields wholeTable closed ruleLines ruleFields placed inOrder countOf onSuffix totalLimit same onField unless then number isNumeral noLeadingZero allDigits isDigit value valueFrom suffix split onto
+unfolding churnSays onNumber numeral churnedText numberText refusedOfText refusal numberOf decimal width widthIn lowest churnAnswer churnOf moved
+    sumTo countTo hasService firstMatch ownRules matches bytes readTable textLimit tableLine firstLine openingLines openingFields
+    wholeTable closed ruleLines ruleFields placed inOrder countOf onSuffix totalLimit same onField unless then number isNumeral
+    noLeadingZero allDigits isDigit value valueFrom suffix split onto
 all-churns = record { half = refl; none = refl; unknown = refl; depth = refl; second = refl; no-number = refl }

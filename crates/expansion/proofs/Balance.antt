@@ -17,7 +17,9 @@ use Rattle.expansion.proofs.Count.{share-sum}
 pub some-backend : (F : Frame) → Sound F → 0 < backends (F .targets)
 some-backend F S = omega (arith, S .complete 0 .1)
 
-pub has-sum : (F : Frame) → Sound F → (rs : List Rule) → Complete (label (F .targets)) (backends (F .targets)) rs → sumTo (backends (F .targets)) (has (F .targets) rs) ≡ F .targets .unit * 2 ^ (F .targets .k)
+pub has-sum :
+    (F : Frame) → Sound F → (rs : List Rule) → Complete (label (F .targets)) (backends (F .targets)) rs
+    → sumTo (backends (F .targets)) (has (F .targets) rs) ≡ F .targets .unit * 2 ^ (F .targets .k)
 unfolding has
 has-sum F S rs c =
     sum-mul (backends (F .targets)) (λ b. share (F .targets .k) rs (label (F .targets) b)) (F .targets .unit)
@@ -29,7 +31,9 @@ unfolding wants
 wants-sum F S = sum-mul (backends (F .targets)) (weight (F .targets)) (2 ^ (F .targets .k)) ∙ ap (λ (x : ℕ). x * 2 ^ (F .targets .k)) (S .balanced)
 
 -- the imbalance is the sum of the shortfalls too
-pub balance : (F : Frame) → Sound F → (rs : List Rule) → Complete (label (F .targets)) (backends (F .targets)) rs → imbalance (F .targets) rs ≡ sumTo (backends (F .targets)) (shortfall (F .targets) rs)
+pub balance :
+    (F : Frame) → Sound F → (rs : List Rule) → Complete (label (F .targets)) (backends (F .targets)) rs
+    → imbalance (F .targets) rs ≡ sumTo (backends (F .targets)) (shortfall (F .targets) rs)
 unfolding imbalance excess shortfall
 balance F S rs c =
     omega (
@@ -38,7 +42,8 @@ balance F S rs c =
       wants-sum F S,
       sum-add (backends (F .targets)) (has (F .targets) rs) (shortfall (F .targets) rs),
       sum-add (backends (F .targets)) (wants (F .targets)) (excess (F .targets) rs),
-      sum-ext (backends (F .targets)) (λ b. has (F .targets) rs b + shortfall (F .targets) rs b) (λ b. wants (F .targets) b + excess (F .targets) rs b) (λ b l. sides (has (F .targets) rs b) (wants (F .targets) b)),
+      sum-ext (backends (F .targets)) (λ b. has (F .targets) rs b + shortfall (F .targets) rs b) (λ b. wants (F .targets) b + excess (F .targets) rs b)
+          (λ b l. sides (has (F .targets) rs b) (wants (F .targets) b)),
     )
   where
     sides : (x y : ℕ) → x + (y - x) ≡ y + (x - y)
@@ -66,7 +71,9 @@ pub excess-most : (F : Frame) → Sound F → (rs : List Rule) → largestExcess
 unfolding imbalance largestExcess
 excess-most F S rs = sum-at (backends (F .targets)) (excess (F .targets) rs) (giver (F .targets) rs) (giver-lt F S rs)
 
-pub shortfall-most : (F : Frame) → Sound F → (rs : List Rule) → Complete (label (F .targets)) (backends (F .targets)) rs → largestShortfall (F .targets) rs ≤ imbalance (F .targets) rs
+pub shortfall-most :
+    (F : Frame) → Sound F → (rs : List Rule) → Complete (label (F .targets)) (backends (F .targets)) rs
+    → largestShortfall (F .targets) rs ≤ imbalance (F .targets) rs
 unfolding largestShortfall
 shortfall-most F S rs c =
     omega (arith, balance F S rs c, sum-at (backends (F .targets)) (shortfall (F .targets) rs) (receiver (F .targets) rs) (receiver-lt F S rs))
@@ -77,6 +84,7 @@ unfolding imbalance
 excess-none F S rs e = sum-zero (backends (F .targets)) (excess (F .targets) rs) (λ b l. omega (arith, excess-le F S rs b l))
 
 pub shortfall-none :
-    (F : Frame) → Sound F → (rs : List Rule) → Complete (label (F .targets)) (backends (F .targets)) rs → largestShortfall (F .targets) rs ≡ 0 → imbalance (F .targets) rs ≡ 0
+    (F : Frame) → Sound F → (rs : List Rule) → Complete (label (F .targets)) (backends (F .targets)) rs → largestShortfall (F .targets) rs ≡ 0
+    → imbalance (F .targets) rs ≡ 0
 shortfall-none F S rs c e =
     balance F S rs c ∙ sum-zero (backends (F .targets)) (shortfall (F .targets) rs) (λ b l. omega (arith, shortfall-le F S rs b l))

@@ -42,7 +42,9 @@ pub shortfall-bound : (F : Frame) → Sound F → (rs : List Rule) (b : ℕ) →
 unfolding shortfall
 shortfall-bound F S rs b = omega (arith, wants-le F S b)
 
-pub imbalance-bound : (F : Frame) → Sound F → (rs : List Rule) → Complete (label (F .targets)) (backends (F .targets)) rs → imbalance (F .targets) rs ≤ F .targets .unit * 2 ^ (F .targets .k)
+pub imbalance-bound :
+    (F : Frame) → Sound F → (rs : List Rule) → Complete (label (F .targets)) (backends (F .targets)) rs
+    → imbalance (F .targets) rs ≤ F .targets .unit * 2 ^ (F .targets .k)
 unfolding imbalance excess
 imbalance-bound F S rs c =
     omega (arith, has-sum F S rs c, sum-le (backends (F .targets)) (excess (F .targets) rs) (has (F .targets) rs) (λ b l. omega arith))
@@ -50,4 +52,8 @@ imbalance-bound F S rs c =
 pub reduction-bound : (F : Frame) → Sound F → (rs : List Rule) (i : ℕ) → reductionAt F rs i ≤ 2 * (F .targets .unit * 2 ^ (F .targets .k))
 unfolding reductionAt largestShortfall
 reduction-bound F S rs i =
-    omega (arith, reduction-le (largestShortfall (F .targets) rs) (largestExcess (F .targets) rs) (2 ^ i * F .targets .unit), shortfall-bound F S rs (receiver (F .targets) rs))
+    omega (
+      arith,
+      reduction-le (largestShortfall (F .targets) rs) (largestExcess (F .targets) rs) (2 ^ i * F .targets .unit),
+      shortfall-bound F S rs (receiver (F .targets) rs),
+    )

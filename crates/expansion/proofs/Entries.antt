@@ -119,7 +119,8 @@ module _ {M : Type 1} {𝓤 : URA M} {H : Heap 𝓤} {A : Atoms 𝓤} {K : Type 
     go = λ Kt h.
         qed W (‵ (entries es b o) ∷ Γ) ∵ entry-out ! es i b o l (λ g.
         show ! (λ (q : Share). ex 𝓤 (λ (v : Val). sep 𝓤 (H .at q B′.mir b (i * 16 + o) v) (wand 𝓤 (H .at q B′.mir b (i * 16 + o) v) (Kt v)))) fullShare $
-        show ! (λ (v : Val). sep 𝓤 (H .at fullShare B′.mir b (i * 16 + o) v) (wand 𝓤 (H .at fullShare B′.mir b (i * 16 + o) v) (Kt v))) (val (getD es i noBackend)) $
+        show ! (λ (v : Val). sep 𝓤 (H .at fullShare B′.mir b (i * 16 + o) v) (wand 𝓤 (H .at fullShare B′.mir b (i * 16 + o) v) (Kt v)))
+        (val (getD es i noBackend)) $
         frame ! $ assume ! (‵ (cell i b o (getD es i noBackend))) $ entry-in ! es i (getD es i noBackend) b o l g $
         rewrite ! 0 (λ (es′ : List Backend). ‵ (entries es′ b o)) (set-same es i) refl $ by ! h);
   }

@@ -51,7 +51,8 @@ module _ (F : Frame) (S : Sound F) (rs : List Rule) (G : Good F rs) (gain : isNo
       go (yes m) =
           absurd
           (clash (heldBy holder (2 ^ term F rs) (giver (F .targets) rs) (lowestPlace F rs)) lowest-held
-          (subst (λ (n : ℕ). lowestPlace F rs < getD low (giver (F .targets) rs) 0 / n → heldBy holder n (giver (F .targets) rs) (lowestPlace F rs) ≡ false) size
+          (subst (λ (n : ℕ). lowestPlace F rs < getD low (giver (F .targets) rs) 0 / n
+          → heldBy holder n (giver (F .targets) rs) (lowestPlace F rs) ≡ false) size
           (low-not (F .targets) (S .distinct) (termLength F rs) short rs holder low H (giver (F .targets) rs) (lowestPlace F rs) (place-found F S rs G gain))
           m))
       go (no m) = omega arith
@@ -65,12 +66,14 @@ module _ (F : Frame) (S : Sound F) (rs : List Rule) (G : Good F rs) (gain : isNo
 
   pub found-holds : giver (F .targets) rs < length low → receiver (F .targets) rs < length low → (holder′ low′ : List ℕ)
       → Given (lowestPlace F rs * 2 ^ term F rs) (2 ^ term F rs) (receiver (F .targets) rs) holder holder′
-      → low′ ≡ lowered low (giver (F .targets) rs) (receiver (F .targets) rs) (lowestPlace F rs * 2 ^ term F rs) (lowestPlace F rs * 2 ^ term F rs + 2 ^ term F rs)
+      → low′ ≡ lowered low (giver (F .targets) rs) (receiver (F .targets) rs) (lowestPlace F rs * 2 ^ term F rs)
+      (lowestPlace F rs * 2 ^ term F rs + 2 ^ term F rs)
       → Holds (F .targets) (newRule F rs ∷ rs) holder′ low′
   unfolding newRule
   found-holds g r holder′ low′ =
       subst (λ (n : ℕ). Given (lowestPlace F rs * n) n (receiver (F .targets) rs) holder holder′
       → low′ ≡ lowered low (giver (F .targets) rs) (receiver (F .targets) rs) (lowestPlace F rs * n) (lowestPlace F rs * n + n)
       → Holds (F .targets) (newRule F rs ∷ rs) holder′ low′) size
-      (holds-given (F .targets) (S .distinct) (termLength F rs) short rs holder low H (G .short gain) (lowestPlace F rs) (place-found F S rs G gain) (giver (F .targets) rs) (receiver (F .targets) rs)
+      (holds-given (F .targets) (S .distinct) (termLength F rs) short rs holder low H (G .short gain) (lowestPlace F rs) (place-found F S rs G gain)
+      (giver (F .targets) rs) (receiver (F .targets) rs)
       (apart F S rs gain) (receiver-lt F S rs) none-below g r holder′ low′)

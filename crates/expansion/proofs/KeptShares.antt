@@ -16,7 +16,8 @@ use Rattle.expansion.specs.Imbalance.{backends, label, weight, has, want
 use Rattle.expansion.specs.Steps.{isWithin, reduction, reductionAt, term, isNoGain, Frame}
 use Rattle.expansion.specs.Inner.Sound.{Sound}
 use Rattle.numerals.specs.Limits.{mostBits, mostSuffixes, unit}
-use Rattle.expansion.specs.Inner.Ledger.{over, under, Small, noBackend, entryAt, errorAt, entryOf, changedBy, movedOf, Changeable, Movable, largestOf, Keeps}
+use Rattle.expansion.specs.Inner.Ledger.{over, under, Small, noBackend, entryAt, errorAt, entryOf, changedBy, movedOf, Changeable, Movable}
+use Rattle.expansion.specs.Inner.Ledger.{largestOf, Keeps}
 use Rattle.expansion.specs.Inner.Terms.{nextFor, nextOf}
 use Rattle.expansion.specs.declared.rule.Rule.{Rule}
 use Rattle.expansion.specs.declared.rule.Ended.the-variants.{Within, NoGain}
@@ -119,11 +120,14 @@ module _ (F : Frame) (rs : List Rule) (L : Ledger) (K : Keeps (F .targets) rs L)
 
     next-kept : nextOf L (backends (F .targets)) (F .targets .k) (F .tolerance) (F .cap)
         ≡ next unit slack (F .cap) (argmax (λ b. over (errorAt L b)) (backends (F .targets))) (argmax (λ b. under (errorAt L b)) (backends (F .targets)))
-        (over (errorAt L (argmax (λ b. over (errorAt L b)) (backends (F .targets))))) (under (errorAt L (argmax (λ b. under (errorAt L b)) (backends (F .targets)))))
+        (over (errorAt L (argmax (λ b. over (errorAt L b)) (backends (F .targets)))))
+        (under (errorAt L (argmax (λ b. under (errorAt L b)) (backends (F .targets)))))
     unfolding nextOf nextFor largestOf next
     next-kept = refl
 
-    next-defined : next (F .targets .unit) slack (F .cap) (giver (F .targets) rs) (receiver (F .targets) rs) (largestExcess (F .targets) rs) (largestShortfall (F .targets) rs)
+    next-defined :
+        next (F .targets .unit) slack (F .cap) (giver (F .targets) rs) (receiver (F .targets) rs) (largestExcess (F .targets) rs)
+        (largestShortfall (F .targets) rs)
         ≡ nextBy F rs
     unfolding next nextBy moveOf isNoGain term reductionAt
     next-defined = rw (within-is F S rs)
@@ -134,8 +138,10 @@ module _ (F : Frame) (rs : List Rule) (L : Ledger) (K : Keeps (F .targets) rs L)
 
 -- c suffixes went from g to r
 module _ (F : Frame) (rs rs′ : List Rule) (L M : Ledger) (K : Keeps (F .targets) rs L) (same : F .targets .unit ≡ unit) (g r c : ℕ) (apart : g ≢ r)
-    (gave : share (F .targets .k) rs′ (label (F .targets) g) + c ≡ share (F .targets .k) rs (label (F .targets) g)) (got : share (F .targets .k) rs′ (label (F .targets) r) ≡ share (F .targets .k) rs (label (F .targets) r) + c)
-    (other : (b : ℕ) → b < backends (F .targets) → b ≢ g → b ≢ r → share (F .targets .k) rs′ (label (F .targets) b) ≡ share (F .targets .k) rs (label (F .targets) b))
+    (gave : share (F .targets .k) rs′ (label (F .targets) g) + c ≡ share (F .targets .k) rs (label (F .targets) g))
+    (got : share (F .targets .k) rs′ (label (F .targets) r) ≡ share (F .targets .k) rs (label (F .targets) r) + c)
+    (other : (b : ℕ) → b < backends (F .targets) → b ≢ g → b ≢ r
+    → share (F .targets .k) rs′ (label (F .targets) b) ≡ share (F .targets .k) rs (label (F .targets) b))
     (can : Movable (L .at) g r c) (is : M .at ≡ movedOf (L .at) g r c) where
   abbrev entry : List Rule → ℕ → Backend
   entry xs b = entryOf unit (F .targets .k) (weight (F .targets) b) (share (F .targets .k) xs (label (F .targets) b))

@@ -82,18 +82,21 @@ loan α b γ = flent (α ∷ []) (Held Entry mostBackends b 0 γ)
 module _ {M : Type 1} {𝓤 : URA M} {H : Heap 𝓤} {A : Atoms 𝓤} {K : Type 0} {W : Given 𝓤 H A} {Γ : List (Item 𝓤)} {G : Goal 𝓤 H} where
   pub lends-all : K → Soaks G → (es : List Backend) (b : ℕ) → Fits es
       → ((α : ℕ) (γ : GName)
-      → Seq K W (‵ (flft (α ∷ []) fullShare) ∷ ‵ (MutSlice (named 0) (α ∷ []) Entry .own (lent b 0 γ es) (sliceVal (b, 0) mostBackends ∷ [])) ∷ ‵ (loan α b γ) ∷ Γ) G)
+      → Seq K W (‵ (flft (α ∷ []) fullShare) ∷ ‵ (MutSlice (named 0) (α ∷ []) Entry .own (lent b 0 γ es) (sliceVal (b, 0) mostBackends ∷ []))
+      ∷ ‵ (loan α b γ) ∷ Γ) G)
       → Seq K W (‵ (slot b es) ∷ Γ) G
   lends-all t z es b fits k =
       let long : length es ≡ mostBackends = fits .1 .0 .1 in
       -- the array in memory is its entries, side by side
       owned t All (Is All) (array-makes 𝓤 H A W Entry (LL.makes B.the-type B′.the-plain 𝓤 H A) mostBackends) es _ fits $ move t (1 ∷ 0 ∷ []) $
       use2 W (‵ (partAt All fullShare es b 0)) (part-in 𝓤 H A W All refl fullShare es b 0 (arr es)) $
-      use1 W (‵ (arr-parts (shares Entry) mostBackends .part fullShare es b 0)) (array-apart 𝓤 H A W Entry fullShare tt mostBackends es b 0) $ fsplit t $ drop t $
+      use1 W (‵ (arr-parts (shares Entry) mostBackends .part fullShare es b 0)) (array-apart 𝓤 H A W Entry fullShare tt mostBackends es b 0) $ fsplit t
+      $ drop t $
       use1 W (‵ (cells (mem Entry) es b 0)) (whole-in 𝓤 H A W Entry es b 0) $
       -- which are lent
       lft-new t z (λ α. move t (1 ∷ []) $
-      use1 W (later (some (λ (γ : GName). ‵ (MutSlice (named 0) (α ∷ []) Entry .own (lent b 0 γ es) (sliceVal (b, 0) (length es) ∷ [])) ⊛ ‵ (flent (α ∷ []) (Held Entry (length es) b 0 γ)))))
+      use1 W (later (some (λ (γ : GName). ‵ (MutSlice (named 0) (α ∷ []) Entry .own (lent b 0 γ es) (sliceVal (b, 0) (length es) ∷ []))
+      ⊛ ‵ (flent (α ∷ []) (Held Entry (length es) b 0 γ)))))
       (lends-slice 𝓤 H A W Entry (named 0) (α ∷ []) es b 0 (subst (Room Entry) (sym long) (lit< tt, lit< tt))) $ await t z $ pick t (λ γ. split t $
       rewrite t 0 (λ (n : ℕ). ‵ (MutSlice (named 0) (α ∷ []) Entry .own (lent b 0 γ es) (sliceVal (b, 0) n ∷ []))) long refl $
       rewrite t 1 (λ (n : ℕ). ‵ (flent (α ∷ []) (Held Entry n b 0 γ))) long refl $ move t (2 ∷ 0 ∷ 1 ∷ []) $ k α γ))
@@ -106,6 +109,8 @@ module _ {M : Type 1} {𝓤 : URA M} {H : Heap 𝓤} {A : Atoms 𝓤} {K : Type 
       -- and are the array in memory, whose machine value they tell
       fsplit t $ move t (1 ∷ []) $ use1 W (‵ (entries es b 0)) (whole-out 𝓤 H A W Entry es b 0) $ move t (1 ∷ 0 ∷ []) $ fjoin t $
       use1 W (‵ (partAt All fullShare es b 0)) (array-whole 𝓤 H A W Entry fullShare mostBackends es b 0) $
-      use1 W (some (λ (v : Val). ‵ (fat fullShare (tyArray B′.mir mostBackends) b 0 v) ⊛ ‵ (All .own es (v ∷ [])))) (part-out 𝓤 H A W All refl fullShare es b 0) $
+      use1 W (some (λ (v : Val). ‵ (fat fullShare (tyArray B′.mir mostBackends) b 0 v) ⊛ ‵ (All .own es (v ∷ []))))
+      (part-out 𝓤 H A W All refl fullShare es b 0) $
       pick t (λ v. split t $ move t (1 ∷ []) $ facts t All (Is All) (shows 𝓤 H A All) es (v ∷ []) (λ is.
-      rewrite t 0 (λ (u : Val). ‵ (fat fullShare (tyArray B′.mir mostBackends) b 0 u)) (ap only (array-is es (v ∷ []) is)) refl $ k (subst (Is All es) (array-is es (v ∷ []) is) is)))
+      rewrite t 0 (λ (u : Val). ‵ (fat fullShare (tyArray B′.mir mostBackends) b 0 u)) (ap only (array-is es (v ∷ []) is)) refl $ k
+      (subst (Is All es) (array-is es (v ∷ []) is) is)))

@@ -88,7 +88,9 @@ module _ (F : Frame) (S : Sound F) (rs : List Rule) (gain : isNoGain F rs ≡ fa
   unfolding largestExcess excess has
   holds-some = go (ℕ-discrete (share (F .targets .k) rs (giverLabel F rs)) 0) some-excess
     where
-      go : Dec (share (F .targets .k) rs (giverLabel F rs) ≡ 0) → 0 < share (F .targets .k) rs (giverLabel F rs) * F .targets .unit - wants (F .targets) (giver (F .targets) rs)
+      go :
+          Dec (share (F .targets .k) rs (giverLabel F rs) ≡ 0)
+          → 0 < share (F .targets .k) rs (giverLabel F rs) * F .targets .unit - wants (F .targets) (giver (F .targets) rs)
           → 0 < share (F .targets .k) rs (giverLabel F rs)
       go (yes e) h = absurd (omega (arith, ap (λ (x : ℕ). x * F .targets .unit) e))
       go (no d) h = omega arith
@@ -168,7 +170,9 @@ module _ (F : Frame) (S : Sound F) (rs : List Rule) (G : Good F rs) (gain : isNo
   unfolding has
   has-receiver = omega (arith, ap (λ (x : ℕ). x * F .targets .unit) new-receiver)
 
-  pub has-other : (b : ℕ) → b < backends (F .targets) → b ≢ giver (F .targets) rs → b ≢ receiver (F .targets) rs → has (F .targets) (newRule F rs ∷ rs) b ≡ has (F .targets) rs b
+  pub has-other :
+      (b : ℕ) → b < backends (F .targets) → b ≢ giver (F .targets) rs → b ≢ receiver (F .targets) rs
+      → has (F .targets) (newRule F rs ∷ rs) b ≡ has (F .targets) rs b
   unfolding has
   has-other b l d c = ap (λ (x : ℕ). x * F .targets .unit) (new-other b l d c)
 
@@ -176,30 +180,38 @@ module _ (F : Frame) (S : Sound F) (rs : List Rule) (G : Good F rs) (gain : isNo
   pub excess-giver : excess (F .targets) (newRule F rs ∷ rs) (giver (F .targets) rs) ≡ largestExcess (F .targets) rs - parts F rs
   unfolding excess largestExcess
   excess-giver =
-      left-over (has (F .targets) rs (giver (F .targets) rs)) (wants (F .targets) (giver (F .targets) rs)) (has (F .targets) (newRule F rs ∷ rs) (giver (F .targets) rs)) (parts F rs) has-giver
+      left-over (has (F .targets) rs (giver (F .targets) rs)) (wants (F .targets) (giver (F .targets) rs))
+      (has (F .targets) (newRule F rs ∷ rs) (giver (F .targets) rs)) (parts F rs) has-giver
 
   pub shortfall-giver : shortfall (F .targets) (newRule F rs ∷ rs) (giver (F .targets) rs) ≡ parts F rs - largestExcess (F .targets) rs
   unfolding shortfall excess largestExcess
   shortfall-giver =
-      now-short (has (F .targets) rs (giver (F .targets) rs)) (wants (F .targets) (giver (F .targets) rs)) (has (F .targets) (newRule F rs ∷ rs) (giver (F .targets) rs)) (parts F rs) has-giver
+      now-short (has (F .targets) rs (giver (F .targets) rs)) (wants (F .targets) (giver (F .targets) rs))
+      (has (F .targets) (newRule F rs ∷ rs) (giver (F .targets) rs)) (parts F rs) has-giver
       (some-excess F S rs gain)
 
   pub excess-receiver : excess (F .targets) (newRule F rs ∷ rs) (receiver (F .targets) rs) ≡ parts F rs - largestShortfall (F .targets) rs
   unfolding excess shortfall largestShortfall
   excess-receiver =
-      now-over (has (F .targets) rs (receiver (F .targets) rs)) (wants (F .targets) (receiver (F .targets) rs)) (has (F .targets) (newRule F rs ∷ rs) (receiver (F .targets) rs)) (parts F rs) has-receiver
+      now-over (has (F .targets) rs (receiver (F .targets) rs)) (wants (F .targets) (receiver (F .targets) rs))
+      (has (F .targets) (newRule F rs ∷ rs) (receiver (F .targets) rs)) (parts F rs) has-receiver
       (some-shortfall F S rs gain)
 
   pub shortfall-receiver : shortfall (F .targets) (newRule F rs ∷ rs) (receiver (F .targets) rs) ≡ largestShortfall (F .targets) rs - parts F rs
   unfolding shortfall largestShortfall
   shortfall-receiver =
-      still-short (has (F .targets) rs (receiver (F .targets) rs)) (wants (F .targets) (receiver (F .targets) rs)) (has (F .targets) (newRule F rs ∷ rs) (receiver (F .targets) rs)) (parts F rs) has-receiver
+      still-short (has (F .targets) rs (receiver (F .targets) rs)) (wants (F .targets) (receiver (F .targets) rs))
+      (has (F .targets) (newRule F rs ∷ rs) (receiver (F .targets) rs)) (parts F rs) has-receiver
 
-  pub excess-other : (b : ℕ) → b < backends (F .targets) → b ≢ giver (F .targets) rs → b ≢ receiver (F .targets) rs → excess (F .targets) (newRule F rs ∷ rs) b ≡ excess (F .targets) rs b
+  pub excess-other :
+      (b : ℕ) → b < backends (F .targets) → b ≢ giver (F .targets) rs → b ≢ receiver (F .targets) rs
+      → excess (F .targets) (newRule F rs ∷ rs) b ≡ excess (F .targets) rs b
   unfolding excess
   excess-other b l d c = ap (λ (x : ℕ). x - wants (F .targets) b) (has-other b l d c)
 
-  pub shortfall-other : (b : ℕ) → b < backends (F .targets) → b ≢ giver (F .targets) rs → b ≢ receiver (F .targets) rs → shortfall (F .targets) (newRule F rs ∷ rs) b ≡ shortfall (F .targets) rs b
+  pub shortfall-other :
+      (b : ℕ) → b < backends (F .targets) → b ≢ giver (F .targets) rs → b ≢ receiver (F .targets) rs
+      → shortfall (F .targets) (newRule F rs ∷ rs) b ≡ shortfall (F .targets) rs b
   unfolding shortfall
   shortfall-other b l d c = ap (λ (x : ℕ). wants (F .targets) b - x) (has-other b l d c)
 
@@ -218,7 +230,8 @@ module _ (F : Frame) (S : Sound F) (rs : List Rule) (G : Good F rs) (gain : isNo
         excess-giver,
         excess-receiver,
         no-excess,
-        sum-two (backends (F .targets)) (excess (F .targets) (newRule F rs ∷ rs)) (excess (F .targets) rs) (giver (F .targets) rs) (receiver (F .targets) rs) (giver-lt F S rs) (receiver-lt F S rs)
+        sum-two (backends (F .targets)) (excess (F .targets) (newRule F rs ∷ rs)) (excess (F .targets) rs) (giver (F .targets) rs)
+            (receiver (F .targets) rs) (giver-lt F S rs) (receiver-lt F S rs)
             (apart F S rs gain) excess-other,
       ))
 
@@ -235,7 +248,8 @@ module _ (F : Frame) (S : Sound F) (rs : List Rule) (G : Good F rs) (gain : isNo
   shortfall-still : (b : ℕ) → b < backends (F .targets) → shortfall (F .targets) (newRule F rs ∷ rs) b ≤ largestShortfall (F .targets) rs
   shortfall-still b l = go (ℕ-discrete b (giver (F .targets) rs)) (ℕ-discrete b (receiver (F .targets) rs))
     where
-      go : Dec (b ≡ giver (F .targets) rs) → Dec (b ≡ receiver (F .targets) rs) → shortfall (F .targets) (newRule F rs ∷ rs) b ≤ largestShortfall (F .targets) rs
+      go :
+          Dec (b ≡ giver (F .targets) rs) → Dec (b ≡ receiver (F .targets) rs) → shortfall (F .targets) (newRule F rs ∷ rs) b ≤ largestShortfall (F .targets) rs
       go (yes e) d = rw e (omega (arith, shortfall-giver, gains F S rs gain))
       go (no c) (yes e) = rw e (omega (arith, shortfall-receiver))
       go (no c) (no d) = omega (arith, shortfall-other b l c d, shortfall-le F S rs b l)
@@ -255,7 +269,8 @@ module _ (F : Frame) (S : Sound F) (rs : List Rule) (G : Good F rs) (gain : isNo
       omega (
         arith,
         term-best F rs (term F (newRule F rs ∷ rs)) (term-le F (newRule F rs ∷ rs)),
-        reduction-mono (largestShortfall (F .targets) rs) (largestExcess (F .targets) rs) (largestShortfall (F .targets) (newRule F rs ∷ rs)) (largestExcess (F .targets) (newRule F rs ∷ rs))
+        reduction-mono (largestShortfall (F .targets) rs) (largestExcess (F .targets) rs) (largestShortfall (F .targets) (newRule F rs ∷ rs))
+            (largestExcess (F .targets) (newRule F rs ∷ rs))
             (parts F (newRule F rs ∷ rs)) shortfall-falls excess-falls,
       )
 
@@ -269,7 +284,8 @@ module _ (F : Frame) (S : Sound F) (rs : List Rule) (G : Good F rs) (gain : isNo
           absurd (omega (
             arith,
             term-best F (newRule F rs ∷ rs) (term F rs) (term-le F rs),
-            reduction-larger (largestShortfall (F .targets) rs) (largestExcess (F .targets) rs) (largestShortfall (F .targets) (newRule F rs ∷ rs)) (largestExcess (F .targets) (newRule F rs ∷ rs))
+            reduction-larger (largestShortfall (F .targets) rs) (largestExcess (F .targets) rs) (largestShortfall (F .targets) (newRule F rs ∷ rs))
+                (largestExcess (F .targets) (newRule F rs ∷ rs))
                 (parts F rs) (parts F (newRule F rs ∷ rs)) shortfall-falls excess-falls (mul-le-mul-right (F .targets .unit) (pow-mono (le-of-lt l)))
                 (term-last F rs (term F (newRule F rs ∷ rs)) l (term-le F (newRule F rs ∷ rs))) (gain-above F (newRule F rs ∷ rs) more),
           ))

@@ -98,7 +98,12 @@ pub record Feasible (F : Frame) (holder low : List ℕ) (rs : List Rule) (L : Le
   pub found : nodeOf (F .targets .k) m holder low < 2 ^ (F .targets .k - m .index)
   pub movable : Movable (L .at) (m .giver) (m .receiver) (2 ^ m .index)
   pub rule :
-      record { len = F .targets .k - m .index; value = place (F .targets .k - m .index) (nodeOf (F .targets .k) m holder low); backend = label (F .targets) (m .receiver) }
+      record {
+        len =
+            F .targets .k - m .index;
+        value = place (F .targets .k - m .index) (nodeOf (F .targets .k) m holder low);
+        backend = label (F .targets) (m .receiver);
+      }
       ≡ newRule F rs
   pub holds :
       (holder′ low′ : List ℕ)
@@ -122,7 +127,9 @@ module _ (F : Frame) (fits : Fits F) (holder low : List ℕ) (rs : List Rule) (L
         receiver = receiver-lt F S rs;
         found = subst (λ (p : ℕ). p < 2 ^ termLength F rs) lowest (place-found F S rs G gain);
         movable = can;
-        rule = ap (λ (p : ℕ). record { len = termLength F rs; value = place (termLength F rs) p; backend = label (F .targets) (receiver (F .targets) rs) }) (sym lowest);
+        rule =
+            ap (λ (p : ℕ). record { len = termLength F rs; value = place (termLength F rs) p; backend = label (F .targets) (receiver (F .targets) rs) })
+            (sym lowest);
         holds = λ holder′ low′.
             subst (λ (p : ℕ). Given (p * 2 ^ term F rs) (2 ^ term F rs) (receiver (F .targets) rs) holder holder′
             → low′ ≡ lowered low (giver (F .targets) rs) (receiver (F .targets) rs) (p * 2 ^ term F rs) (p * 2 ^ term F rs + 2 ^ term F rs)

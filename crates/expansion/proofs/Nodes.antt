@@ -63,7 +63,8 @@ module _ (k l : ℕ) (h : l ≤ k) where
     whole-node small each =
         covered-true k l (place l p) h (λ s. gives rs s b) (place-lt l p) (λ s m e.
         let here : place k s / 2 ^ (k - l) ≡ p = node-of s ∙ sym (place-mod l s) ∙ ap (place l) e ∙ place-involution l p small in
-        let split : p * 2 ^ (k - l) + place k s % 2 ^ (k - l) ≡ place k s = ap (λ (x : ℕ). x * 2 ^ (k - l) + place k s % 2 ^ (k - l)) (sym here) ∙ div-add-mod' (place k s) (2 ^ (k - l)) in
+        let split : p * 2 ^ (k - l) + place k s % 2 ^ (k - l) ≡ place k s = ap (λ (x : ℕ). x * 2 ^ (k - l) + place k s % 2 ^ (k - l)) (sym here)
+        ∙ div-add-mod' (place k s) (2 ^ (k - l)) in
         let low : place k s % 2 ^ (k - l) < 2 ^ (k - l) = mod-lt (place k s) (pow-pos (k - l)) in
         ap (λ (x : ℕ). gives rs x b) (sym (place-involution k s m)) ∙ each (place k s) (omega arith) (omega arith))
 
@@ -87,7 +88,8 @@ module _ (k l : ℕ) (h : l ≤ k) where
     match-outside out =
         ne-eqb (place k q % 2 ^ l) (place l p) (λ e.
         let same : place l (q / 2 ^ (k - l)) ≡ place l p = sym (bits-at q m) ∙ e in
-        let below : q / 2 ^ (k - l) < 2 ^ l = rw (sym (ap (λ (x : ℕ). x / 2 ^ (k - l)) (sym (place-involution k q m)) ∙ node-of (place k q))) at (place-lt l (place k q)) in
+        let below : q / 2 ^ (k - l)
+        < 2 ^ l = rw (sym (ap (λ (x : ℕ). x / 2 ^ (k - l)) (sym (place-involution k q m)) ∙ node-of (place k q))) at (place-lt l (place k q)) in
         let here : q / 2 ^ (k - l) ≡ p = place-injective l (q / 2 ^ (k - l)) p below small same in
         let split : p * 2 ^ (k - l) + q % 2 ^ (k - l) ≡ q = ap (λ (x : ℕ). x * 2 ^ (k - l) + q % 2 ^ (k - l)) (sym here) ∙ div-add-mod' q (2 ^ (k - l)) in
         let low : q % 2 ^ (k - l) < 2 ^ (k - l) = mod-lt q (pow-pos (k - l)) in

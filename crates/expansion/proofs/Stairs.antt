@@ -53,7 +53,9 @@ step-convex :
     → imbalance (F .targets) (step F rs) - imbalance (F .targets) (step F (step F rs)) ≤ imbalance (F .targets) rs - imbalance (F .targets) (step F rs)
 step-convex F S rs G H = go (turn F rs)
   where
-    go : Turn F rs → imbalance (F .targets) (step F rs) - imbalance (F .targets) (step F (step F rs)) ≤ imbalance (F .targets) rs - imbalance (F .targets) (step F rs)
+    go :
+        Turn F rs → imbalance (F .targets) (step F rs) - imbalance (F .targets) (step F (step F rs))
+        ≤ imbalance (F .targets) rs - imbalance (F .targets) (step F rs)
     go (stays e) = omega (arith, ap (imbalance (F .targets)) e, ap (λ (l : List Rule). imbalance (F .targets) (step F l)) e)
     go (moves g e) =
         omega (arith, drop-most F S (step F rs) H, step-best F S rs G, imbalance-falls F S rs G (g .gain), ap (imbalance (F .targets)) e)
@@ -65,7 +67,8 @@ unfolding after
 falling F S x = step-falls F S (after F x) (good-after F S x)
 
 pub convex : (F : Frame) → Sound F → (x : ℕ)
-    → imbalance (F .targets) (after F (suc x)) - imbalance (F .targets) (after F (suc (suc x))) ≤ imbalance (F .targets) (after F x) - imbalance (F .targets) (after F (suc x))
+    → imbalance (F .targets) (after F (suc x)) - imbalance (F .targets) (after F (suc (suc x)))
+    ≤ imbalance (F .targets) (after F x) - imbalance (F .targets) (after F (suc x))
 unfolding after
 convex F S x = step-convex F S (after F x) (good-after F S x) (good-after F S (suc x))
 

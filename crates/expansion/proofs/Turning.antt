@@ -78,7 +78,8 @@ module _ (F : Frame) (fits : Fits F) where
         entries = λ b l.
             h b l
             ∙ ap (entryOf unit (F .targets .k) (weight (F .targets) b)) (shared .each b l)
-            ∙ ap (λ (u : ℕ). entryOf u (F .targets .k) (weight (F .targets) b) (share (F .targets .k) (F .start) (label (F .targets) b))) (sym (fits .millionths));
+            ∙ ap (λ (u : ℕ). entryOf u (F .targets .k) (weight (F .targets) b) (share (F .targets .k) (F .start) (label (F .targets) b)))
+            (sym (fits .millionths));
       }
 
   pub stands-start : (L : Ledger) → Keeps (F .targets) (F .start) L
@@ -257,15 +258,20 @@ module _ (k tolerance : ℕ) (labels ws : List ℕ) (valid : Valid k tolerance l
       most : ℕ
       most = argmax (λ b. getD ws b 0) (length ws)
 
-      each : (b : ℕ) → b < length ws → Dec (b ≡ first) → getD (set (replicate mostBackends 0) first (2 ^ k)) b 0 ≡ pick (eqb (getD labels most nobody) (getD labels b nobody)) (2 ^ k) 0
+      each :
+          (b : ℕ) → b < length ws → Dec (b ≡ first)
+          → getD (set (replicate mostBackends 0) first (2 ^ k)) b 0 ≡ pick (eqb (getD labels most nobody) (getD labels b nobody)) (2 ^ k) 0
       each b l (yes d) =
           ap (λ (i : ℕ). getD (set (replicate mostBackends 0) first (2 ^ k)) i 0) d
           ∙ getD-set-same (replicate mostBackends 0) first (2 ^ k) 0 (omega (arith, valid .few, length-replicate {A = ℕ} mostBackends 0))
-          ∙ sym (ap (λ (t : Bool). pick t (2 ^ k) 0) (eq-eqb (getD labels most nobody) (getD labels b nobody) (ap (λ (i : ℕ). getD labels i nobody) (sym (d ∙ e)))))
+          ∙ sym (ap (λ (t : Bool). pick t (2 ^ k) 0)
+          (eq-eqb (getD labels most nobody) (getD labels b nobody) (ap (λ (i : ℕ). getD labels i nobody) (sym (d ∙ e)))))
       each b l (no d) =
           getD-set-other (replicate mostBackends 0) first b (2 ^ k) 0 d
           ∙ getD-replicate mostBackends b 0 0 (omega (arith, valid .few))
-          ∙ sym (ap (λ (t : Bool). pick t (2 ^ k) 0) (ne-eqb (getD labels most nobody) (getD labels b nobody) (λ is. d (sym (e ∙ valid .distinct most b (first-lt k tolerance labels ws valid) l is)))))
+          ∙ sym (ap (λ (t : Bool). pick t (2 ^ k) 0)
+          (ne-eqb (getD labels most nobody) (getD labels b nobody)
+          (λ is. d (sym (e ∙ valid .distinct most b (first-lt k tolerance labels ws valid) l is)))))
 
   -- the list of the first rule
   pub listed-first : (sum : ℕ) → sum ≡ imbalance (frame k unit tolerance labels ws .targets) (after (frame k unit tolerance labels ws) 0)

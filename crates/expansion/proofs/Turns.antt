@@ -110,21 +110,26 @@ good-after F S (suc x) = subst (Good F) (sym (after-suc F x)) (go (good-after F 
     go G (stays e) = subst (Good F) (sym e) G
     go G (moves g e) = subst (Good F) (sym e) (good-new F S (after F x) G (g .gain))
 
-formed-cons : (k : ℕ) (labelled : ℕ → ℕ) (n : ℕ) (r : Rule) (rs : List Rule) → Formed k labelled n r → AllFormed k labelled n rs → AllFormed k labelled n (r ∷ rs)
+formed-cons :
+    (k : ℕ) (labelled : ℕ → ℕ) (n : ℕ) (r : Rule) (rs : List Rule) → Formed k labelled n r → AllFormed k labelled n rs → AllFormed k labelled n (r ∷ rs)
 unfolding AllFormed
 formed-cons k labelled n r rs h H = (h, H)
 
 pub formed-after :
-    (F : Frame) → Sound F → AllFormed (F .targets .k) (label (F .targets)) (backends (F .targets)) (F .start) → (x : ℕ) → AllFormed (F .targets .k) (label (F .targets)) (backends (F .targets)) (after F x)
+    (F : Frame) → Sound F → AllFormed (F .targets .k) (label (F .targets)) (backends (F .targets)) (F .start) → (x : ℕ)
+    → AllFormed (F .targets .k) (label (F .targets)) (backends (F .targets)) (after F x)
 unfolding after
 formed-after F S h zero = h
 formed-after F S h (suc x) = go (formed-after F S h x) (turn F (after F x))
   where
-    go : AllFormed (F .targets .k) (label (F .targets)) (backends (F .targets)) (after F x) → Turn F (after F x) → AllFormed (F .targets .k) (label (F .targets)) (backends (F .targets)) (step F (after F x))
+    go :
+        AllFormed (F .targets .k) (label (F .targets)) (backends (F .targets)) (after F x) → Turn F (after F x)
+        → AllFormed (F .targets .k) (label (F .targets)) (backends (F .targets)) (step F (after F x))
     go H (stays e) = subst (AllFormed (F .targets .k) (label (F .targets)) (backends (F .targets))) (sym e) H
     go H (moves g e) =
         subst (AllFormed (F .targets .k) (label (F .targets)) (backends (F .targets))) (sym e)
-        (formed-cons (F .targets .k) (label (F .targets)) (backends (F .targets)) (newRule F (after F x)) (after F x) (new-formed F S (after F x) (good-after F S x) (g .gain)) H)
+        (formed-cons (F .targets .k) (label (F .targets)) (backends (F .targets)) (newRule F (after F x)) (after F x)
+        (new-formed F S (after F x) (good-after F S x) (g .gain)) H)
 
 -- lengths
 

@@ -19,7 +19,8 @@ abbrev small : ℕ → ℕ → ℕ → Bool
 small e s t = both (leb e t) (leb s t)
 
 pub within-is : (F : Frame) → Sound F → (rs : List Rule)
-    → isWithin F rs ≡ both (leb (largestExcess (F .targets) rs) (F .tolerance * 2 ^ (F .targets .k))) (leb (largestShortfall (F .targets) rs) (F .tolerance * 2 ^ (F .targets .k)))
+    → isWithin F rs ≡ both (leb (largestExcess (F .targets) rs) (F .tolerance * 2 ^ (F .targets .k)))
+    (leb (largestShortfall (F .targets) rs) (F .tolerance * 2 ^ (F .targets .k)))
 unfolding isWithin largestExcess largestShortfall
 within-is F S rs = same-test (isWithin F rs) (small (largestExcess (F .targets) rs) (largestShortfall (F .targets) rs) t) down up
   where
@@ -33,8 +34,10 @@ within-is F S rs = same-test (isWithin F rs) (small (largestExcess (F .targets) 
     down e =
         let at : (b : ℕ) → b < backends (F .targets) → each b ≡ true = all-true (backends (F .targets)) each e in
         true-both (leb (largestExcess (F .targets) rs) t) (leb (largestShortfall (F .targets) rs) t)
-        (both-true (leb (excess (F .targets) rs (giver (F .targets) rs)) t) (leb (shortfall (F .targets) rs (giver (F .targets) rs)) t) (at (giver (F .targets) rs) (giver-lt F S rs)) .0)
-        (both-true (leb (excess (F .targets) rs (receiver (F .targets) rs)) t) (leb (shortfall (F .targets) rs (receiver (F .targets) rs)) t) (at (receiver (F .targets) rs) (receiver-lt F S rs)) .1)
+        (both-true (leb (excess (F .targets) rs (giver (F .targets) rs)) t) (leb (shortfall (F .targets) rs (giver (F .targets) rs)) t)
+        (at (giver (F .targets) rs) (giver-lt F S rs)) .0)
+        (both-true (leb (excess (F .targets) rs (receiver (F .targets) rs)) t) (leb (shortfall (F .targets) rs (receiver (F .targets) rs)) t)
+        (at (receiver (F .targets) rs) (receiver-lt F S rs)) .1)
 
     up : small (largestExcess (F .targets) rs) (largestShortfall (F .targets) rs) t ≡ true → isWithin F rs ≡ true
     up e =

@@ -6,7 +6,8 @@ use native.Mathlib.Omega.{arith}
 use lib.ListN.{take}
 use Rattle.numerals.specs.Refusals.{numberOf}
 use Rattle.numerals.specs.declared.refusal.Refusal.{Refusal}
-use Rattle.numerals.specs.declared.refusal.Refusal.the-variants.{Malformed, BadField, Unbalanced, TooMany, NoService, TableShort, ShortLoan, UnknownService, Order, Miscount, TooLong, Depth}
+use Rattle.numerals.specs.declared.refusal.Refusal.the-variants.{Malformed, BadField, Unbalanced, TooMany, NoService, TableShort, ShortLoan}
+use Rattle.numerals.specs.declared.refusal.Refusal.the-variants.{UnknownService, Order, Miscount, TooLong, Depth}
 use Rattle.sheets.specs.Demand.{Demand3, Demand3Of}
 use Rattle.sheets.specs.declared.answer.Answer as outcome
 use Rattle.sheets.specs.declared.answer.Answer.the-variants.{Value, Refused}

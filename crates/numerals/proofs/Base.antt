@@ -1,6 +1,8 @@
 -- Digits over any base: what reading one digit more comes to, how many digits `lowest` has, and that it and `value` are inverse.
 use Prim.Native.Nat.{ℕ, zero, suc, _+_, _-_, _*_, _/_, _%_, _^_, _≤_, _<_}
-use native.Mathlib.Nat.{le-trans, le-refl, le-add-right, le-mul-of-pos-right, div-lt-iff-lt-mul, le-div-iff-mul-le, add-zero, add-suc, suc-add, zero-add, pow-zero, pow-suc, pow-succ', one-le-pow, mod-lt, mod-one, div-one, div-div-eq-div-mul, mul-assoc, mul-one, mul-le-mul-right, le-of-eq, not-suc-le-zero, le-of-suc-le-suc}
+use native.Mathlib.Nat.{le-trans, le-refl, le-add-right, le-mul-of-pos-right, div-lt-iff-lt-mul, le-div-iff-mul-le, add-zero, add-suc, suc-add}
+use native.Mathlib.Nat.{zero-add, pow-zero, pow-suc, pow-succ', one-le-pow, mod-lt, mod-one, div-one, div-div-eq-div-mul, mul-assoc, mul-one}
+use native.Mathlib.Nat.{mul-le-mul-right, le-of-eq, not-suc-le-zero, le-of-suc-le-suc}
 use native.Mathlib.Omega.{arith}
 use mathlib.Core.Path.{_≡_, refl, sym, ap, _∙_}
 use mathlib.Core.Bool.{Bool, true, false}

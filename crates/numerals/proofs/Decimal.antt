@@ -10,7 +10,8 @@ use lib.Dec.{leb, eqb}
 use lib.ListN.{length}
 use borrow.Author.Tests.{le-leb, lt-ltb, le-ltb, leb-true, ne-eqb, eqb-false, not-true}
 use Rattle.numerals.proofs.Choice.{by-less, both-left, both-right}
-use Rattle.numerals.proofs.Base.{length-lowest, lowest-front, value-lowest, all-lowest, lowest-value, value-below, value-front, digit-at, digit-low, picked}
+use Rattle.numerals.proofs.Base.{length-lowest, lowest-front, value-lowest, all-lowest, lowest-value, value-below, value-front, digit-at}
+use Rattle.numerals.proofs.Base.{digit-low, picked}
 use Rattle.numerals.proofs.Fields.{Free, free-digits}
 use Rattle.numerals.specs.Pick.{pick, both}
 use Rattle.numerals.specs.Digits.{allDigits, value, lowest, onValue}
@@ -118,7 +119,8 @@ first-digit n =
     let l = sized (n / 10) .0 in
     let s = sized (n / 10) .1 in
     let w : width n ≡ suc (suc l) = width-more n h ∙ ap suc (s .is) in
-    let some : 1 ≤ n / 10 ^ suc l = le-div-iff-mul-le {x = 1} {y = n} (one-le-pow (suc l) 10 (omega arith)) .1 (omega (arith, s .above (omega arith), pow-suc 10 l)) in
+    let some : 1 ≤ n / 10 ^ suc l = le-div-iff-mul-le {x = 1} {y = n} (one-le-pow (suc l) 10 (omega arith)) .1
+    (omega (arith, s .above (omega arith), pow-suc 10 l)) in
     let few : n / 10 ^ suc l < 10 = div-lt-iff-lt-mul {x = n} {y = 10} (one-le-pow (suc l) 10 (omega arith)) .1 (omega (arith, s .below)) in
     let other : 48 + n / 10 ^ suc l % 10 ≡ 48 → ⊥ = λ e. omega arith in
     rw (w, lowest-front 10 (suc l) n, lowest-front 10 l n, ne-eqb (48 + n / 10 ^ suc l % 10) 48 other))

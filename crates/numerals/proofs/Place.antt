@@ -3,7 +3,8 @@
 use mathlib.Core.Path.{_≡_, refl, sym, ap, _∙_}
 use mathlib.Core.List.{List, [], _∷_, reverse, reverse-append}
 use Prim.Native.Nat.{ℕ, zero, suc, _+_, _-_, _*_, _/_, _%_, _^_, _≤_, _<_}
-use native.Mathlib.Nat.{add-mul, mul-assoc, pow-zero, pow-succ', mod-lt, mod-one, mod-eq-of-lt, div-eq-of-lt, div-one, add-sub-cancel-left, zero-mul, mul-one, zero-add, add-zero, suc-add}
+use native.Mathlib.Nat.{add-mul, mul-assoc, pow-zero, pow-succ', mod-lt, mod-one, mod-eq-of-lt, div-eq-of-lt, div-one, add-sub-cancel-left, zero-mul}
+use native.Mathlib.Nat.{mul-one, zero-add, add-zero, suc-add}
 use native.Mathlib.Numerals.{add-one, one-add}
 use native.Mathlib.Omega.{arith}
 use lib.Arith.{digits-lt, digits-div, digits-mod}

@@ -5,7 +5,8 @@ use mathlib.Core.List.{List, [], _∷_}
 use lib.ListN.{getD}
 use Rattle.numerals.specs.Refusals.{numberOf, no1, no2, no3, no4, no5, no6, no7, no8, no9, no10, no11, no12}
 use Rattle.numerals.specs.declared.refusal.Refusal.{Refusal}
-use Rattle.numerals.specs.declared.refusal.Refusal.the-variants.{Malformed, BadField, Unbalanced, TooMany, NoService, TableShort, ShortLoan, UnknownService, Order, Miscount, TooLong, Depth}
+use Rattle.numerals.specs.declared.refusal.Refusal.the-variants.{Malformed, BadField, Unbalanced, TooMany, NoService, TableShort, ShortLoan}
+use Rattle.numerals.specs.declared.refusal.Refusal.the-variants.{UnknownService, Order, Miscount, TooLong, Depth}
 
 pub all : List Refusal
 all = no1 ∷ no2 ∷ no3 ∷ no4 ∷ no5 ∷ no6 ∷ no7 ∷ no8 ∷ no9 ∷ no10 ∷ no11 ∷ no12 ∷ []

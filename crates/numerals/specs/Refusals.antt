@@ -1,7 +1,8 @@
 -- Turned-back work (document 01, under that heading): the number of each refusal.
 use Prim.Native.Nat.{ℕ}
 use Rattle.numerals.specs.declared.refusal.Refusal.{Refusal}
-use Rattle.numerals.specs.declared.refusal.Refusal.the-variants.{Malformed, BadField, Unbalanced, TooMany, NoService, TableShort, ShortLoan, UnknownService, Order, Miscount, TooLong, Depth}
+use Rattle.numerals.specs.declared.refusal.Refusal.the-variants.{Malformed, BadField, Unbalanced, TooMany, NoService, TableShort, ShortLoan}
+use Rattle.numerals.specs.declared.refusal.Refusal.the-variants.{UnknownService, Order, Miscount, TooLong, Depth}
 
 unfoldable pub numberOf : Refusal → ℕ
 numberOf Malformed = 1

@@ -7,7 +7,8 @@ use Rattle.numerals.specs.Digits.{value, valueFrom, lowest}
 use Rattle.numerals.specs.Sums.{sumTo, listTo, countTo, allTo, firstTo, argmax, lastmax}
 use Rattle.expansion.specs.FirstMatch.{matches, firstMatch, gives, share}
 use Rattle.expansion.specs.Imbalance.{backends, label, weight, has, wants, excess, shortfall, imbalance, giver, receiver, largestExcess, largestShortfall}
-use Rattle.expansion.specs.Steps.{firstRule, frame, isWithin, reduction, reductionAt, term, isNoGain, isWhole, termLength, lowestPlace, newRule, step, after, listOf, oldest, stair}
+use Rattle.expansion.specs.Steps.{firstRule, frame, isWithin, reduction, reductionAt, term, isNoGain, isWhole, termLength, lowestPlace, newRule, step}
+use Rattle.expansion.specs.Steps.{after, listOf, oldest, stair}
 use Rattle.expansion.specs.Inner.Sound.{Distinct, Labelled}
 use Rattle.expansion.proofs.Base.{numbers-distinct, numbers-named}
 use Rattle.packing.specs.Grants.{saving, next, rules, total, more, grantStep, grantsAfter, packed}
@@ -18,7 +19,10 @@ use Rattle.packing.specs.Demand.{Demand}
 use Rattle.packing.proofs.Demand.{demand}
 
 pub p7 : P7
-unfolding sumTo countTo allTo firstTo argmax lastmax matches firstMatch gives share backends label weight has wants excess shortfall imbalance giver receiver largestExcess largestShortfall firstRule frame isWithin reduction reductionAt term isNoGain isWhole termLength lowestPlace newRule step after listOf oldest stair place value valueFrom lowest saving next rules total more grantStep grantsAfter packed services volume targetsOf ruleBudget frameOf listFor problem granted ownRules countedImbalance counted linesOf tableOf table
+unfolding sumTo countTo allTo firstTo argmax lastmax matches firstMatch gives share backends label weight has wants excess shortfall imbalance
+    giver receiver largestExcess largestShortfall firstRule frame isWithin reduction reductionAt term isNoGain isWhole termLength
+    lowestPlace newRule step after listOf oldest stair place value valueFrom lowest saving next rules total more grantStep grantsAfter
+    packed services volume targetsOf ruleBudget frameOf listFor problem granted ownRules countedImbalance counted linesOf tableOf table
 p7 = record { first = refl; second = refl; lines = refl; amount = refl }
 
 -- the case keeps the premises of demand 3

@@ -140,7 +140,10 @@ module _ (volumes sizes ws : List ℕ) (s at : ℕ)
       ≡ andThen (orElse (eqb (length ws - at) 0) Malformed) (orElse (ltb 0 (length volumes)) NoService)
   services-end l m =
       services-left
-      ∙ rw (from-end s (drop s volumes) (drop s sizes) (drop at ws) (omega (arith, length-drop s volumes)) (omega (arith, length-drop s sizes)), length-drop at ws)
+      ∙ rw (
+        from-end s (drop s volumes) (drop s sizes) (drop at ws) (omega (arith, length-drop s volumes)) (omega (arith, length-drop s sizes)),
+        length-drop at ws,
+      )
 
 -- what is known of a service that passed: its volume v, its size n and its weights
 pub record Known (v n : ℕ) (ws : List ℕ) : Type 0 where
@@ -277,7 +280,10 @@ module _ {k tolerance capacity : ℕ} {volumes sizes ws : List ℕ} (A : Accepte
       record {
         few = A .few;
         inside = λ s l. A .each s l .inside;
-        sound = λ s l. call-weights k tolerance mostRules (take (getD sizes s 0) (drop (start sizes s) ws)) (true-both (leb 1 k) (leb k mostBits) (le-leb 1 k (A .some-bits)) (le-leb k mostBits (A .few-bits))) (A .tolerable) refl ∙ A .each s l .known .weighed;
+        sound =
+            λ s l. call-weights k tolerance mostRules (take (getD sizes s 0) (drop (start sizes s) ws))
+            (true-both (leb 1 k) (leb k mostBits) (le-leb 1 k (A .some-bits)) (le-leb k mostBits (A .few-bits))) (A .tolerable) refl
+            ∙ A .each s l .known .weighed;
       }
 
   -- and they are such as the demands are about
@@ -287,9 +293,15 @@ module _ {k tolerance capacity : ℕ} {volumes sizes ws : List ℕ} (A : Accepte
       record {
         bits = A .some-bits;
         positive = omega arith;
-        weigh = λ s l. let m : s < length sizes = omega (arith, A .same) in rw (chunk-at sizes ws s m) (weights-passed (take (getD sizes s 0) (drop (start sizes s) ws)) (A .each s m .known .weighed) .balanced);
-        distinct = λ s l. let m : s < length sizes = omega (arith, A .same) in rw (chunk-at sizes ws s m, labels-at sizes ws s m) (numbers-distinct (length (take (getD sizes s 0) (drop (start sizes s) ws))));
-        labelled = λ s l. let m : s < length sizes = omega (arith, A .same) in rw (chunk-at sizes ws s m, labels-at sizes ws s m) (numbers-named (length (take (getD sizes s 0) (drop (start sizes s) ws))));
+        weigh =
+            λ s l. let m : s < length sizes = omega (arith, A .same) in rw (chunk-at sizes ws s m)
+            (weights-passed (take (getD sizes s 0) (drop (start sizes s) ws)) (A .each s m .known .weighed) .balanced);
+        distinct =
+            λ s l. let m : s < length sizes = omega (arith, A .same) in rw (chunk-at sizes ws s m, labels-at sizes ws s m)
+            (numbers-distinct (length (take (getD sizes s 0) (drop (start sizes s) ws))));
+        labelled =
+            λ s l. let m : s < length sizes = omega (arith, A .same) in rw (chunk-at sizes ws s m, labels-at sizes ws s m)
+            (numbers-named (length (take (getD sizes s 0) (drop (start sizes s) ws))));
       }
 
   pub volume-le : (s : ℕ) → s < length volumes → getD volumes s 0 ≤ mostVolume

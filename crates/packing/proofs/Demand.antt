@@ -105,6 +105,8 @@ module _ (S : Services) (tolerance : ℕ) (balanced : Balanced S) where
         grants = granted S tolerance least capacity;
         fitting = granted-fitting S tolerance least capacity room;
         lines = refl;
-        best = λ h f. rw (← counted-table S tolerance least capacity (granted S tolerance least capacity)) (best-table S tolerance least capacity room (convex S tolerance least capacity sound some) h f);
+        best =
+            λ h f. rw (← counted-table S tolerance least capacity (granted S tolerance least capacity))
+            (best-table S tolerance least capacity room (convex S tolerance least capacity sound some) h f);
         fine = fine (granted S tolerance least capacity);
       }

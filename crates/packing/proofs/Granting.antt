@@ -47,8 +47,12 @@ module _ (P : Problem) (grants : List ℕ) (r : ℕ) where
         rw (add-one (getD grants n 0))
         (record {
           turns = suc (h .turns);
-          agree = λ s m. step-agree P (grantsAfter P (h .turns)) (held grants) (h .agree) some s m ∙ ap (λ (f : Grants). f s) (step-goes P (held grants) g) ∙ ap (λ (i : ℕ). more (held grants) i s) (sym e) ∙ sym (more-set grants n l s);
-          spent = rules-agree P (held (set grants n (suc (getD grants n 0)))) (more (held grants) n) (λ s _. more-set grants n l s) ∙ ap (λ (i : ℕ). rules P (more (held grants) i)) e ∙ rules-more P some (held grants) ∙ ap (λ (x : ℕ). x + 1) (h .spent);
+          agree =
+              λ s m. step-agree P (grantsAfter P (h .turns)) (held grants) (h .agree) some s m ∙ ap (λ (f : Grants). f s) (step-goes P (held grants) g)
+              ∙ ap (λ (i : ℕ). more (held grants) i s) (sym e) ∙ sym (more-set grants n l s);
+          spent =
+              rules-agree P (held (set grants n (suc (getD grants n 0)))) (more (held grants) n) (λ s _. more-set grants n l s)
+              ∙ ap (λ (i : ℕ). rules P (more (held grants) i)) e ∙ rules-more P some (held grants) ∙ ap (λ (x : ℕ). x + 1) (h .spent);
         })
 
     -- where the run stops, the grants are the packing's
@@ -231,6 +235,11 @@ module _ {least : Grants} {capacity : ℕ} {volumes stairs counts grants tree : 
             room = omega (arith, length-set grants n (getD grants n 0 + 1), turn .started .room);
             each = λ s m. falls-more stairs s (getD counts s 0) grants n (omega (arith, found-known, turn .started .room)) (turn .started .each s m);
           };
-          run = run-more (storedProblem least capacity volumes stairs counts) grants r (turn .someone) n (omega (arith, found-known, turn .started .room)) found-next (record { room = omega (arith, turn .run .spent); gains = omega (arith, found-most) }) (turn .run);
-          entered = entered-one (savings volumes stairs counts grants) (savings volumes stairs counts (set grants n (getD grants n 0 + 1))) (length volumes) (length volumes) n tree tree′ (turn .entered) replaced (omega arith) (turn .payable .few) found-known (λ i m d. (m, saving-other volumes stairs counts grants n (getD grants n 0 + 1) i d));
+          run =
+              run-more (storedProblem least capacity volumes stairs counts) grants r (turn .someone) n (omega (arith, found-known, turn .started .room))
+              found-next (record { room = omega (arith, turn .run .spent); gains = omega (arith, found-most) }) (turn .run);
+          entered =
+              entered-one (savings volumes stairs counts grants) (savings volumes stairs counts (set grants n (getD grants n 0 + 1))) (length volumes)
+              (length volumes) n tree tree′ (turn .entered) replaced (omega arith) (turn .payable .few) found-known
+              (λ i m d. (m, saving-other volumes stairs counts grants n (getD grants n 0 + 1) i d));
         }

@@ -155,8 +155,12 @@ entry-made k tolerance ws s lens values backends stairs counts ends fits room =
       len = column-made lens (lensMade k tolerance mostRules ws) s (omega (arith, length-column (λ (r : Rule). r .len) rs));
       value = column-made values (valuesMade k tolerance mostRules ws) s (omega (arith, length-column (λ (r : Rule). r .value) rs));
       backend = column-made backends (backendsMade k tolerance mostRules ws) s (omega (arith, length-column (λ (r : Rule). r .backend) rs));
-      none = getD-set-same (sets stairs (placeOf s 1) (stairsMade k tolerance mostRules ws)) (stride * s) 0 0 (omega (arith, length-sets stairs (placeOf s 1) (stairsMade k tolerance mostRules ws)));
-      stair = column-other (sets stairs (placeOf s 1) (stairsMade k tolerance mostRules ws)) (stairsMade k tolerance mostRules ws) s s 0 (omega arith) (omega arith) (column-made stairs (stairsMade k tolerance mostRules ws) s (omega arith));
+      none =
+          getD-set-same (sets stairs (placeOf s 1) (stairsMade k tolerance mostRules ws)) (stride * s) 0 0
+          (omega (arith, length-sets stairs (placeOf s 1) (stairsMade k tolerance mostRules ws)));
+      stair =
+          column-other (sets stairs (placeOf s 1) (stairsMade k tolerance mostRules ws)) (stairsMade k tolerance mostRules ws) s s 0 (omega arith)
+          (omega arith) (column-made stairs (stairsMade k tolerance mostRules ws) s (omega arith));
       count = getD-set-same counts s (recordMade k tolerance mostRules ws .rules) 0 (omega arith);
       ended = getD-set-same ends s (endNumber (recordMade k tolerance mostRules ws .ended)) 0 (omega arith);
     }
@@ -177,8 +181,12 @@ entry-kept k tolerance ws s t lens values backends stairs counts ends a b d e x 
       len = column-kept lens (lensMade k tolerance mostRules ws) a s t h (omega (arith, length-column (λ (r : Rule). r .len) rs)) (E .len);
       value = column-kept values (valuesMade k tolerance mostRules ws) b s t h (omega (arith, length-column (λ (r : Rule). r .value) rs)) (E .value);
       backend = column-kept backends (backendsMade k tolerance mostRules ws) d s t h (omega (arith, length-column (λ (r : Rule). r .backend) rs)) (E .backend);
-      none = getD-set-other (sets stairs (placeOf t 1) e) (stride * t) (stride * s) z 0 (λ p. omega arith) ∙ sets-below stairs e (placeOf t 1) (stride * s) (omega arith) ∙ E .none;
-      stair = column-other (sets stairs (placeOf t 1) e) (stairsMade k tolerance mostRules ws) s t z (omega arith) (omega arith) (column-kept stairs (stairsMade k tolerance mostRules ws) e s t h (omega arith) (E .stair));
+      none =
+          getD-set-other (sets stairs (placeOf t 1) e) (stride * t) (stride * s) z 0 (λ p. omega arith)
+          ∙ sets-below stairs e (placeOf t 1) (stride * s) (omega arith) ∙ E .none;
+      stair =
+          column-other (sets stairs (placeOf t 1) e) (stairsMade k tolerance mostRules ws) s t z (omega arith) (omega arith)
+          (column-kept stairs (stairsMade k tolerance mostRules ws) e s t h (omega arith) (E .stair));
       count = getD-set-other counts t s x 0 (λ p. omega arith) ∙ E .count;
       ended = getD-set-other ends t s y 0 (λ p. omega arith) ∙ E .ended;
     }
@@ -217,7 +225,8 @@ module _ (k tolerance : ℕ) (sizes ws : List ℕ) (s : ℕ) (lens values backen
   pub made : r ≡ Made (recordMade k tolerance mostRules (part sizes ws s))
   made =
       answered
-      ∙ rw is (made-answer k tolerance (part sizes ws s) (placeOf s 1) (min (min (length lens) (length values)) (min (length backends) (length stairs))) passed fits)
+      ∙ rw is (made-answer k tolerance (part sizes ws s) (placeOf s 1) (min (min (length lens) (length values)) (min (length backends) (length stairs)))
+      passed fits)
 
   pub entries-more :
       (m : Record) → r ≡ Made m → (counts ends : List ℕ) → s < min (length counts) (length ends)
@@ -299,7 +308,8 @@ module _ (k tolerance : ℕ) (volumes sizes ws : List ℕ) (s : ℕ) (inside : s
       let here : placeOf s 0 ≡ stride * s = omega arith in
       ap (λ (i : ℕ). getD l i 0) here
       ∙ e
-      ∙ sym (stair-none (frameMade k tolerance (part sizes ws s)) (listMade k tolerance mostRules (part sizes ws s)) (made-labelled k tolerance (part sizes ws s)))
+      ∙ sym (stair-none (frameMade k tolerance (part sizes ws s)) (listMade k tolerance mostRules (part sizes ws s))
+      (made-labelled k tolerance (part sizes ws s)))
       ∙ ap₂ (λ (F : Frame) (x : List Rule). stair F 0 x) (sym frame-of) (sym list-of)
   stairs-from l e C (suc j) h = stairs-of l C j h
 
@@ -324,7 +334,8 @@ listed k tolerance sizes ws n lens values backends stairs counts ends inside E v
             step = λ s c l. stairs-from k tolerance volumes sizes ws s (known s l) stairs (entry s l .none) (entry s l .stair) c;
           };
       ended =
-          λ s l. entry s l .ended ∙ ap₂ (λ (F : Frame) (x : List Rule). endNumber (endOf F x)) (sym (frame-of k tolerance volumes sizes ws s (known s l))) (sym (list s l));
+          λ s l. entry s l .ended
+          ∙ ap₂ (λ (F : Frame) (x : List Rule). endNumber (endOf F x)) (sym (frame-of k tolerance volumes sizes ws s (known s l))) (sym (list s l));
       len = λ s j l. column-of k tolerance volumes sizes ws s (known s l) (λ r. r .len) refl lens (entry s l .len) j;
       value = λ s j l. column-of k tolerance volumes sizes ws s (known s l) (λ r. r .value) refl values (entry s l .value) j;
       backend = λ s j l. column-of k tolerance volumes sizes ws s (known s l) (λ r. r .backend) refl backends (entry s l .backend) j;

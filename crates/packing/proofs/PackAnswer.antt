@@ -18,7 +18,8 @@ use Rattle.numerals.proofs.Sums.{sum-ext}
 use Rattle.packing.specs.Grants.{Grants, total}
 use Rattle.packing.specs.Count.{services, volume}
 use Rattle.packing.specs.Table.{frameOf, listFor, table, problem, granted, oneEach}
-use Rattle.packing.specs.Answer.{numbered, servicesOf, checkAll, linesMade, packedOf, figuresOf, cellsOf, Demanded, noBuffer, figuresBuffer, tableBuffer, written, answer, onMade}
+use Rattle.packing.specs.Answer.{numbered, servicesOf, checkAll, linesMade, packedOf, figuresOf, cellsOf, Demanded, noBuffer, figuresBuffer}
+use Rattle.packing.specs.Answer.{tableBuffer, written, answer, onMade}
 use Rattle.packing.specs.Inner.Lists.{places, Listed, Granted}
 use Rattle.packing.specs.Inner.Stored.{storedTotal, storedLines, storedFigures, storedTable, held, AllPayable, Started, Allotted, Counted, Writable}
 use Rattle.packing.specs.declared.answer.Packed.{Packed}

@@ -99,7 +99,9 @@ module _ (volumes : List ℕ) (frames : ℕ → Frame) (lists : ℕ → List Rul
     unfolding storedProblem
     granted-kept from same some r h =
         record {
-          grant = λ s l. h .grant s l ∙ packed-agree (storedProblem (held from) capacity volumes stairs counts) least same some s l ∙ ap (λ (P : Problem). packed P s) (problem-kept least capacity);
+          grant =
+              λ s l. h .grant s l ∙ packed-agree (storedProblem (held from) capacity volumes stairs counts) least same some s l
+              ∙ ap (λ (P : Problem). packed P s) (problem-kept least capacity);
         }
 
     -- the total of any grants

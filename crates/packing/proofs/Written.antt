@@ -54,8 +54,12 @@ cells-of :
 unfolding storedCells cells linesOf newestFirst
 cells-of lens values backends rs s zero p q r = refl
 cells-of lens values backends rs s (suc c) p q r =
-    rw
-    (p c (omega arith), q c (omega arith), r c (omega arith), cells-of lens values backends rs s c (λ j l. p j (omega arith)) (λ j l. q j (omega arith)) (λ j l. r j (omega arith)))
+    rw (
+      p c (omega arith),
+      q c (omega arith),
+      r c (omega arith),
+      cells-of lens values backends rs s c (λ j l. p j (omega arith)) (λ j l. q j (omega arith)) (λ j l. r j (omega arith)),
+    )
 
 module _ (n : ℕ) (frames : ℕ → Frame) (lists : ℕ → List Rule) (lens values backends stairs counts ends : List ℕ)
     (listed : Listed n frames lists lens values backends stairs counts ends) where

@@ -11,5 +11,7 @@ use Rattle.sheets.specs.FirstLine.{openingFields, openingLines, firstLin
 use Rattle.sheets.specs.Cases.{bytes, cases, AllRight}
 
 pub right : AllRight cases
-unfolding bytes cases readSheet textLimit sheetLine firstLine openingLines openingFields whole volumesOf weightsOf serviceLines serviceFields sum weightFields same onField unless then unit percentage percentOf split onto number isNumeral noLeadingZero allDigits isDigit value valueFrom onValue fraction atMostAll
+unfolding bytes cases readSheet textLimit sheetLine firstLine openingLines openingFields whole volumesOf weightsOf serviceLines serviceFields sum
+    weightFields same onField unless then unit percentage percentOf split onto number isNumeral noLeadingZero allDigits isDigit value
+    valueFrom onValue fraction atMostAll
 right = (refl, (refl, (refl, (refl, (refl, (refl, (refl, (refl, (refl, (refl, (refl, tt)))))))))))

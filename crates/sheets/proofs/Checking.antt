@@ -36,7 +36,8 @@ module _ (k broken : ℕ) (before : List Line) (l : Line) (ls : List Line) where
   unfolding checkedFrom checkLines unless
   line-next h p = rw (h, placed-next before l 0 (checkLines k (l ∷ before) ls) p)
 
-pub line-placed : (k : ℕ) (before : List Line) (l : Line) (r : Placed) (tally : List ℕ) → isLine k l ≡ true → PlacedAs before l r tally → CheckedLine k before l r tally
+pub line-placed :
+    (k : ℕ) (before : List Line) (l : Line) (r : Placed) (tally : List ℕ) → isLine k l ≡ true → PlacedAs before l r tally → CheckedLine k before l r tally
 line-placed k before l (Next last) tally h p = (λ broken ls. line-next k broken before l ls h (p .0), p .1)
 line-placed k before l (Refused why) tally h p = λ broken ls. line-refused k broken before l ls why h p
 

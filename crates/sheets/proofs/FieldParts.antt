@@ -24,7 +24,8 @@ module _
     field-here =
         let here : getD (drop i fs) 0 [] ≡ getD fs i [] = getD-drop i fs 0 [] ∙ ap (λ (j : ℕ). getD fs j []) (omega arith) in
         by-less e to (λ h. sym (ap (λ (l : List (List ℕ)). getD l 0 []) (cut c at to e s k is h)) ∙ ap (λ (l : List (List ℕ)). getD l 0 []) left ∙ here)
-        (λ h. cut-part c at to e s k is h ∙ sym (ap (λ (l : List (List ℕ)). getD l 0 []) (cut-last c at to e s k is h)) ∙ ap (λ (l : List (List ℕ)). getD l 0 []) left ∙ here)
+        (λ h. cut-part c at to e s k is h ∙ sym (ap (λ (l : List (List ℕ)). getD l 0 []) (cut-last c at to e s k is h))
+        ∙ ap (λ (l : List (List ℕ)). getD l 0 []) left ∙ here)
 
     pub field-next : e < to → split c (slice (e + 1) to s) ≡ drop (i + 1) fs
     field-next h = sym (ap (drop 1) (cut c at to e s k is h)) ∙ ap (drop 1) left ∙ drop-drop 1 i fs

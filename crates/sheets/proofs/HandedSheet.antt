@@ -27,7 +27,8 @@ use Rattle.packing.specs.Count.{Line}
 use Rattle.sheets.specs.Reading.{Reading, got, then, unless, onField}
 use Rattle.sheets.specs.FirstLine.{Opening, openingFields, openingLines, firstLine}
 use Rattle.numerals.specs.Limits.{mostBits, mostBackends, mostServices, mostRules, mostCapacity, textLimit, totalLimit}
-use Rattle.sheets.specs.RuleSheet.{Table, tableWord, headText, lineText, linesText, onSuffix, countOf, inOrder, placed, ruleFields, ruleLines, closed, wholeTable, tableLine, readTable, isLine, checkLines, checkEnd, checkSheet}
+use Rattle.sheets.specs.RuleSheet.{Table, tableWord, headText, lineText, linesText, onSuffix, countOf, inOrder, placed, ruleFields, ruleLines}
+use Rattle.sheets.specs.RuleSheet.{closed, wholeTable, tableLine, readTable, isLine, checkLines, checkEnd, checkSheet}
 use Rattle.sheets.specs.Calls.{linesFrom, brokenFrom, brokenText, linesHanded, handedText, tableHanded}
 use Rattle.sheets.specs.Inner.Premises.{ValuesFit, atNoLine}
 use Rattle.sheets.proofs.Words.{same-refl}

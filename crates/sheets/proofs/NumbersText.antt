@@ -105,7 +105,8 @@ module _ (table : List ℕ) (n : ℕ) (room : 4 * n ≤ length table) where
   rest-length (suc m) i e =
       ap length (rows-more table n room i (omega arith)) ∙ ap suc (rest-length m (i + 1) (omega arith))
 
-  first-two : (k : ℕ) (before : List Line) (i : ℕ) → i < n → InOrder k before (rest i) → Formed k (lineAt table i) × InOrder k (lineAt table i ∷ before) (rest (i + 1))
+  first-two :
+      (k : ℕ) (before : List Line) (i : ℕ) → i < n → InOrder k before (rest i) → Formed k (lineAt table i) × InOrder k (lineAt table i ∷ before) (rest (i + 1))
   unfolding InOrder
   first-two k before i h s =
       let all = rw (rows-more table n room i h) at s in (formed k (lineAt table i) (all .0 .form), all .1)

@@ -16,7 +16,8 @@ use Rattle.numerals.specs.declared.refusal.Refusal.the-variants.{ShortLoan}
 use Rattle.sheets.specs.Reading.{Reading, got, refused}
 use Rattle.sheets.specs.PercentageSheet.{Sheet, readSheet}
 use Rattle.sheets.specs.RuleSheet.{Table, tableText}
-use Rattle.sheets.specs.Calls.{refusedAt, answered, valuesOf, afterwards, isValue, isPlan, tableFor, planOf, planAnswer, cellsFor, linesFrom, printText, printRead, sheetText}
+use Rattle.sheets.specs.Calls.{refusedAt, answered, valuesOf, afterwards, isValue, isPlan, tableFor, planOf, planAnswer, cellsFor, linesFrom}
+use Rattle.sheets.specs.Calls.{printText, printRead, sheetText}
 use Rattle.sheets.specs.Demand.{Demand3Of}
 use Rattle.sheets.specs.Inner.TableNumbers.{linesIn, tableIn, RuleLines}
 use Rattle.sheets.specs.declared.answer.Plan.{Plan}

@@ -17,7 +17,8 @@ use Rattle.expansion.proofs.Checks.{weights-sum}
 use Rattle.numerals.proofs.Searches.{true-all}
 use Rattle.numerals.specs.Buffer.{filled}
 use Rattle.packing.specs.Count.{services}
-use Rattle.packing.specs.Answer.{chunks, servicesOf, checkService, checkFrom, checkServices, checkHead, checkAll, linesMade, packedOf, figuresMade, cells, figuresBuffer, tableBuffer, written, answer, isMade, numbered}
+use Rattle.packing.specs.Answer.{chunks, servicesOf, checkService, checkFrom, checkServices, checkHead, checkAll, linesMade, packedOf, figuresMade}
+use Rattle.packing.specs.Answer.{cells, figuresBuffer, tableBuffer, written, answer, isMade, numbered}
 use Rattle.packing.specs.declared.answer.Packed.{Packed}
 use Rattle.packing.specs.declared.answer.Packing.{Packing}
 use Rattle.packing.specs.declared.answer.Packing.the-variants.{Made, Refused}
@@ -84,7 +85,8 @@ all-pass S l =
       is-within 1 mostBits (S .k) (l .bits) (l .few-bits),
       le-leb (S .tolerance) unit (l .tolerant),
       is-within 1 mostCapacity (S .capacity) (omega (arith, l .some, l .room)) (l .small),
-      from-passes 0 (S .volumes) (S .weights) (omega (arith, l .rows)) (omega (arith, l .rows, l .few)) (λ i h. l .volume i (omega (arith, l .rows))) (λ i h. l .row i (omega (arith, l .rows))),
+      from-passes 0 (S .volumes) (S .weights) (omega (arith, l .rows)) (omega (arith, l .rows, l .few)) (λ i h. l .volume i (omega (arith, l .rows)))
+          (λ i h. l .row i (omega (arith, l .rows))),
       lt-ltb 0 (length (S .volumes)) (omega (arith, l .some)),
       le-leb (length (S .volumes)) (S .capacity) (l .room),
     )
@@ -107,7 +109,8 @@ pub plan-answer :
     ≡ planOf S a b
 unfolding answer written planOf packedOf tableFor services servicesIn numbered
 plan-answer S limits a b = rw (all-pass S limits, same-services S)
-    (plan-picks (S .k) (length (S .volumes)) (leb (3 * length (S .volumes)) a) (leb (4 * length (linesMade (servicesIn S) (S .tolerance) (S .capacity))) b) (packedOf (servicesIn S) (S .tolerance) (S .capacity)))
+    (plan-picks (S .k) (length (S .volumes)) (leb (3 * length (S .volumes)) a) (leb (4 * length (linesMade (servicesIn S) (S .tolerance) (S .capacity))) b)
+    (packedOf (servicesIn S) (S .tolerance) (S .capacity)))
 
 fill-same : (k n : ℕ) (p : Packing) (out vs : List ℕ) → filled (isMade p) out 0 vs ≡ afterwards (isPlan (planFrom k n p)) out vs
 fill-same k n (Made p) out vs = refl

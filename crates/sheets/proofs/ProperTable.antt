@@ -72,7 +72,9 @@ module _ (k tolerance : ℕ) (labels ws : List ℕ) (one : 1 ≤ k) (few : lengt
   list-granted x h =
       record {
         steps = list-ladder x;
-        labelled = all-labelled k (λ b. getD labels b nobody) (length ws) (after F x) label-limits (formed-after F sound (base-formed k unit tolerance labels ws one (omega arith) balanced distinct) x);
+        labelled =
+            all-labelled k (λ b. getD labels b nobody) (length ws) (after F x) label-limits
+            (formed-after F sound (base-formed k unit tolerance labels ws one (omega arith) balanced distinct) x);
         few = omega (arith, length-le F x);
       }
 
@@ -129,20 +131,24 @@ module _ (S : Sheet) (L : Limits S) where
   granted-oldest s l = (
     min (g s - 1) (mostRules - 1),
     omega arith,
-    oldest-list (S .k) (S .tolerance) (getD (T .labels) s []) (getD (S .weights) s []) (L .bits) (L .row s l .few) (weigh s l) (numbers s) (g s) (fitting .enough s l),
+    oldest-list (S .k) (S .tolerance) (getD (T .labels) s []) (getD (S .weights) s []) (L .bits) (L .row s l .few) (weigh s l) (numbers s) (g s)
+        (fitting .enough s l),
   )
 
   all-granted : (s : ℕ) → s < length (S .volumes) → Granted (S .k) (oldest (g s) (listFor T (S .tolerance) s))
   unfolding frameOf servicesIn targetsOf numbered
   all-granted s l =
       let o = granted-oldest s l in
-      rw (o .2) (list-granted (S .k) (S .tolerance) (getD (T .labels) s []) (getD (S .weights) s []) (L .bits) (L .row s l .few) (weigh s l) (numbers s) (o .0) (o .1))
+      rw (o .2) (list-granted (S .k) (S .tolerance) (getD (T .labels) s []) (getD (S .weights) s []) (L .bits) (L .row s l .few) (weigh s l) (numbers s)
+      (o .0) (o .1))
 
-  imbalance-most : (s : ℕ) → s < length (S .volumes) → imbalance (frameOf T (S .tolerance) s .targets) (oldest (g s) (listFor T (S .tolerance) s)) ≤ mostImbalance
+  imbalance-most :
+      (s : ℕ) → s < length (S .volumes) → imbalance (frameOf T (S .tolerance) s .targets) (oldest (g s) (listFor T (S .tolerance) s)) ≤ mostImbalance
   unfolding frameOf servicesIn targetsOf numbered
   imbalance-most s l =
       let o = granted-oldest s l in
-      rw (o .2) (list-imbalance (S .k) (S .tolerance) (getD (T .labels) s []) (getD (S .weights) s []) (L .bits) (L .row s l .few) (weigh s l) (numbers s) (o .0) (L .few-bits))
+      rw (o .2) (list-imbalance (S .k) (S .tolerance) (getD (T .labels) s []) (getD (S .weights) s []) (L .bits) (L .row s l .few) (weigh s l) (numbers s)
+      (o .0) (L .few-bits))
 
   cost-most :
       (s : ℕ) → s < length (S .volumes)

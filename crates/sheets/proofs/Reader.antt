@@ -212,11 +212,18 @@ module _
     next-got e l f = next-line e ∙ rw f
 
 -- before the first line
-pub passed-none : (k : ℕ) (table : List ℕ) → length table ≡ 4 * mostCapacity → Passed k [] (record { count = 0; service = 0; len = 0 }) (replicate (1 + mostServices) 0) table
+pub passed-none :
+    (k : ℕ) (table : List ℕ) → length table ≡ 4 * mostCapacity → Passed k [] (record { count = 0; service = 0; len = 0 }) (replicate (1 + mostServices) 0) table
 unfolding lastOf countOf ownRules checkLines cells
 passed-none k table e =
     record {
-      behind = record { is = refl; places = length-replicate {A = ℕ} (1 + mostServices) 0; tallied = λ s h. getD-replicate {A = ℕ} (1 + mostServices) s 0 0 (omega arith) };
+      behind =
+          record {
+            is = refl;
+            places = length-replicate {A = ℕ} (1 + mostServices) 0;
+            tallied = λ s h. getD-replicate {A = ℕ} (1 + mostServices) s 0 0
+                (omega arith);
+          };
       checked = refl;
       room = e;
       stored = refl;

@@ -21,8 +21,10 @@ use Rattle.expansion.specs.Answer.{inLimits}
 use Rattle.sheets.specs.Reading.{Reading, got, refused, then, unless, onField, same}
 use Rattle.sheets.specs.PercentageSheet.{weightFields, sum, serviceFields, serviceLines, whole, sheetLine, readSheet}
 use Rattle.sheets.specs.FirstLine.{openingFields, openingLines, firstLine}
-use Rattle.sheets.specs.RuleSheet.{Table, headText, lineText, linesText, onSuffix, countOf, inOrder, placed, ruleFields, ruleLines, closed, wholeTable, tableLine, readTable, isLine, checkLines, checkEnd, checkSheet}
-use Rattle.sheets.specs.Calls.{about, refusedAt, linesFrom, brokenFrom, brokenText, linesHanded, handedText, tableHanded, hasService, lookupIn, lookupAnswer, moved, churnOf, churnAnswer}
+use Rattle.sheets.specs.RuleSheet.{Table, headText, lineText, linesText, onSuffix, countOf, inOrder, placed, ruleFields, ruleLines, closed}
+use Rattle.sheets.specs.RuleSheet.{wholeTable, tableLine, readTable, isLine, checkLines, checkEnd, checkSheet}
+use Rattle.sheets.specs.Calls.{about, refusedAt, linesFrom, brokenFrom, brokenText, linesHanded, handedText, tableHanded, hasService, lookupIn}
+use Rattle.sheets.specs.Calls.{lookupAnswer, moved, churnOf, churnAnswer}
 use Rattle.sheets.specs.Cases.{bytes}
 use Rattle.sheets.proofs.TableTexts.{linesWidth}
 use Rattle.sheets.proofs.NumbersText.{handedWidth, length-handed}
@@ -88,7 +90,9 @@ AllRight [] = Unit {0}
 AllRight (c ∷ cs) = (readTable (c .text) ≡ c .is) × AllRight cs
 
 pub right : AllRight cases
-unfolding bytes linesFrom readTable textLimit tableLine firstLine openingLines openingFields wholeTable closed ruleLines ruleFields placed inOrder countOf ownRules onSuffix totalLimit same onField unless then number isNumeral noLeadingZero allDigits isDigit value valueFrom suffix split onto
+unfolding bytes linesFrom readTable textLimit tableLine firstLine openingLines openingFields wholeTable closed ruleLines ruleFields placed
+    inOrder countOf ownRules onSuffix totalLimit same onField unless then number isNumeral noLeadingZero allDigits isDigit value valueFrom
+    suffix split onto
 right = (refl, (refl, (refl, (refl, (refl, (refl, (refl, (refl, (refl, (refl, (refl, (refl, (refl, (refl, (refl, (refl, (refl, (refl, (refl, (refl, (refl, (refl, (refl, (refl, (refl, (refl, (refl, tt)))))))))))))))))))))))))))
 
 -- Lookup on the sample's rule sheet: the first match, the `*` line, an address of 32 bits, and services that aren't there.
@@ -105,7 +109,9 @@ pub record Lookups : Type 0 where
   pub malformed : lookupAnswer (bytes "TABLE 5 5 293333920") 3 0 ≡ Refused (refusedAt no1 1)
 
 pub lookups : Lookups
-unfolding lookupAnswer lookupIn hasService firstMatch matches bytes readTable textLimit tableLine firstLine openingLines openingFields wholeTable closed ruleLines ruleFields placed inOrder countOf ownRules onSuffix totalLimit same onField unless then number isNumeral noLeadingZero allDigits isDigit value valueFrom suffix split onto
+unfolding lookupAnswer lookupIn hasService firstMatch matches bytes readTable textLimit tableLine firstLine openingLines openingFields wholeTable
+    closed ruleLines ruleFields placed inOrder countOf ownRules onSuffix totalLimit same onField unless then number isNumeral noLeadingZero
+    allDigits isDigit value valueFrom suffix split onto
 lookups = record { matching = refl; star = refl; second = refl; zeroth = refl; unknown = refl; malformed = refl }
 
 -- Churn: suffixes that moved, and which sheet a refusal names.
@@ -123,7 +129,9 @@ pub record Churns : Type 0 where
   pub new : churns "TABLE 1 1 0\n2 * 1\n" "TABLE 1 1 0" 1 ≡ Refused (about 2 no1 1)
 
 pub all-churns : Churns
-unfolding churnAnswer churnOf moved sumTo countTo hasService firstMatch matches bytes readTable textLimit tableLine firstLine openingLines openingFields wholeTable closed ruleLines ruleFields placed inOrder countOf ownRules onSuffix totalLimit same onField unless then number isNumeral noLeadingZero allDigits isDigit value valueFrom suffix split onto
+unfolding churnAnswer churnOf moved sumTo countTo hasService firstMatch matches bytes readTable textLimit tableLine firstLine openingLines
+    openingFields wholeTable closed ruleLines ruleFields placed inOrder countOf ownRules onSuffix totalLimit same onField unless then
+    number isNumeral noLeadingZero allDigits isDigit value valueFrom suffix split onto
 all-churns = record { all = refl; half = refl; first = refl; second = refl; neither = refl; old = refl; new = refl }
 
 -- Tables in numbers.
@@ -149,7 +157,9 @@ pub record Handed : Type 0 where
   pub before-star : tableHanded 1 0 (1 ∷ 1 ∷ 0 ∷ 1 ∷ 1 ∷ 0 ∷ []) ≡ refused no1 0
 
 pub all-handed : Handed
-unfolding tableHanded handedText headText linesHanded brokenText brokenFrom linesFrom linesText lineText checkSheet checkEnd checkLines isLine isRule isSuffix inLimits placed inOrder countOf ownRules closed totalLimit textLimit unless then decimal width widthIn suffixText lowest
+unfolding tableHanded handedText headText linesHanded brokenText brokenFrom linesFrom linesText lineText checkSheet checkEnd checkLines isLine
+    isRule isSuffix inLimits placed inOrder countOf ownRules closed totalLimit textLimit unless then decimal width widthIn suffixText
+    lowest
 all-handed =
     record {
       accepted = refl;
@@ -191,5 +201,7 @@ pub record TooManies : Type 0 where
   pub keyword : readSheet (bytes "SHEET 1 0 1\n" ++ times 64 (bytes "SERVICE 1 100\n") ++ bytes "SERVIC\n") ≡ refused no1 66
 
 pub too-manies : TooManies
-unfolding bytes readSheet textLimit sheetLine firstLine openingLines openingFields whole serviceLines serviceFields sum weightFields same onField unless then unit percentage percentOf split onto number isNumeral noLeadingZero allDigits isDigit value valueFrom onValue fraction atMostAll
+unfolding bytes readSheet textLimit sheetLine firstLine openingLines openingFields whole serviceLines serviceFields sum weightFields same onField
+    unless then unit percentage percentOf split onto number isNumeral noLeadingZero allDigits isDigit value valueFrom onValue fraction
+    atMostAll
 too-manies = record { weights = refl; services = refl; keyword = refl }

@@ -51,7 +51,8 @@ pub tallied-all : (k n v : ℕ) (ls : List Line) (counts : List ℕ) → v ≡ 2
 unfolding sharesOf share
 tallied-all k n v ls counts all T =
     sym (take-all mostBackends counts (omega (arith, T .long)))
-    ∙ list-taken _ counts (λ b l. T .at b (omega (arith, T .long)) ∙ ap (λ (x : ℕ). countTo x (λ w. gives (ownRules n ls) w (suc b))) all) mostBackends (omega (arith, T .long))
+    ∙ list-taken _ counts (λ b l. T .at b (omega (arith, T .long)) ∙ ap (λ (x : ℕ). countTo x (λ w. gives (ownRules n ls) w (suc b))) all) mostBackends
+    (omega (arith, T .long))
 
 given : {h : ℕ} (rs : List Rule) (v b : ℕ) → h ≡ firstMatch rs v → gives rs v b ≡ eqb h b
 unfolding gives

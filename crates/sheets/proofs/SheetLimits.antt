@@ -21,7 +21,8 @@ use Rattle.numerals.specs.Sums.{sumTo}
 use Rattle.numerals.proofs.Sums.{sum-none, sum-suc, sum-ext, sum-split}
 use Rattle.sheets.specs.Reading.{got, field}
 use Rattle.sheets.specs.FirstLine.{Opening}
-use Rattle.sheets.specs.PercentageSheet.{Sheet, Service, weightFields, sum, serviceFields, serviceLines, volumesOf, weightsOf, whole, sheetLine, readSheet}
+use Rattle.sheets.specs.PercentageSheet.{Sheet, Service, weightFields, sum, serviceFields, serviceLines, volumesOf, weightsOf, whole, sheetLine}
+use Rattle.sheets.specs.PercentageSheet.{readSheet}
 use Rattle.sheets.proofs.Readings.{got-same, unless-got, onField-got, then-got}
 use Rattle.sheets.proofs.OpeningLine.{opened}
 

@@ -38,7 +38,8 @@ unfolding cases
 sample-packs = record { sheet = sample; read = right .0; services = refl; grant = sample-grant; rules = sample-printed }
 
 pub twelve-right : AllOf twelve
-unfolding bytes onField onSuffix suffix place lowest percentage percentOf split onto number isNumeral noLeadingZero allDigits isDigit value valueFrom onValue fraction atMostAll
+unfolding bytes onField onSuffix suffix place lowest percentage percentOf split onto number isNumeral noLeadingZero allDigits isDigit value
+    valueFrom onValue fraction atMostAll
 twelve-right = (
   worked-show .0,
   (

@@ -16,7 +16,8 @@ use Rattle.numerals.specs.Refusals.{no7}
 use Rattle.numerals.specs.Sums.{sumTo, listTo, countTo, allTo, firstTo, argmax, lastmax}
 use Rattle.expansion.specs.FirstMatch.{isRule, matches, firstMatch, gives, share}
 use Rattle.expansion.specs.Imbalance.{backends, label, weight, has, wants, excess, shortfall, imbalance, giver, receiver, largestExcess, largestShortfall}
-use Rattle.expansion.specs.Steps.{firstRule, frame, isWithin, reduction, reductionAt, term, isNoGain, isWhole, termLength, lowestPlace, newRule, step, after, endOf, listOf, oldest, stair}
+use Rattle.expansion.specs.Steps.{firstRule, frame, isWithin, reduction, reductionAt, term, isNoGain, isWhole, termLength, lowestPlace, newRule, step}
+use Rattle.expansion.specs.Steps.{after, endOf, listOf, oldest, stair}
 use Rattle.expansion.specs.declared.rule.Ended.the-variants.{NoGain}
 use Rattle.packing.specs.Grants.{Grants, saving, next, rules, total, more, grantStep, grantsAfter, packed}
 use Rattle.packing.specs.Count.{services, volume, targetsOf, countedImbalance, counted, countedLargestExcess, countedLargestShortfall, ownRules}
@@ -26,9 +27,11 @@ use Rattle.packing.specs.Demand.{Fitting}
 use Rattle.expansion.specs.Answer.{inLimits}
 use Rattle.packing.specs.Cases.{line}
 use Rattle.sheets.specs.Reading.{Reading, got, refused, then, unless, onField, same}
-use Rattle.sheets.specs.PercentageSheet.{Sheet, weightFields, sum, serviceFields, serviceLines, volumesOf, weightsOf as rowsOf, whole, sheetLine, readSheet}
+use Rattle.sheets.specs.PercentageSheet.{Sheet, weightFields, sum, serviceFields, serviceLines, volumesOf, weightsOf as rowsOf, whole}
+use Rattle.sheets.specs.PercentageSheet.{sheetLine, readSheet}
 use Rattle.sheets.specs.FirstLine.{openingFields, openingLines, firstLine}
-use Rattle.sheets.specs.RuleSheet.{Table, headText, lineText, linesText, tableText, onSuffix, countOf, inOrder, placed, ruleFields, ruleLines, closed, wholeTable, tableLine, readTable, isLine, checkLines, checkEnd, checkSheet}
+use Rattle.sheets.specs.RuleSheet.{Table, headText, lineText, linesText, tableText, onSuffix, countOf, inOrder, placed, ruleFields, ruleLines}
+use Rattle.sheets.specs.RuleSheet.{closed, wholeTable, tableLine, readTable, isLine, checkLines, checkEnd, checkSheet}
 use Rattle.sheets.specs.Inner.Premises.{checkTable}
 use Rattle.sheets.specs.Calls.{about, servicesIn, tableFor, planOf, planAnswer, figuresFor, sheetText, printText, printRead}
 use Rattle.sheets.specs.Demand.{Demand3}
@@ -62,7 +65,11 @@ tableBytes = bytes "TABLE 5 5 293333920\n1 *0 2\n1 * 3\n2 *00 2\n2 *0 1\n2 * 3\n
 
 -- the sample's table, by the definitions
 pub sample-packed : tableFor sample ≡ sampleTable
-unfolding tableFor servicesIn unit sumTo listTo countTo allTo firstTo argmax lastmax matches firstMatch gives share backends label weight has wants excess shortfall imbalance giver receiver largestExcess largestShortfall firstRule frame isWithin reduction reductionAt term isNoGain isWhole termLength lowestPlace newRule step after listOf oldest stair place value valueFrom lowest saving next rules total more grantStep grantsAfter packed services volume targetsOf ruleBudget frameOf listFor problem granted linesOf tableOf table linesMade numbered
+unfolding tableFor servicesIn unit sumTo listTo countTo allTo firstTo argmax lastmax matches firstMatch gives share backends label weight has
+    wants excess shortfall imbalance giver receiver largestExcess largestShortfall firstRule frame isWithin reduction reductionAt term
+    isNoGain isWhole termLength lowestPlace newRule step after listOf oldest stair place value valueFrom lowest saving next rules total
+    more grantStep grantsAfter packed services volume targetsOf ruleBudget frameOf listFor problem granted linesOf tableOf table linesMade
+    numbered
 sample-packed = refl
 
 -- its text, byte for byte
@@ -81,7 +88,9 @@ sample-answer = rw (right .0, sample-printed)
 
 -- it is accepted, and passes the check of a table in numbers
 pub sample-accepted : readTable tableBytes ≡ got sampleTable
-unfolding bytes readTable textLimit tableLine firstLine openingLines openingFields wholeTable closed ruleLines ruleFields placed inOrder countOf ownRules onSuffix totalLimit same onField unless then number isNumeral noLeadingZero allDigits isDigit value valueFrom suffix split onto
+unfolding bytes readTable textLimit tableLine firstLine openingLines openingFields wholeTable closed ruleLines ruleFields placed inOrder countOf
+    ownRules onSuffix totalLimit same onField unless then number isNumeral noLeadingZero allDigits isDigit value valueFrom suffix split
+    onto
 sample-accepted = refl
 
 pub sample-checked : checkTable sampleTable ≡ got sampleTable
@@ -107,7 +116,10 @@ rival-fits = record { enough = one; room = omega arith }
     one (suc (suc s)) h = absurd (omega arith)
 
 pub rival-loses : counted (servicesIn sample) (table (servicesIn sample) 20000 rival) ≡ 738333920
-unfolding servicesIn unit sumTo listTo countTo allTo firstTo argmax lastmax matches firstMatch gives share backends label weight has wants excess shortfall imbalance giver receiver largestExcess largestShortfall firstRule frame isWithin reduction reductionAt term isNoGain isWhole termLength lowestPlace newRule step after listOf oldest place value valueFrom lowest services volume targetsOf ruleBudget frameOf listFor linesOf tableOf table ownRules countedImbalance counted numbered
+unfolding servicesIn unit sumTo listTo countTo allTo firstTo argmax lastmax matches firstMatch gives share backends label weight has wants excess
+    shortfall imbalance giver receiver largestExcess largestShortfall firstRule frame isWithin reduction reductionAt term isNoGain isWhole
+    termLength lowestPlace newRule step after listOf oldest place value valueFrom lowest services volume targetsOf ruleBudget frameOf
+    listFor linesOf tableOf table ownRules countedImbalance counted numbered
 rival-loses = refl
 
 -- P6 as a sheet: its whole list is in the table and ended as no gain, and excess and shortfall make just one suffix, as much as demand 3 allows
@@ -119,7 +131,9 @@ abbrev thirdsTable : Table
 thirdsTable = record { k = 1; total = 666666; lines = line 1 1 0 2 ∷ line 1 0 0 1 ∷ [] }
 
 pub thirds-read : readSheet (bytes "SHEET 1 0 2\nSERVICE 1 33.3334 33.3333 33.3333\n") ≡ got thirds
-unfolding bytes readSheet textLimit sheetLine firstLine openingLines openingFields whole volumesOf rowsOf serviceLines serviceFields sum weightFields same onField unless then unit percentage percentOf split onto number isNumeral noLeadingZero allDigits isDigit value valueFrom onValue fraction atMostAll
+unfolding bytes readSheet textLimit sheetLine firstLine openingLines openingFields whole volumesOf rowsOf serviceLines serviceFields sum
+    weightFields same onField unless then unit percentage percentOf split onto number isNumeral noLeadingZero allDigits isDigit value
+    valueFrom onValue fraction atMostAll
 thirds-read = refl
 
 pub record Tight : Type 0 where
@@ -130,7 +144,11 @@ pub record Tight : Type 0 where
   pub below : countedLargestShortfall (servicesIn thirds) (thirdsTable .lines) 0 ≡ 666666
 
 pub thirds-tight : Tight
-unfolding tableFor servicesIn unit sumTo listTo countTo allTo firstTo argmax lastmax matches firstMatch gives share backends label weight has wants excess shortfall imbalance giver receiver largestExcess largestShortfall firstRule frame isWithin reduction reductionAt term isNoGain isWhole termLength lowestPlace newRule step after endOf listOf oldest stair place value valueFrom lowest saving next rules total more grantStep grantsAfter packed services volume targetsOf ruleBudget frameOf listFor problem granted linesOf tableOf table linesMade countedLargestExcess countedLargestShortfall ownRules numbered
+unfolding tableFor servicesIn unit sumTo listTo countTo allTo firstTo argmax lastmax matches firstMatch gives share backends label weight has
+    wants excess shortfall imbalance giver receiver largestExcess largestShortfall firstRule frame isWithin reduction reductionAt term
+    isNoGain isWhole termLength lowestPlace newRule step after endOf listOf oldest stair place value valueFrom lowest saving next rules
+    total more grantStep grantsAfter packed services volume targetsOf ruleBudget frameOf listFor problem granted linesOf tableOf table
+    linesMade countedLargestExcess countedLargestShortfall ownRules numbered
 thirds-tight = record { made = refl; entire = refl; ended = refl; above = refl; below = refl }
 
 -- The one call on the sample: made, and each buffer too short by one place.
@@ -139,7 +157,11 @@ abbrev sampleFigures : List ℕ
 sampleFigures = 2 ∷ 4 ∷ 0 ∷ 3 ∷ 3 ∷ 0 ∷ []
 
 pub sample-figures : figuresFor sample ≡ sampleFigures
-unfolding figuresFor figuresMade figuresTo servicesIn unit sumTo listTo countTo allTo firstTo argmax lastmax matches firstMatch gives share backends label weight has wants excess shortfall imbalance giver receiver largestExcess largestShortfall firstRule frame isWithin reduction reductionAt term isNoGain isWhole termLength lowestPlace newRule step after endOf listOf oldest stair place value valueFrom lowest saving next rules total more grantStep grantsAfter packed services volume targetsOf ruleBudget frameOf listFor problem granted numbered
+unfolding figuresFor figuresMade figuresTo servicesIn unit sumTo listTo countTo allTo firstTo argmax lastmax matches firstMatch gives share
+    backends label weight has wants excess shortfall imbalance giver receiver largestExcess largestShortfall firstRule frame isWithin
+    reduction reductionAt term isNoGain isWhole termLength lowestPlace newRule step after endOf listOf oldest stair place value valueFrom
+    lowest saving next rules total more grantStep grantsAfter packed services volume targetsOf ruleBudget frameOf listFor problem granted
+    numbered
 sample-figures = refl
 
 pub record OneCall : Type 0 where

@@ -29,7 +29,14 @@ unfoldable pub cases : List Case
 cases =
     -- the sample
     reads "SHEET 5 2 5\nSERVICE 55 16.6667 33.3333 50\nSERVICE 45 25 25 50\n"
-    (got (record { k = 5; tolerance = 20000; capacity = 5; volumes = 55 ∷ 45 ∷ []; weights = (166667 ∷ 333333 ∷ 500000 ∷ []) ∷ (250000 ∷ 250000 ∷ 500000 ∷ []) ∷ [] }))
+    (got (record {
+      k = 5;
+      tolerance = 20000;
+      capacity = 5;
+      volumes = 55 ∷ 45 ∷ [];
+      weights
+          = (166667 ∷ 333333 ∷ 500000 ∷ []) ∷ (250000 ∷ 250000 ∷ 500000 ∷ []) ∷ [];
+    }))
     -- P9 to P12, in a sheet
     ∷ reads "SHEET 5 2 5\nSERVICE 55 50 50\nSERVICE 45 18.4.2 81.6\n" (refused no2 3)
     ∷ reads "SHEET 1 0 1\nSERVICE 7 100.0000\n" (alone 1 1 (7 ∷ []) ((1000000 ∷ []) ∷ []))

@@ -53,7 +53,8 @@ returns-2 c =
 next :
     (c : tie.After-known-told Inv-loop μ-loop)
     → let f = c .before .before .before .before in
-    ReadTo (f .before .before .before .before .before .before .args .s .now) (f .before .before .loop .v * 256 + c .before .read .given .0 .0) (f .find .result + 1)
+    ReadTo (f .before .before .before .before .before .before .args .s .now) (f .before .before .loop .v * 256 + c .before .read .given .0 .0)
+    (f .find .result + 1)
 unfolding byte
 next c =
     let f = c .before .before .before .before in

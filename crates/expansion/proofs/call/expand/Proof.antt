@@ -42,7 +42,9 @@ enum-told : tie.Need-enum-told
 enum-told c = search needs
 
 passed : (c : tie.After-enum-told)
-    → let s = c .before .before .before .before .before .before .before .before in let a = s .args in checkCall (a .k) (a .tolerance) (a .budget) (a .weights .now) ≡ Passed
+    → let s =
+    c .before .before .before .before .before .before .before .before in let a = s .args in checkCall (a .k) (a .tolerance) (a .budget)
+    (a .weights .now) ≡ Passed
 passed c = sym (c .before .before .check-call .ensures) ∙ c .enum-told .given .1
 
 make-numbered-requires : tie.Need-make-numbered-requires
@@ -74,7 +76,8 @@ begun c = c .before .before .before .before .before .before .before .before .bef
 room-is : (c : tie.After-has-room) → c .has-room .result ≡ leb (begun c .args .at + list-of c .make-numbered .result .list .count) (room (begun c))
 room-is c =
     let n = begun c .args .at + list-of c .make-numbered .result .list .count in
-    let least : c .before .smaller3 .result ≡ room (begun c) = omega (arith, c .before .smaller3 .ensures, c .before .before .smaller2 .ensures, c .before .before .before .smaller .ensures) in
+    let least : c .before .smaller3 .result
+    ≡ room (begun c) = omega (arith, c .before .smaller3 .ensures, c .before .before .smaller2 .ensures, c .before .before .before .smaller .ensures) in
     c .has-room .ensures ∙ ap (leb n) least
 
 returns-2 : tie.Need-returns-2

@@ -90,7 +90,8 @@ nodes-again : tie.Need-nodes-again Inv-loop μ-loop Inv-nodes μ-nodes
 nodes-again c =
     let a = c .before .before .before .before .args in
     let o = c .before .before .before .nodes in
-    let next = passed (a .holder .now) (a .size) (a .giver) (a .from) (o .node) (a .size) 1 (omega arith) (c .before .before .before .before .pre .0) (omega arith) (c .if1 .taken) (o .inv .2) in
+    let next = passed (a .holder .now) (a .size) (a .giver) (a .from) (o .node) (a .size) 1 (omega arith) (c .before .before .before .before .pre .0)
+    (omega arith) (c .if1 .taken) (o .inv .2) in
     (omega arith, omega arith, λ j m n. next j m (omega arith))
 
 loop-holds : tie.Need-loop-holds Inv-loop μ-loop Inv-nodes μ-nodes
@@ -129,7 +130,8 @@ nodes-again-2 c =
     let a = c .before .before .before .before .before .before .before .before .args in
     let o = c .before .before .before .before .before .before .before .nodes in
     let l = c .before .before .before .loop in
-    let next = passed (a .holder .now) (a .size) (a .giver) (a .from) (o .node) (l .left) 1 (omega arith) (omega arith) (l .inv .1) (c .if2 .taken) (o .inv .2) in
+    let next = passed (a .holder .now) (a .size) (a .giver) (a .from) (o .node) (l .left) 1 (omega arith) (omega arith) (l .inv .1) (c .if2 .taken)
+    (o .inv .2) in
     (omega arith, omega arith, λ j m n. next j m (omega arith))
 
 -- a turn has two suffixes
@@ -159,7 +161,8 @@ nodes-again-3 c =
     let a = c .before .before .before .before .before .before .before .before .before .before .args in
     let o = c .before .before .before .before .before .before .before .before .before .nodes in
     let l = c .before .before .before .before .before .loop in
-    let next = passed (a .holder .now) (a .size) (a .giver) (a .from) (o .node) (l .left) 2 (omega arith) (turn (c .before .before .before .before) .0) (l .inv .1) (c .if3 .taken) (o .inv .2) in
+    let next = passed (a .holder .now) (a .size) (a .giver) (a .from) (o .node) (l .left) 2 (omega arith) (turn (c .before .before .before .before) .0)
+    (l .inv .1) (c .if3 .taken) (o .inv .2) in
     (omega arith, omega arith, λ j m n. next j m (omega arith))
 
 sub-left : tie.Need-sub-left Inv-loop μ-loop Inv-nodes μ-nodes

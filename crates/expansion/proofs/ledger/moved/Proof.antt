@@ -16,7 +16,8 @@ use prog.Wp.{Heap, Calls, Loops, WpFn, Tables}
 use ghost.Atoms.{Atoms, sem}
 use contract.Monad.{Fun, fact}
 use contract.Running.{givenOf, tables, tablesOf}
-use types.Kit.{Given, ‵, raw, some, given, later, _⊛_, _$_, _∵_, !, qed, by, move, keep, drop, use1, use2, split, join, pick, learn, fsplit, fjoin, suffices, frame, await, updating, now as at-once, show, check, done}
+use types.Kit.{Given, ‵, raw, some, given, later, _⊛_, _$_, _∵_, !, qed, by, move, keep, drop, use1, use2, split, join, pick, learn, fsplit, fjoin}
+use types.Kit.{suffices, frame, await, updating, now as at-once, show, check, done}
 use types.Run.{look, init, stop, fld, from, load, lit, no-more, and-then, of-opd, addr, returns, enter, alloc1, alloc0, params1, pass1, pass0, free0}
 use types.Part.{agg, whole, sub, look-in}
 use sound.WpLaws.{FmC, fmOf, WpFn-mono}
@@ -134,7 +135,8 @@ module _ {M : Type 1} (𝓤 : URA M) (H : Heap 𝓤) (A : Atoms 𝓤) (W : Given
       split ! $ move ! (1 ∷ []) $ drop ! $ move ! (1 ∷ []) $
       -- [what is ensured, at some last entries; the token]
       use1 W (some (λ (zs : List Backend × (Unit {0} × (Unit {0} × (Unit {0} × Unit {0})))).
-      ‵ (lasts shift.ended (α ∷ [], tt) (lent b 0 γ es, (giver, (receiver, (count, tt)))) zs) ⊛ raw (fact 𝓤 (zs .0 ≡ movedOf es giver receiver count)))) (id⊢ 𝓤 _) $
+      ‵ (lasts shift.ended (α ∷ [], tt) (lent b 0 γ es, (giver, (receiver, (count, tt)))) zs) ⊛ raw (fact 𝓤 (zs .0 ≡ movedOf es giver receiver count))))
+      (id⊢ 𝓤 _) $
       pick ! (λ zs. split ! $ move ! (1 ∷ []) $ heard ! (zs .0 ≡ movedOf es giver receiver count) (λ e. fsplit ! $ fsplit ! $ keep ! (3 ∷ 0 ∷ []) $
       at-once ! $ show ! (Left α γ v) (zs .0) $ check ! (ap only is-unit, e) $ done !))))
 
@@ -144,8 +146,11 @@ module _ {M : Type 1} (𝓤 : URA M) (H : Heap 𝓤) (A : Atoms 𝓤) (W : Given
     walk =
         qed W (‵ ftrue ∷ ‵ (owns (L.the-row ∷ usize ∷ usize ∷ u64 ∷ []) a vals) ∷ []) ∵
         enter ! C Λ code.function (L′.lowered ledger ∷ vint w64 giver ∷ vint w64 receiver ∷ vint w64 count ∷ []) _ $
-        alloc1 ! (λ l₀. alloc1 ! (λ l₁. alloc1 ! (λ l₂. alloc1 ! (λ l₃. alloc1 ! (λ l₄. alloc1 ! (λ l₅. alloc1 ! (λ l₆. alloc1 ! (λ l₇. alloc1 ! (λ l₈. alloc1 ! (λ l₉. alloc0 ! $ params1 ! $
-        pass1 ! (init ! 16 refl (LL.lawful L.the-type L′.the-laws 𝓤 H A W .typed ledger _ is .0)) $ pass1 ! (init ! 14 refl (tt, record { fits = giver-fits })) $
+        alloc1 ! (λ l₀. alloc1
+        ! (λ l₁. alloc1 ! (λ l₂. alloc1
+        ! (λ l₃. alloc1 ! (λ l₄. alloc1 ! (λ l₅. alloc1 ! (λ l₆. alloc1 ! (λ l₇. alloc1 ! (λ l₈. alloc1 ! (λ l₉. alloc0 ! $ params1 ! $
+        pass1 ! (init ! 16 refl (LL.lawful L.the-type L′.the-laws 𝓤 H A W .typed ledger _ is .0)) $ pass1
+        ! (init ! 14 refl (tt, record { fits = giver-fits })) $
         pass1 ! (init ! 12 refl (tt, record { fits = receiver-fits })) $ pass1 ! (init ! 10 refl (tt, record { fits = count-fits })) $ pass0 ! $
         -- The context is [_9; …; _8; …; and so on to _0; …]: local k stands at 18 - 2 * k.
         -- 1 to 4 are the parameters, 5 is `at`, 7 its address, 8 the slice reference, 6 what `shift` returns, and 9 the array on its way to the result.
@@ -158,12 +163,14 @@ module _ {M : Type 1} (𝓤 : URA M) (H : Heap 𝓤) (A : Atoms 𝓤) (W : Given
         calls-at ! fm (Shift 𝓤 H A mem run) known (to-shift l₅ α γ)
         (and-then ! (held ! 4 refl) (and-then ! (held ! 15 refl) (and-then ! (held ! 13 refl) (and-then ! (held ! 11 refl) (no-more !))))) (λ v.
         -- It is taken back. [_5; _9; …; _6; …; the right to free _5; _4; …]
-        use1 W (later (some (λ (zs : List Backend). given ((v ≡ vunit) × (zs ≡ movedOf es giver receiver count)) (‵ (flft (α ∷ []) fullShare) ⊛ ‵ (finally Entry γ zs))))) (leaves l₅ α γ v) $
+        use1 W (later (some (λ (zs : List Backend). given ((v ≡ vunit) × (zs ≡ movedOf es giver receiver count))
+        (‵ (flft (α ∷ []) fullShare) ⊛ ‵ (finally Entry γ zs))))) (leaves l₅ α γ v) $
         await ! tt $ pick ! (λ zs. learn ! (λ e. split ! $ move ! (0 ∷ 2 ∷ 1 ∷ []) $ takes-all ! tt zs l₅ α γ (λ zs-fits.
         gets ! (init ! 7 refl (subst (λ (u : Val). T (hasTy tyUnit u) × WT u) (sym (e .0)) (tt, tt))) $
         -- `Ledger { at }`
         sets ! (of-opd ! (held ! 0 refl)) (init ! 1 refl (typed zs zs-fits)) $
-        sets ! (agg ! (and-then ! (held ! 1 refl) (no-more !))) (init ! 18 refl (LL.lawful L.the-type L′.the-laws 𝓤 H A W .typed (record { at = zs }) _ (to-ledger zs zs-fits) .0)) $
+        sets ! (agg ! (and-then ! (held ! 1 refl) (no-more !)))
+        (init ! 18 refl (LL.lawful L.the-type L′.the-laws 𝓤 H A W .typed (record { at = zs }) _ (to-ledger zs zs-fits) .0)) $
         -- The function returns, and its locals are freed.
         returns ! (look ! 18 refl) $
         ends ! 18 refl refl $ ends ! 16 refl refl $ ends ! 14 refl refl $ ends ! 12 refl refl $ ends ! 10 refl refl $ move ! (0 ∷ 9 ∷ []) $ ends ! 0 refl refl $

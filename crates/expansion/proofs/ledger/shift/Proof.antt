@@ -20,7 +20,8 @@ use ghost.Atoms.{Atoms}
 use contract.Monad.{Fun}
 use contract.Running.{givenOf, tables, tablesOf}
 use types.Kit.{Given, ‵, _⊛_, ⋆, _$_, _∵_, !, qed, by, move, drop, split, join, fsplit, fjoin, feqI, suffices, frame, done}
-use types.Run.{look, init, store, stop, hop, fld, from, load, lit, unit-lit, no-more, and-then, of-opd, bin, assigns, returns, enter, alloc1, alloc0, params1, pass1, pass0, free0}
+use types.Run.{look, init, store, stop, hop, fld, from, load, lit, unit-lit, no-more, and-then, of-opd, bin, assigns, returns, enter, alloc1, alloc0}
+use types.Run.{params1, pass1, pass0, free0}
 use types.Part.{whole, sub, look-in}
 use sound.WpLaws.{FmC, fmOf, WpFn-mono}
 use denote.RattleType.{owns}
@@ -138,12 +139,14 @@ module _ {M : Type 1} (𝓤 : URA M) (H : Heap 𝓤) (A : Atoms 𝓤) (W : Given
         -- `let from = ledger[giver];`
         sets ! (bin ! (held ! 22 refl) (lit ! tt) (near giver _ (m .giver-in) room)) (init ! 12 refl (tt, near giver _ (m .giver-in) room)) $
         sets ! (bin ! (load ! (from ! (fld ! refl (stop !))) (look-in ! 24 (sub ! 0 refl (whole !)))) (held ! 12 refl) tt) (init ! 10 refl (tt, tt)) $
-        sets ! (of-opd ! (load ! (from ! (hop ! (look ! 10 refl) (stop !))) (look-entry ! es giver b o (m .giver-in)))) (init ! 8 refl (typed old-giver old-giver-fits)) $
+        sets ! (of-opd ! (load ! (from ! (hop ! (look ! 10 refl) (stop !))) (look-entry ! es giver b o (m .giver-in))))
+        (init ! 8 refl (typed old-giver old-giver-fits)) $
         sets ! (of-opd ! (held ! 8 refl)) (init ! 16 refl (typed old-giver old-giver-fits)) $
         -- `let to = ledger[receiver];`
         sets ! (bin ! (held ! 20 refl) (lit ! tt) (near receiver _ (m .receiver-in) room)) (store ! 12 refl (tt, near receiver _ (m .receiver-in) room)) $
         sets ! (bin ! (load ! (from ! (fld ! refl (stop !))) (look-in ! 24 (sub ! 0 refl (whole !)))) (held ! 12 refl) tt) (init ! 6 refl (tt, tt)) $
-        sets ! (of-opd ! (load ! (from ! (hop ! (look ! 6 refl) (stop !))) (look-entry ! es receiver b o (m .receiver-in)))) (store ! 8 refl (typed old-receiver old-receiver-fits)) $
+        sets ! (of-opd ! (load ! (from ! (hop ! (look ! 6 refl) (stop !))) (look-entry ! es receiver b o (m .receiver-in))))
+        (store ! 8 refl (typed old-receiver old-receiver-fits)) $
         sets ! (of-opd ! (held ! 8 refl)) (init ! 14 refl (typed old-receiver old-receiver-fits)) $
         -- `ledger[giver] = changed(from, count, 0);`
         calls-changed ! fm known old-giver count 0 old-giver-fits count-fits (lit< tt) (m .gives)
@@ -158,11 +161,14 @@ module _ {M : Type 1} (𝓤 : URA M) (H : Heap 𝓤) (A : Atoms 𝓤) (W : Given
         gets ! (store ! 8 refl (typed new-receiver new-receiver-fits)) $
         sets ! (bin ! (held ! 20 refl) (lit ! tt) (near receiver _ (m .receiver-in) room)) (store ! 12 refl (tt, near receiver _ (m .receiver-in) room)) $
         sets ! (bin ! (load ! (from ! (fld ! refl (stop !))) (look-in ! 24 (sub ! 0 refl (whole !)))) (held ! 12 refl) tt) (init ! 2 refl (tt, tt)) $
-        assigns ! (of-opd ! (held ! 8 refl)) (from ! (hop ! (look ! 2 refl) (stop !))) (store-entry ! es₁ receiver new-receiver b o receiver-in new-receiver-fits) $
+        assigns ! (of-opd ! (held ! 8 refl)) (from ! (hop ! (look ! 2 refl) (stop !)))
+        (store-entry ! es₁ receiver new-receiver b o receiver-in new-receiver-fits) $
         -- The ledger is closed at es₂, the function returns, and its locals are freed.
         closes-entries ! tt es es₂ b o long room $ sets ! (of-opd ! (unit-lit !)) (init ! 26 refl (tt, tt)) $ returns ! (look ! 26 refl) $
-        ends ! 26 refl refl $ ends ! 24 refl refl $ ends ! 22 refl refl $ ends ! 20 refl refl $ ends ! 18 refl refl $ ends ! 16 refl refl $ ends ! 14 refl refl $
-        ends ! 12 refl refl $ ends ! 10 refl refl $ ends ! 8 refl refl $ ends ! 6 refl refl $ ends ! 4 refl refl $ ends ! 2 refl refl $ free0 ! $ by ! exits)))))))))))))))))
+        ends ! 26 refl refl $ ends ! 24 refl refl $ ends ! 22 refl refl $ ends ! 20 refl refl $ ends ! 18 refl refl $ ends ! 16 refl refl $ ends ! 14 refl
+        refl $
+        ends ! 12 refl refl $ ends ! 10 refl refl $ ends ! 8 refl refl $ ends ! 6 refl refl $ ends ! 4 refl refl $ ends ! 2 refl refl $ free0 ! $ by
+        ! exits)))))))))))))))))
 
 -- The rest is the same for every walk: from the walk to the function's contract, at its own tables.
 module _ {M : Type 1} (𝓤 : URA M) (H : Heap 𝓤) (A : Atoms 𝓤) (W : Given 𝓤 H A) (mem : Memory → SProp 𝓤) (run : Routine → Fun 𝓤) where

@@ -139,7 +139,8 @@ loop-again c =
     let h = is-below q (w .0 .left) in (
       omega arith,
       w .2 ∙ inv .1 ∙ sym (top-zero (excess q) (b q) (h .0)),
-      w .3 ∙ top-raised (shortfall q) (b q) (l q .loop .take) (w .1 .result) (toZ w64 (ofZ w64 (pos 0 -ℤ toZ w64 (ofZ w64 (e q))))) (inv .2) (negated q ∙ h .1) (w .1 .ensures),
+      w .3 ∙ top-raised (shortfall q) (b q) (l q .loop .take) (w .1 .result) (toZ w64 (ofZ w64 (pos 0 -ℤ toZ w64 (ofZ w64 (e q))))) (inv .2)
+          (negated q ∙ h .1) (w .1 .ensures),
       omega (arith, w .4, inv .3, more, h .0),
     ))
     (c .if1 .came)

@@ -76,7 +76,8 @@ next-is c =
     let w = c .before in
     let o = w .before in
     let a = s o .args in
-    c .decide .ensures ∙ surveyed-next (o .opened .result) (length (a .weights .now)) (w .survey-of .result) (w .survey-of .ensures) (a .k) (a .tolerance) (a .cap)
+    c .decide .ensures ∙ surveyed-next (o .opened .result) (length (a .weights .now)) (w .survey-of .result) (w .survey-of .ensures) (a .k) (a .tolerance)
+    (a .cap)
 
 returns : tie.Need-returns
 unfolding backends

@@ -37,7 +37,12 @@ shared-slice-read-begin : tie.Need-shared-slice-read-begin
 shared-slice-read-begin c =
     let h = c .before in
     let s = h .before .before .before .before in
-    omega (arith, h .heaviest .ensures, first-lt (s .args .k) (s .args .tolerance) (s .args .labels .now) (s .args .weights .now) (s .pre .0), s .pre .0 .labelled)
+    omega (
+      arith,
+      h .heaviest .ensures,
+      first-lt (s .args .k) (s .args .tolerance) (s .args .labels .now) (s .args .weights .now) (s .pre .0),
+      s .pre .0 .labelled,
+    )
 
 shl-shares : tie.Need-shl-shares
 shl-shares c = omega (arith, c .before .before .before .before .before .pre .0 .few-bits)
@@ -82,7 +87,11 @@ sub-begin c = s (c .before .before) .pre .0 .some-bits
 
 begin-requires : tie.Need-begin-requires
 unfolding frame
-begin-requires c κs = (s (c .before .before) .args .labels .now, firstRule (s (c .before .before) .args .labels .now) (s (c .before .before) .args .weights .now), (fitting (c .before .before), shared (c .before .before)))
+begin-requires c κs = (
+  s (c .before .before) .args .labels .now,
+  firstRule (s (c .before .before) .args .labels .now) (s (c .before .before) .args .weights .now),
+  (fitting (c .before .before), shared (c .before .before)),
+)
 
 of-one-requires : tie.Need-of-one-requires
 of-one-requires c κs = search needs
@@ -110,7 +119,8 @@ module _ (c : tie.After-of-one) where
       let a = s h .args in
       c .before .begin .ensures .0 (a .labels .now) (firstRule (a .labels .now) (a .weights .now)) (replicate mostSuffixes (first h)) (replicate mostBackends 0)
       (fitting h) (shared h)
-      (holds-first (F h .targets) (s h .pre .0 .few-bits) (first h) (omega (arith, h .heaviest .ensures, first-lt (a .k) (a .tolerance) (a .labels .now) (a .weights .now) (s h .pre .0))) (h .heaviest .ensures))
+      (holds-first (F h .targets) (s h .pre .0 .few-bits) (first h)
+      (omega (arith, h .heaviest .ensures, first-lt (a .k) (a .tolerance) (a .labels .now) (a .weights .now) (s h .pre .0))) (h .heaviest .ensures))
       (length-replicate mostSuffixes (first h)) (length-replicate {A = ℕ} mostBackends 0)
 
   listed : Listed (F h) 0 (c .of-one .result)

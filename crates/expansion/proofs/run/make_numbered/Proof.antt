@@ -33,7 +33,8 @@ slice-aggregate-make-list : tie.Need-slice-aggregate-make-list
 slice-aggregate-make-list c =
     let n = c .before in
     let s = n .before .before in
-    sym (length-take-le (length (s .args .weights .now)) (n .numbers .result) (omega (arith, ap length (n .numbers .ensures), length-list mostBackends suc, s .pre .0 .few)))
+    sym (length-take-le (length (s .args .weights .now)) (n .numbers .result)
+    (omega (arith, ap length (n .numbers .ensures), length-list mostBackends suc, s .pre .0 .few)))
 
 make-list-requires : tie.Need-make-list-requires
 make-list-requires c κs =
@@ -46,7 +47,8 @@ unfolding frameMade
 returns c =
     let n = c .before .before in
     let s = n .before .before in
-    subst (λ (ls : List ℕ). Made (frame (s .args .k) unit (s .args .tolerance) ls (s .args .weights .now)) (s .args .budget) (c .make-list .result)) (labels n) (c .make-list .ensures)
+    subst (λ (ls : List ℕ). Made (frame (s .args .k) unit (s .args .tolerance) ls (s .args .weights .now)) (s .args .budget) (c .make-list .result))
+    (labels n) (c .make-list .ensures)
 
 pub make-numbered-spec : {M : Type 1} → statement M
 make-numbered-spec =

@@ -154,7 +154,8 @@ led-on c =
     ⊎-elim
     (λ w.
     let more = reached q _ (w .0 .taken) (lit≤ tt) in
-    rw (w .1, w .2 ∙ ap (ofZ w64) (is-each q)) (led-higher f cap (l .left) (l .index) (l .best) (led q) (i q) (omega arith) (omega arith) (omega (arith, more))))
+    rw (w .1, w .2 ∙ ap (ofZ w64) (is-each q))
+    (led-higher f cap (l .left) (l .index) (l .best) (led q) (i q) (omega arith) (omega arith) (omega (arith, more))))
     (λ w.
     let less = missed q _ (w .0 .left) (lit≤ tt) in
     rw (w .1, w .2) (led-kept f cap (l .left) (l .index) (l .best) (led q) (i q) (omega arith) (omega (arith, less))))

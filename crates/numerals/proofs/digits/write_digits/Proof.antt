@@ -65,8 +65,12 @@ turn base at i n out one ten h =
 loop-again : tie.Need-loop-again Inv-loop μ-loop
 loop-again c =
     let a = c .before .before .args in
-    let l = c .before .loop in
-    (omega arith, omega arith, simp length-set (l .inv .2), l .inv .3 ∙ turn (a .base) (a .at) (l .i) (l .rest) (l .out) (omega arith) (omega arith) (omega arith))
+    let l = c .before .loop in (
+      omega arith,
+      omega arith,
+      simp length-set (l .inv .2),
+      l .inv .3 ∙ turn (a .base) (a .at) (l .i) (l .rest) (l .out) (omega arith) (omega arith) (omega arith),
+    )
 
 same-length : tie.Need-same-length Inv-loop μ-loop
 same-length c = c .before .loop .inv .2

@@ -66,7 +66,9 @@ mul-t9 : tie.Need-mul-t9
 mul-t9 c =
     let a = c .before .before .before .before .before .before .before .before .args in
     let r = c .before .before .before .before in
-    let v : c .before .before .read .given .0 .0 ≤ (10 ^ decimals - 1) = read-limit 10 (10 ^ decimals - 1) _ (slice (a .from) (a .to) (a .s .now)) (sym (r .read-digits .ensures) ∙ c .before .before .read .given .1) in
+    let v : c .before .before .read .given .0 .0
+    ≤ (10 ^ decimals - 1) = read-limit 10 (10 ^ decimals - 1) _ (slice (a .from) (a .to) (a .s .now))
+    (sym (r .read-digits .ensures) ∙ c .before .before .read .given .1) in
     let w : c .worth .result ≤ 10 ^ decimals = le-trans (le-of-eq (c .worth .ensures)) (pow-le-pow-right {n = 10} (omega arith) {j = decimals} (omega arith)) in
     omega (arith, mul-le-mul v w)
 

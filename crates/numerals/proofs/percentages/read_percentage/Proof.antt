@@ -35,7 +35,9 @@ enum-told c = search needs
 -- the part that is read ends with the text
 part :
     (c : tie.After-least)
-    → let a = c .before .before .args in percentage decimals (slice (a .from) (a .to) (a .s .now)) ≡ percentage decimals (slice (a .from) (c .least .result) (a .s .now))
+    → let a =
+    c .before .before .args in percentage decimals (slice (a .from) (a .to) (a .s .now))
+    ≡ percentage decimals (slice (a .from) (c .least .result) (a .s .now))
 part c =
     let a = c .before .before .args in
     ap (percentage decimals) (slice-end (a .from) (a .to) (c .least .result) (a .s .now) (c .least .ensures))
@@ -142,8 +144,11 @@ mul-at-most-all-2 c = omega (arith, only-text 0 999 _ _ (before-dot (c .before .
 add-at-most-all : tie.Need-add-at-most-all
 add-at-most-all c =
     let r = c .before .before .before in
-    omega
-    (arith, only-text 0 999 _ _ (before-dot (r .before .before .before .before)) .high, fraction-below decimals _ _ (sym (r .read-fraction .ensures) ∙ c .before .fraction .given .1))
+    omega (
+      arith,
+      only-text 0 999 _ _ (before-dot (r .before .before .before .before)) .high,
+      fraction-below decimals _ _ (sym (r .read-fraction .ensures) ∙ c .before .fraction .given .1),
+    )
 
 at-most-all-requires-2 : tie.Need-at-most-all-requires-2
 at-most-all-requires-2 c κs = search needs

@@ -82,7 +82,10 @@ listed :
     Listed (services S) (frameOf S (a .tolerance)) (listFor S (a .tolerance))
     (m .last .1 .1 .1 .1 .0) (m .last .1 .1 .1 .1 .1 .0) (m .last .1 .1 .1 .1 .1 .1 .0)
     (m .last .1 .1 .1 .1 .1 .1 .1 .0) (m .last .1 .1 .1 .1 .1 .1 .1 .1 .0) (m .last .1 .1 .1 .1 .1 .1 .1 .1 .1 .0)
-listed c = c .make-lists .ensures (c .before .before .before .before .before .before .before .before .before .before .before .before .before .before .before .args .volumes .now) (accepted (c .before .before .before .before .before .before .before) .same)
+listed c =
+    c .make-lists .ensures
+    (c .before .before .before .before .before .before .before .before .before .before .before .before .before .before .before .args .volumes .now)
+    (accepted (c .before .before .before .before .before .before .before) .same)
 
 -- each service is granted one rule
 ones : (s : ℕ) → s < mostServices → _≡_ {A = ℕ} (getD (replicate mostServices 1) s 0) 1
@@ -96,24 +99,33 @@ grant-all-requires c κs =
       payable _ _ _ _ _ _ _ _ _ _ _ _ A L (m .kept .1 .1 .1 .1 .1 .1 .1 .0) (m .kept .1 .1 .1 .1 .1 .1 .1 .1 .0),
       (
         started _ _ _ _ _ _ _ _ _ _ _ _ A L (replicate mostServices 1) refl (λ s l. ones s (omega (arith, A .few, A .same))),
-        (omega (arith, A .some, A .same), A .little-room, ones-fit _ _ _ _ _ _ _ _ _ _ _ _ A L (replicate mostServices 1) (λ s l. ones s (omega (arith, A .few, A .same)))),
+        (
+          omega (arith, A .some, A .same),
+          A .little-room,
+          ones-fit _ _ _ _ _ _ _ _ _ _ _ _ A L (replicate mostServices 1) (λ s l. ones s (omega (arith, A .few, A .same))),
+        ),
       ),
     )
 
 -- the grants are those of the definitions
 done :
     (c : tie.After-grant-all)
-    → let a = c .before .before .before .before .before .before .before .before .before .before .before .before .before .before .before .before .before .before .before .before .before .before .before .before .before .args in
+    → let a =
+    c .before .before .before .before .before .before .before .before .before .before .before .before .before .before .before .before .before .before
+    .before .before .before .before .before .before .before .args in
     let m = c .before .before .before .before .before .before .before .before .before .before .make-lists in
     Outcome (a .k) (a .tolerance) (a .capacity) (a .volumes .now) (a .sizes .now) (a .weights .now)
     (m .last .1 .1 .1 .1 .0) (m .last .1 .1 .1 .1 .1 .0) (m .last .1 .1 .1 .1 .1 .1 .0)
     (m .last .1 .1 .1 .1 .1 .1 .1 .0) (m .last .1 .1 .1 .1 .1 .1 .1 .1 .0) (m .last .1 .1 .1 .1 .1 .1 .1 .1 .1 .0)
     (c .grant-all .last .1 .1 .1 .1 .0)
 done c =
-    let A = accepted (c .before .before .before .before .before .before .before .before .before .before .before .before .before .before .before .before .before) in
+    let A = accepted (c .before .before .before .before .before .before .before .before .before .before .before .before .before .before .before .before
+    .before) in
     let m = c .before .before .before .before .before .before .before .before .before .before .make-lists in
-    outcome _ _ _ _ _ _ _ _ _ _ _ _ A (listed (c .before .before .before .before .before .before .before .before .before .before)) (replicate mostServices 1) _ _ (λ s l. ones s (omega (arith, A .few, A .same)))
-    (m .kept .1 .1 .1 .1 .0) (m .kept .1 .1 .1 .1 .1 .0) (m .kept .1 .1 .1 .1 .1 .1 .0) (m .kept .1 .1 .1 .1 .1 .1 .1 .0) (m .kept .1 .1 .1 .1 .1 .1 .1 .1 .0) (m .kept .1 .1 .1 .1 .1 .1 .1 .1 .1 .0) (c .grant-all .kept .1 .1 .1 .1 .0) (c .grant-all .ensures)
+    outcome _ _ _ _ _ _ _ _ _ _ _ _ A (listed (c .before .before .before .before .before .before .before .before .before .before))
+    (replicate mostServices 1) _ _ (λ s l. ones s (omega (arith, A .few, A .same)))
+    (m .kept .1 .1 .1 .1 .0) (m .kept .1 .1 .1 .1 .1 .0) (m .kept .1 .1 .1 .1 .1 .1 .0) (m .kept .1 .1 .1 .1 .1 .1 .1 .0)
+    (m .kept .1 .1 .1 .1 .1 .1 .1 .1 .0) (m .kept .1 .1 .1 .1 .1 .1 .1 .1 .1 .0) (c .grant-all .kept .1 .1 .1 .1 .0) (c .grant-all .ensures)
 
 slice-aggregate-all-lines : tie.Need-slice-aggregate-all-lines
 slice-aggregate-all-lines c = search needs
@@ -155,7 +167,9 @@ slice-aggregate-write-out-6 : tie.Need-slice-aggregate-write-out-6
 slice-aggregate-write-out-6 c = search needs
 
 write-out-requires : tie.Need-write-out-requires
-write-out-requires c κs = done (c .before .before .before .before .before .before .before .before .before .before .before .before .before .before .before .before) .writable _ (c .before .before .before .before .before .before .before .before .before .before .before .before .all-lines .ensures)
+write-out-requires c κs =
+    done (c .before .before .before .before .before .before .before .before .before .before .before .before .before .before .before .before) .writable _
+    (c .before .before .before .before .before .before .before .before .before .before .before .before .all-lines .ensures)
 
 same-length : tie.Need-same-length
 same-length c = search needs
@@ -167,10 +181,14 @@ returns-2 : tie.Need-returns-2
 returns-2 c =
     let w = c .before .before .before .before .write-out .ensures in
     let t = c .before .before .before .before .before .before .before .before .before .before .before .before .before .total-cost .ensures in
-    let r = c .before .before .before .before .before .before .before .before .before .before .before .before .before .before .before .before .before .all-lines .ensures in
-    let g = c .before .before .before .before .before .before .before .before .before .before .before .before .before .before .before .before .before .before .before .before .before in
+    let r = c .before .before .before .before .before .before .before .before .before .before .before .before .before .before .before .before .before
+    .all-lines .ensures in
+    let g = c .before .before .before .before .before .before .before .before .before .before .before .before .before .before .before .before .before
+    .before .before .before .before in
     let d = done g in (
-      w .0 ∙ answer-passed _ _ _ _ _ _ _ _ (passed (g .before .before .before .before .before .before .before .before .before .before .before .before .before .before .before .before .before)) _ (d .made _ _ r t),
+      w .0 ∙ answer-passed _ _ _ _ _ _ _ _
+          (passed (g .before .before .before .before .before .before .before .before .before .before .before .before .before .before .before .before
+          .before)) _ (d .made _ _ r t),
       (
         rw (d .figures) at (w .1 .0),
         (

@@ -94,7 +94,8 @@ returns-4 c =
     let d = c .before .before .before in
     let l = d .before .before .before .before .before .before .before .before .loop in
     sym
-    (services-failed _ _ _ (l .s) (l .at) (l .inv .3) (d .before .before .before .before .before .before .if1 .left) (d .before .before .before .before .before .if2 .left) (d .before .before .before .before .if3 .left) _
+    (services-failed _ _ _ (l .s) (l .at) (l .inv .3) (d .before .before .before .before .before .before .if1 .left)
+    (d .before .before .before .before .before .if2 .left) (d .before .before .before .before .if3 .left) _
     (sym (one d) ∙ c .before .checked .given .1))
 
 enum-told : tie.Need-enum-told Inv-loop μ-loop
@@ -111,7 +112,13 @@ inside c =
     let d = c .before .before in
     let a = d .before .before .before .before .before .before .before .before .before .before .before .before .before .args in
     let l = d .before .before .before .before .before .before .before .before .loop in
-    omega (arith, l .inv .2, length-drop (l .at) (a .weights .now), service-passed (getD (a .volumes .now) (l .s) 0) (getD (a .sizes .now) (l .s) 0) (drop (l .at) (a .weights .now)) (sym (one d) ∙ c .enum-told .given .1) .0)
+    omega (
+      arith,
+      l .inv .2,
+      length-drop (l .at) (a .weights .now),
+      service-passed (getD (a .volumes .now) (l .s) 0) (getD (a .sizes .now) (l .s) 0) (drop (l .at) (a .weights .now))
+          (sym (one d) ∙ c .enum-told .given .1) .0,
+    )
 
 add-at : tie.Need-add-at Inv-loop μ-loop
 add-at c = omega (arith, inside c)
@@ -129,7 +136,8 @@ loop-again c =
       omega arith,
       omega arith,
       inside c,
-      services-passed _ _ _ (l .s) (l .at) (l .inv .3) (d .before .before .before .before .before .before .if1 .left) (d .before .before .before .before .before .if2 .left) (d .before .before .before .before .if3 .left)
+      services-passed _ _ _ (l .s) (l .at) (l .inv .3) (d .before .before .before .before .before .before .if1 .left)
+          (d .before .before .before .before .before .if2 .left) (d .before .before .before .before .if3 .left)
           (sym (one d) ∙ c .enum-told .given .1),
     )
 
@@ -144,17 +152,22 @@ ended c =
     services-end _ _ _ (l .s) (l .at) (l .inv .3) (omega arith) (omega arith)
 
 returns-5 : tie.Need-returns-5 Inv-loop μ-loop
-returns-5 c = sym (ended (c .before) ∙ simp (ne-eqb (length (c .before .before .before .before .before .before .before .args .weights .now) - c .before .before .loop .at) 0 (λ e. omega arith)))
+returns-5 c =
+    sym (ended (c .before)
+    ∙ simp (ne-eqb (length (c .before .before .before .before .before .before .before .args .weights .now) - c .before .before .loop .at) 0
+    (λ e. omega arith)))
 
 returns-6 : tie.Need-returns-6 Inv-loop μ-loop
 returns-6 c =
     let a = c .before .before .before .before .before .before .before .before .args in
-    sym (ended (c .before .before) ∙ simp (eq-eqb (length (a .weights .now) - c .before .before .before .loop .at) 0 (omega arith), le-ltb 0 (length (a .volumes .now)) (omega arith)))
+    sym (ended (c .before .before)
+    ∙ simp (eq-eqb (length (a .weights .now) - c .before .before .before .loop .at) 0 (omega arith), le-ltb 0 (length (a .volumes .now)) (omega arith)))
 
 returns-7 : tie.Need-returns-7 Inv-loop μ-loop
 returns-7 c =
     let a = c .before .before .before .before .before .before .before .before .args in
-    sym (ended (c .before .before) ∙ simp (eq-eqb (length (a .weights .now) - c .before .before .before .loop .at) 0 (omega arith), lt-ltb 0 (length (a .volumes .now)) (omega arith)))
+    sym (ended (c .before .before)
+    ∙ simp (eq-eqb (length (a .weights .now) - c .before .before .before .loop .at) 0 (omega arith), lt-ltb 0 (length (a .volumes .now)) (omega arith)))
 
 pub check-services-spec : {M : Type 1} → statement M
 check-services-spec =

@@ -43,7 +43,8 @@ few :
     (c : tie.After-lines-of Inv-loop μ-loop)
     → getD (c .before .before .before .before .before .before .before .args .counts .now) (c .before .before .before .before .loop .s) 0 ≤ mostRules
 few c =
-    c .before .before .before .before .before .before .before .pre .most (c .before .before .before .before .loop .s) (c .before .before .before .loop-test .taken)
+    c .before .before .before .before .before .before .before .pre .most (c .before .before .before .before .loop .s)
+    (c .before .before .before .loop-test .taken)
 
 add-lines : tie.Need-add-lines Inv-loop μ-loop
 add-lines c = omega (arith, c .lines-of .ensures, few c)

@@ -35,8 +35,11 @@ loop-again : tie.Need-loop-again Inv-loop μ-loop
 loop-again c =
     let a = c .before .before .before .before .before .before .before .before in
     let l = c .before .before .before .loop in
-    let f : ℕ → ℕ = savings (a .args .volumes .now) (a .args .stairs .now) (a .args .counts .now) (a .args .grants .now) in
-    (omega arith, entered-one f f (l .s) (l .s + 1) (l .s) (l .tree) _ (l .inv .1) (c .enter .ensures) (omega arith) (omega (arith, a .pre .0 .few)) (omega arith) (λ i m d. (omega arith, refl)))
+    let f : ℕ → ℕ = savings (a .args .volumes .now) (a .args .stairs .now) (a .args .counts .now) (a .args .grants .now) in (
+      omega arith,
+      entered-one f f (l .s) (l .s + 1) (l .s) (l .tree) _ (l .inv .1) (c .enter .ensures) (omega arith) (omega (arith, a .pre .0 .few))
+          (omega arith) (λ i m d. (omega arith, refl)),
+    )
 
 returns : tie.Need-returns Inv-loop μ-loop
 returns c =

@@ -32,8 +32,13 @@ sum-of-requires c κs =
 
 loop-holds : tie.Need-loop-holds Inv-loop μ-loop
 loop-holds c =
-    let a = c .before .before .before .before .before .before .before .before in
-    (omega (arith, c .sum-of .ensures), refl, turn-first (a .args .capacity) (a .args .volumes .now) (a .args .stairs .now) (a .args .counts .now) (a .args .grants .now) (c .before .before .enter-all .result) (c .sum-of .result) (a .pre .0) (a .pre .1 .0) (a .pre .1 .1 .0) (c .sum-of .ensures) (c .before .before .enter-all .ensures))
+    let a = c .before .before .before .before .before .before .before .before in (
+      omega (arith, c .sum-of .ensures),
+      refl,
+      turn-first (a .args .capacity) (a .args .volumes .now) (a .args .stairs .now) (a .args .counts .now) (a .args .grants .now)
+          (c .before .before .enter-all .result) (c .sum-of .result) (a .pre .0) (a .pre .1 .0) (a .pre .1 .1 .0) (c .sum-of .ensures)
+          (c .before .before .enter-all .ensures),
+    )
 
 array-read-if1 : tie.Need-array-read-if1 Inv-loop μ-loop
 array-read-if1 c = omega arith
@@ -52,7 +57,8 @@ array-read-s c = omega arith
 -- the service that the root names
 named :
     (c : tie.Else1 Inv-loop μ-loop)
-    → (leaves - 1 - getD (c .before .before .loop .tree) 1 0 % leaves < length (c .before .before .before .before .before .before .before .before .before .before .before .args .volumes .now))
+    → (leaves - 1 - getD (c .before .before .loop .tree) 1 0 % leaves
+    < length (c .before .before .before .before .before .before .before .before .before .before .before .args .volumes .now))
     × (leaves - 1 - getD (c .before .before .loop .tree) 1 0 % leaves < length (c .before .before .loop .grants))
 named c =
     let t = c .before .before .loop .inv .2 in
@@ -84,8 +90,10 @@ slice-write-grants c = named (c .before) .1
 enter-requires : tie.Need-enter-requires Inv-loop μ-loop
 enter-requires c κs =
     let l = c .before .before .before .before .before .loop in
-    let n = named (c .before .before .before) in
-    (l .inv .2 .payable, ((n .0, simp length-set (n .1), falls-more _ _ _ (l .grants) _ (n .1) (l .inv .2 .started .each _ (n .0))), l .inv .2 .entered .tournament))
+    let n = named (c .before .before .before) in (
+      l .inv .2 .payable,
+      ((n .0, simp length-set (n .1), falls-more _ _ _ (l .grants) _ (n .1) (l .inv .2 .started .each _ (n .0))), l .inv .2 .entered .tournament),
+    )
 
 add-rules : tie.Need-add-rules Inv-loop μ-loop
 add-rules c = omega arith

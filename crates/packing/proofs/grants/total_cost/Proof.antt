@@ -47,7 +47,8 @@ paid :
     let l = c .before .before .before .before .loop in
     Payable (getD (a .volumes .now) (l .s) 0) (a .stairs .now) (l .s) (getD (a .counts .now) (l .s) 0)
 paid c =
-    c .before .before .before .before .before .before .before .before .before .pre .0 .each (c .before .before .before .before .loop .s) (c .before .before .before .loop-test .taken)
+    c .before .before .before .before .before .before .before .before .before .pre .0 .each (c .before .before .before .before .loop .s)
+    (c .before .before .before .loop-test .taken)
 
 -- the stair read is one of the service's
 inside :

@@ -48,10 +48,13 @@ inside :
     → let a = c .before .before .before .before .before .before .before .before .before .before .args in
     let l = c .before .loop in
     l .at + getD (a .sizes .now) (l .s) 0 ≤ length (a .weights .now)
-inside c = omega (arith, c .before .before .before .before .before .before .before .before .before .before .pre .0 .inside (c .before .loop .s) (c .loop-test .taken))
+inside c =
+    omega (arith, c .before .before .before .before .before .before .before .before .before .before .pre .0 .inside (c .before .loop .s) (c .loop-test .taken))
 
 -- the row is in memory
-row : (c : tie.In-loop Inv-loop μ-loop) → length (c .before .before .before .before .before .before .before .before .before .before .args .weights .now) * 8 < 2 ^ 63
+row :
+    (c : tie.In-loop Inv-loop μ-loop)
+    → length (c .before .before .before .before .before .before .before .before .before .before .args .weights .now) * 8 < 2 ^ 63
 row c = omega arith
 
 add-expand : tie.Need-add-expand Inv-loop μ-loop
@@ -101,9 +104,13 @@ own c =
 passed :
     (c : tie.After-expand Inv-loop μ-loop)
     → let a = c .before .before .before .before .before .before .before .before .before .before .before .before .before .before .before .before .before .args in
-    checkCall (a .k) (a .tolerance) mostRules (part (a .sizes .now) (a .weights .now) (c .before .before .before .before .before .before .before .before .loop .s)) ≡ Passed
+    checkCall (a .k) (a .tolerance) mostRules
+    (part (a .sizes .now) (a .weights .now) (c .before .before .before .before .before .before .before .before .loop .s)) ≡ Passed
 unfolding part ruleBudget
-passed c = c .before .before .before .before .before .before .before .before .before .before .before .before .before .before .before .before .before .pre .0 .sound (c .before .before .before .before .before .before .before .before .loop .s) (c .before .before .before .before .before .before .before .loop-test .taken)
+passed c =
+    c .before .before .before .before .before .before .before .before .before .before .before .before .before .before .before .before .before .pre .0
+    .sound (c .before .before .before .before .before .before .before .before .loop .s)
+    (c .before .before .before .before .before .before .before .loop-test .taken)
 
 one-more : (s n room : ℕ) → s < n → stride * n ≤ room → placeOf s 1 + mostRules ≤ room
 one-more s n room l h = omega arith
@@ -114,37 +121,59 @@ fits :
     placeOf (l .s) 1 + mostRules ≤ min (min (length (l .lens)) (length (l .values))) (min (length (l .backends)) (length (l .stairs)))
 fits c =
     let l = c .before .before .before .before .before .before .before .before .loop in
-    rw (l .inv .2, l .inv .3, l .inv .4, l .inv .5) (one-more (l .s) _ _ (c .before .before .before .before .before .before .before .loop-test .taken) (c .before .before .before .before .before .before .before .before .before .before .before .before .before .before .before .before .before .pre .1 .0))
+    rw (l .inv .2, l .inv .3, l .inv .4, l .inv .5)
+    (one-more (l .s) _ _ (c .before .before .before .before .before .before .before .loop-test .taken)
+    (c .before .before .before .before .before .before .before .before .before .before .before .before .before .before .before .before .before .pre .1 .0))
 
 -- so the list is made
 is-made :
     (c : tie.After-expand Inv-loop μ-loop)
     → let a = c .before .before .before .before .before .before .before .before .before .before .before .before .before .before .before .before .before .args in
-    c .expand .result ≡ Made (recordMade (a .k) (a .tolerance) mostRules (part (a .sizes .now) (a .weights .now) (c .before .before .before .before .before .before .before .before .loop .s)))
+    c .expand .result ≡ Made
+    (recordMade (a .k) (a .tolerance) mostRules
+    (part (a .sizes .now) (a .weights .now) (c .before .before .before .before .before .before .before .before .loop .s)))
 is-made c =
     let l = c .before .before .before .before .before .before .before .before .loop in
     made _ _ _ _ (l .s) (l .lens) (l .values) (l .backends) (l .stairs) (passed c) (fits c) _ (own c) _ (c .expand .ensures .0)
 
 same-length : tie.Need-same-length Inv-loop μ-loop
-same-length c = c .before .before .before .before .before .before .before .before .before .before .expand .kept .1 .1 .1 .1 .1 .0 ∙ c .before .before .before .before .before .before .before .before .before .before .before .before .before .before .before .before .before .before .loop .inv .2
+same-length c =
+    c .before .before .before .before .before .before .before .before .before .before .expand .kept .1 .1 .1 .1 .1 .0
+    ∙ c .before .before .before .before .before .before .before .before .before .before .before .before .before .before .before .before .before .before
+    .loop .inv .2
 
 same-length-2 : tie.Need-same-length-2 Inv-loop μ-loop
-same-length-2 c = c .before .before .before .before .before .before .before .before .before .before .expand .kept .1 .1 .1 .1 .1 .1 .0 ∙ c .before .before .before .before .before .before .before .before .before .before .before .before .before .before .before .before .before .before .loop .inv .3
+same-length-2 c =
+    c .before .before .before .before .before .before .before .before .before .before .expand .kept .1 .1 .1 .1 .1 .1 .0
+    ∙ c .before .before .before .before .before .before .before .before .before .before .before .before .before .before .before .before .before .before
+    .loop .inv .3
 
 same-length-3 : tie.Need-same-length-3 Inv-loop μ-loop
-same-length-3 c = c .before .before .before .before .before .before .before .before .before .before .expand .kept .1 .1 .1 .1 .1 .1 .1 .0 ∙ c .before .before .before .before .before .before .before .before .before .before .before .before .before .before .before .before .before .before .loop .inv .4
+same-length-3 c =
+    c .before .before .before .before .before .before .before .before .before .before .expand .kept .1 .1 .1 .1 .1 .1 .1 .0
+    ∙ c .before .before .before .before .before .before .before .before .before .before .before .before .before .before .before .before .before .before
+    .loop .inv .4
 
 same-length-4 : tie.Need-same-length-4 Inv-loop μ-loop
-same-length-4 c = c .before .before .before .before .before .before .before .before .before .before .expand .kept .1 .1 .1 .1 .1 .1 .1 .1 .0 ∙ c .before .before .before .before .before .before .before .before .before .before .before .before .before .before .before .before .before .before .loop .inv .5
+same-length-4 c =
+    c .before .before .before .before .before .before .before .before .before .before .expand .kept .1 .1 .1 .1 .1 .1 .1 .1 .0
+    ∙ c .before .before .before .before .before .before .before .before .before .before .before .before .before .before .before .before .before .before
+    .loop .inv .5
 
 same-length-5 : tie.Need-same-length-5 Inv-loop μ-loop
-same-length-5 c = c .before .before .before .before .before .before .before .before .before .before .before .before .before .before .before .before .before .before .loop .inv .6
+same-length-5 c =
+    c .before .before .before .before .before .before .before .before .before .before .before .before .before .before .before .before .before .before .loop
+    .inv .6
 
 same-length-6 : tie.Need-same-length-6 Inv-loop μ-loop
-same-length-6 c = c .before .before .before .before .before .before .before .before .before .before .before .before .before .before .before .before .before .before .loop .inv .7
+same-length-6 c =
+    c .before .before .before .before .before .before .before .before .before .before .before .before .before .before .before .before .before .before .loop
+    .inv .7
 
 returns : tie.Need-returns Inv-loop μ-loop
-returns c = let z : _≡_ {A = ℕ} 0 1 = cc (is-made (c .before .before .before .before .before .before .before .before .before .before), c .enum-told .given .1) in absurd (omega arith)
+returns c =
+    let z : _≡_ {A = ℕ} 0 1 = cc (is-made (c .before .before .before .before .before .before .before .before .before .before), c .enum-told .given .1) in
+    absurd (omega arith)
 
 mul-stairs : tie.Need-mul-stairs Inv-loop μ-loop
 mul-stairs c = omega arith
@@ -173,7 +202,15 @@ slice-write-ends : tie.Need-slice-write-ends Inv-loop μ-loop
 slice-write-ends c = omega arith
 
 add-at : tie.Need-add-at Inv-loop μ-loop
-add-at c = omega (arith, inside (c .before .before .before .before .before .before .before .before .before .before .before .before .before .before .before .before .before .before .before), row (c .before .before .before .before .before .before .before .before .before .before .before .before .before .before .before .before .before .before .before))
+add-at c =
+    omega (
+      arith,
+      inside
+          (c .before .before .before .before .before .before .before .before .before .before .before .before .before .before .before .before .before .before
+          .before),
+      row (c .before .before .before .before .before .before .before .before .before .before .before .before .before .before .before .before
+          .before .before .before),
+    )
 
 add-s : tie.Need-add-s Inv-loop μ-loop
 add-s c = omega arith
@@ -187,7 +224,8 @@ loop-again c =
     let l = d .before .before .before .before .before .before .before .before .loop in
     let a = d .before .before .before .before .before .before .before .before .before .before .before .before .before .before .before .before .before .args in (
       omega arith,
-      rw add-one (sym (start-suc (a .sizes .now) (l .s) (d .before .before .before .before .before .before .before .loop-test .taken) ∙ ap (λ (x : ℕ). x + getD (a .sizes .now) (l .s) 0) (sym (l .inv .1)))),
+      rw add-one (sym (start-suc (a .sizes .now) (l .s) (d .before .before .before .before .before .before .before .loop-test .taken)
+          ∙ ap (λ (x : ℕ). x + getD (a .sizes .now) (l .s) 0) (sym (l .inv .1)))),
       d .expand .kept .1 .1 .1 .1 .1 .0 ∙ l .inv .2,
       d .expand .kept .1 .1 .1 .1 .1 .1 .0 ∙ l .inv .3,
       d .expand .kept .1 .1 .1 .1 .1 .1 .1 .0 ∙ l .inv .4,
@@ -196,7 +234,12 @@ loop-again c =
       simp length-set (l .inv .7),
       rw (c .end-number .ensures)
           (entries-more _ _ _ _ (l .s) (l .lens) (l .values) (l .backends) (l .stairs) (passed d) (fits d) _ (own d) _ (d .expand .ensures .0)
-          _ (c .before .before .made .given .1) (l .counts) (l .ends) (omega (arith, d .before .before .before .before .before .before .before .before .before .before .before .before .before .before .before .before .before .pre .1 .1)) (l .inv .8) _ _ _ _
+          _ (c .before .before .made .given .1) (l .counts) (l .ends)
+          (omega (
+            arith,
+            d .before .before .before .before .before .before .before .before .before .before .before .before .before .before .before
+                .before .before .pre .1 .1,
+          )) (l .inv .8) _ _ _ _
           (d .expand .ensures .1 .0) (d .expand .ensures .1 .1 .0) (d .expand .ensures .1 .1 .1 .0) (d .expand .ensures .1 .1 .1 .1)),
     )
 
@@ -223,7 +266,8 @@ returns-2 c =
     let a = c .before .before .before .before .before .before .before .before .before .before .args in
     let l = c .before .loop in
     let all : l .s ≡ length (a .sizes .now) = omega arith in
-    listed (a .k) (a .tolerance) (a .sizes .now) (a .weights .now) (length (a .sizes .now)) (l .lens) (l .values) (l .backends) (l .stairs) (l .counts) (l .ends)
+    listed (a .k) (a .tolerance) (a .sizes .now) (a .weights .now) (length (a .sizes .now)) (l .lens) (l .values) (l .backends) (l .stairs) (l .counts)
+    (l .ends)
     (omega arith) (rw all at (l .inv .8))
 
 pub make-lists-spec : {M : Type 1} → statement M

@@ -64,7 +64,8 @@ fits c =
     omega (
       arith,
       c .lines-of .ensures,
-      sum-before (c .before .before .before .before .loop .s) (a .args .n) (storedLines (a .args .grants .now) (a .args .counts .now)) (c .before .before .before .loop-test .taken),
+      sum-before (c .before .before .before .before .loop .s) (a .args .n) (storedLines (a .args .grants .now) (a .args .counts .now))
+          (c .before .before .before .loop-test .taken),
       a .pre .fits,
     )
 
@@ -96,8 +97,10 @@ loop-again c =
       omega arith,
       rw add-one (omega (arith, d .lines-of .ensures)),
       w .kept .0 ∙ l .inv .2,
-      table-more (a .lens .now) (a .values .now) (a .backends .now) (a .table .now) (l .table) (w .last .0) (storedLines (a .grants .now) (a .counts .now)) (l .s) (l .at) (l .inv .3) (l .inv .1)
-          (w .ensures ∙ ap (λ (c : ℕ). sets (l .table) (l .at) (storedCells (a .lens .now) (a .values .now) (a .backends .now) (l .s) c)) (d .lines-of .ensures)),
+      table-more (a .lens .now) (a .values .now) (a .backends .now) (a .table .now) (l .table) (w .last .0) (storedLines (a .grants .now) (a .counts .now))
+          (l .s) (l .at) (l .inv .3) (l .inv .1)
+          (w .ensures ∙ ap (λ (c : ℕ). sets (l .table) (l .at) (storedCells (a .lens .now) (a .values .now) (a .backends .now) (l .s) c))
+          (d .lines-of .ensures)),
     )
 
 same-length : tie.Need-same-length Inv-loop μ-loop
@@ -109,7 +112,8 @@ returns c =
     let l = c .before .loop in
     let all : l .s ≡ a .n = omega arith in
     l .inv .3
-    ∙ ap (λ (n : ℕ). sets (a .table .now) 0 (storedTable (storedLines (a .grants .now) (a .counts .now)) (a .lens .now) (a .values .now) (a .backends .now) n)) all
+    ∙ ap (λ (n : ℕ). sets (a .table .now) 0
+    (storedTable (storedLines (a .grants .now) (a .counts .now)) (a .lens .now) (a .values .now) (a .backends .now) n)) all
 
 pub write-lines-spec : {M : Type 1} → statement M
 write-lines-spec =

@@ -41,7 +41,9 @@ write-figures-requires : tie.Need-write-figures-requires
 write-figures-requires c κs = search needs
 
 write-lines-requires : tie.Need-write-lines-requires
-write-lines-requires c κs = c .before .before .before .before .before .before .before .before .before .before .before .before .before .before .before .before .pre .tabled _ (omega arith)
+write-lines-requires c κs =
+    c .before .before .before .before .before .before .before .before .before .before .before .before .before .before .before .before .pre .tabled _
+    (omega arith)
 
 same-length : tie.Need-same-length
 same-length c = search needs
@@ -50,7 +52,10 @@ same-length-2 : tie.Need-same-length-2
 same-length-2 c = search needs
 
 returns-3 : tie.Need-returns-3
-returns-3 c = (none-short _ _ _ _ (omega arith) (omega arith), (c .before .before .before .before .before .before .write-figures .ensures, c .before .before .write-lines .ensures))
+returns-3 c = (
+  none-short _ _ _ _ (omega arith) (omega arith),
+  (c .before .before .before .before .before .before .write-figures .ensures, c .before .before .write-lines .ensures),
+)
 
 pub write-out-spec : {M : Type 1} → statement M
 write-out-spec =

@@ -29,7 +29,11 @@ returns c =
     let l = c .before .before .before .loop in
     let fs = split 32 (slice (a .from) (a .to) (a .s .now)) in
     let few : length fs ≤ a .n =
-    omega (arith, field-last 32 (l .at) (a .to) (c .before .find .result) (l .i) (a .s .now) fs (omega arith) (c .before .find .ensures) (l .inv .1 .1 .1) (c .if1 .taken)) in
+    omega (
+      arith,
+      field-last 32 (l .at) (a .to) (c .before .find .result) (l .i) (a .s .now) fs (omega arith) (c .before .find .ensures) (l .inv .1 .1 .1)
+          (c .if1 .taken),
+    ) in
     record {
       after = omega arith;
       order = omega arith;
@@ -57,7 +61,8 @@ loop-again c =
         omega arith,
         (
           omega arith,
-          field-next 32 (l .at) (a .to) (c .before .find .result) (l .i) (a .s .now) fs (omega arith) (c .before .find .ensures) (l .inv .1 .1 .1) (c .if1 .left),
+          field-next 32 (l .at) (a .to) (c .before .find .result) (l .i) (a .s .now) fs (omega arith) (c .before .find .ensures) (l .inv .1 .1 .1)
+              (c .if1 .left),
         ),
       ),
     )

@@ -43,16 +43,23 @@ word c =
     let s = c .before .before .before .before in
     ap (λ (l : List ℕ). same l (s .args .word .now)) (sym (c .before .field-at .ensures .part)) ∙ sym (c .is-word .ensures)
 
-four : (c : tie.Else2) → let s = c .before .before .before .before .before .before .before in whole s ≡ onField (number 1 mostBits (field (fieldsOf s) 1)) 1 (lastTwo s)
+four :
+    (c : tie.Else2) → let s = c .before .before .before .before .before .before .before in whole s
+    ≡ onField (number 1 mostBits (field (fieldsOf s) 1)) 1 (lastTwo s)
 unfolding openingFields unless
 four c =
     simp (word (c .before .before .before) ∙ not-false _ (c .before .before .if1 .left), eq-eqb _ 4 (sym (c .before .count-fields .ensures) ∙ c .if2 .left))
 
-bits : (c : tie.After-known-told) → let s = c .before .before .before .before .before .before .before .before .before .before .before in whole s ≡ lastTwo s (c .before .k .given .0 .0)
+bits :
+    (c : tie.After-known-told)
+    → let s = c .before .before .before .before .before .before .before .before .before .before .before in whole s ≡ lastTwo s (c .before .k .given .0 .0)
 unfolding onField
 bits c = four (c .before .before .before .before) ∙ rw (sym (c .before .before .before .number-in .ensures) ∙ c .before .k .given .1)
 
-second : (c : tie.After-known-told2) → let d = c .before .before .before .before in let s = d .before .before .before .before .before .before .before .before .before .before .before in whole s ≡ last s (d .before .k .given .0 .0) (c .before .x .given .0 .0)
+second :
+    (c : tie.After-known-told2)
+    → let d = c .before .before .before .before in let s = d .before .before .before .before .before .before .before .before .before .before .before in
+    whole s ≡ last s (d .before .k .given .0 .0) (c .before .x .given .0 .0)
 unfolding onField
 second c = bits (c .before .before .before .before) ∙ rw (sym (c .before .before .before .read-form .ensures) ∙ c .before .x .given .1)
 
@@ -72,8 +79,13 @@ refused-at-requires-2 c κs = search needs
 returns-2 : tie.Need-returns-2
 unfolding openingFields unless
 returns-2 c =
-    rw (c .refused-at2 .ensures)
-    (simp (word (c .before .before .before .before) ∙ not-false _ (c .before .before .before .if1 .left), ne-eqb _ 4 (λ e. c .before .if2 .taken (c .before .before .count-fields .ensures ∙ e))), refl)
+    rw (c .refused-at2 .ensures) (
+      simp (
+        word (c .before .before .before .before) ∙ not-false _ (c .before .before .before .if1 .left),
+        ne-eqb _ 4 (λ e. c .before .if2 .taken (c .before .before .count-fields .ensures ∙ e)),
+      ),
+      refl,
+    )
 
 number-in-requires : tie.Need-number-in-requires
 number-in-requires c κs = search needs

@@ -24,7 +24,8 @@ returns-2 : tie.Need-returns-2
 unfolding textLimit
 returns-2 c =
     let f = c .before .before in
-    rw (c .refused-at2 .ensures) (no-end _ _ _ (f .before .before .before .before .args .text .now) (f .before .if1 .left) _ (f .find .ensures) (c .before .if2 .taken), refl)
+    rw (c .refused-at2 .ensures)
+    (no-end _ _ _ (f .before .before .before .before .args .text .now) (f .before .if1 .left) _ (f .find .ensures) (c .before .if2 .taken), refl)
 
 read-fields-requires : tie.Need-read-fields-requires
 unfolding textLimit
@@ -34,7 +35,8 @@ returns-3 : tie.Need-returns-3
 unfolding textLimit
 returns-3 c =
     let f = c .before .before in
-    rw (ended _ _ _ (f .before .before .before .before .args .text .now) (f .before .if1 .left) _ (f .find .ensures) (c .before .if2 .left)) (c .read-fields .ensures)
+    rw (ended _ _ _ (f .before .before .before .before .args .text .now) (f .before .if1 .left) _ (f .find .ensures) (c .before .if2 .left))
+    (c .read-fields .ensures)
 
 pub read-first-line-spec : {M : Type 1} → statement M
 read-first-line-spec =

@@ -27,7 +27,11 @@ returns-2 : tie.Need-returns-2
 unfolding orderBy
 returns-2 c =
     by-last _ _ _ _
-    (rw (ne-eqb _ _ (c .before .before .before .before .before .if1 .left), eq-eqb _ _ (c .before .before .before .if2 .taken), lt-ltb _ _ (c .before .if3 .taken)))
+    (rw (
+      ne-eqb _ _ (c .before .before .before .before .before .if1 .left),
+      eq-eqb _ _ (c .before .before .before .if2 .taken),
+      lt-ltb _ _ (c .before .if3 .taken),
+    ))
 
 returns-3 : tie.Need-returns-3
 unfolding orderBy
@@ -39,7 +43,11 @@ returns-4 : tie.Need-returns-4
 unfolding orderBy
 returns-4 c =
     by-last _ _ _ _
-    (rw (ne-eqb _ _ (c .before .before .before .before .before .if1 .left), ne-eqb _ _ (c .before .before .before .if2 .left), lt-ltb _ _ (c .before .if4 .taken)))
+    (rw (
+      ne-eqb _ _ (c .before .before .before .before .before .if1 .left),
+      ne-eqb _ _ (c .before .before .before .if2 .left),
+      lt-ltb _ _ (c .before .if4 .taken),
+    ))
 
 returns-5 : tie.Need-returns-5
 unfolding orderBy

@@ -61,14 +61,18 @@ same-length c = search needs
 weighed :
     (c : tie.After-known-told4)
     → let s = c .before .before .before .before .before .before .before .before .before .before .before .before .before .before .before in
-    Weighed (s .args .weights .now) (c .before .before .before .before .before .read-weights .last .1 .1 .1 .0) (s .args .at) (drop 2 (fields s)) (c .before .read2 .given .0 .0) (c .before .read2 .given .0 .1 .0)
-weighed c = rw (rest (c .before .before .before .before .before .before .before)) at (rw (c .before .read2 .given .1) at (c .before .before .before .before .before .read-weights .ensures))
+    Weighed (s .args .weights .now) (c .before .before .before .before .before .read-weights .last .1 .1 .1 .0) (s .args .at) (drop 2 (fields s))
+    (c .before .read2 .given .0 .0) (c .before .read2 .given .0 .1 .0)
+weighed c =
+    rw (rest (c .before .before .before .before .before .before .before)) at
+    (rw (c .before .read2 .given .1) at (c .before .before .before .before .before .read-weights .ensures))
 
 returns : tie.Need-returns
 unfolding then unless unit
 returns c =
     let w = weighed (c .before) in
-    opened (c .before .before .before .before .before .before .before .before .before) .rest ∙ rw (w .read _, ne-eqb _ unit (λ e. c .if1 .taken (sym (w .total) ∙ e)))
+    opened (c .before .before .before .before .before .before .before .before .before) .rest
+    ∙ rw (w .read _, ne-eqb _ unit (λ e. c .if1 .taken (sym (w .total) ∙ e)))
 
 mul-volumes : tie.Need-mul-volumes
 mul-volumes c = omega (arith, opened (c .before .before .before .before .before .before .before .before .before) .place)
@@ -85,7 +89,8 @@ same-length-2 c = search needs
 returns-3 : tie.Need-returns-3
 unfolding then
 returns-3 c =
-    let refused = rw (rest (c .before .before .before .before .before .before .before)) at (rw (c .before .read .given .1) at (c .before .before .before .before .before .read-weights .ensures)) in
+    let refused = rw (rest (c .before .before .before .before .before .before .before)) at
+    (rw (c .before .read .given .1) at (c .before .before .before .before .before .read-weights .ensures)) in
     opened (c .before .before .before .before .before .before .before .before) .rest ∙ rw (refused _)
 
 same-length-3 : tie.Need-same-length-3
@@ -101,7 +106,8 @@ returns-4 c =
     let o = opened (c .before .before .before .before .before .before .before .before .before) in
     let a = c .before .before .before .before .before .before .before .before .before .before .before .before .before .before .before .before .args in
     record {
-      service = record { volume = c .before .before .before .before .before .before .before .before .before .before .opened2 .given .0 .0; weights = w .weights };
+      service =
+          record { volume = c .before .before .before .before .before .before .before .before .before .before .opened2 .given .0 .0; weights = w .weights };
       read = o .rest ∙ rw (w .read _, eq-eqb _ unit (w .total ∙ c .if1 .left));
       stored =
           record {

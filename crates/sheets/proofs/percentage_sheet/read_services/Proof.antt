@@ -65,13 +65,17 @@ refused-at-requires : tie.Need-refused-at-requires Inv-loop μ-loop
 refused-at-requires c κs = tt
 
 same-length : tie.Need-same-length Inv-loop μ-loop
-same-length c = c .before .before .before .before .before .before .before .before .read-line .kept .1 .1 .1 .0 ∙ c .before .before .before .before .before .before .before .before .before .before .before .before .loop .inv .long-volumes
+same-length c =
+    c .before .before .before .before .before .before .before .before .read-line .kept .1 .1 .1 .0
+    ∙ c .before .before .before .before .before .before .before .before .before .before .before .before .loop .inv .long-volumes
 
 same-length-2 : tie.Need-same-length-2 Inv-loop μ-loop
 same-length-2 c = c .before .before .before .before .before .before .before .before .before .before .before .before .loop .inv .long-sizes
 
 same-length-3 : tie.Need-same-length-3 Inv-loop μ-loop
-same-length-3 c = c .before .before .before .before .before .before .before .before .read-line .kept .1 .1 .1 .1 .0 ∙ c .before .before .before .before .before .before .before .before .before .before .before .before .loop .inv .long-weights
+same-length-3 c =
+    c .before .before .before .before .before .before .before .before .read-line .kept .1 .1 .1 .1 .0
+    ∙ c .before .before .before .before .before .before .before .before .before .before .before .before .loop .inv .long-weights
 
 returns : tie.Need-returns Inv-loop μ-loop
 unfolding sheetFrom then
@@ -88,7 +92,9 @@ followed :
     (c : tie.After-known-told2 Inv-loop μ-loop)
     → let l = c .before .before .before .before .before .before .before .before .before .before .before .loop in
     let r = c .before .before .before .before .before .before .before .read-line in
-    Followed (c .before .before .before .before .before .before .before .before .before .before .before .before .before .before .before .before .args .text .now) (l .volumes) (r .last .1 .1 .1 .0) (l .weights) (r .last .1 .1 .1 .1 .0) (l .at) (l .i) (l .start) (c .before .read2 .given .0 .0) (c .before .read2 .given .0 .1 .0)
+    Followed (c .before .before .before .before .before .before .before .before .before .before .before .before .before .before .before .before .args .text
+    .now) (l .volumes) (r .last .1 .1 .1 .0) (l .weights) (r .last .1 .1 .1 .1 .0) (l .at) (l .i) (l .start) (c .before .read2 .given .0 .0)
+    (c .before .read2 .given .0 .1 .0)
 followed c = rw (c .before .read2 .given .1) at (c .before .before .before .before .before .before .before .read-line .ensures)
 
 mul-sizes : tie.Need-mul-sizes Inv-loop μ-loop

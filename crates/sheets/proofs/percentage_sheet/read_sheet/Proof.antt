@@ -44,7 +44,8 @@ same-length-3 c = search needs
 returns-2 : tie.Need-returns-2
 unfolding readSheet sheetLine sheetFrom readAs then
 returns-2 c =
-    let line = rw (c .before .before .before .before .before .before .before .before .before .before .before .read2 .given .1) at (c .before .before .before .before .before .before .before .before .before .before .before .before .before .read-first-line .ensures) in
+    let line = rw (c .before .before .before .before .before .before .before .before .before .before .before .read2 .given .1) at
+    (c .before .before .before .before .before .before .before .before .before .before .before .before .before .read-first-line .ensures) in
     rw (line .0) (c .before .before .before .before .before .before .read-services .ensures)
 
 pub read-sheet-spec : {M : Type 1} → statement M

@@ -48,7 +48,11 @@ returns-3 : tie.Need-returns-3
 unfolding serviceFields unless
 returns-3 c =
     let few : length (fields (c .before .before .before .before .before .before .before .before)) < 3 = omega arith in
-    simp (word (c .before .before .before .before) ∙ not-false _ (c .before .before .before .if1 .left), lt-ltb _ mostServices (c .before .before .if2 .left), lt-leb 3 _ few)
+    simp (
+      word (c .before .before .before .before) ∙ not-false _ (c .before .before .before .if1 .left),
+      lt-ltb _ mostServices (c .before .before .if2 .left),
+      lt-leb 3 _ few,
+    )
 
 returns-4 : tie.Need-returns-4
 unfolding serviceFields unless

@@ -37,17 +37,21 @@ held :
     (c : tie.After-known-told2)
     → let l = c .before .before .before .before .before .before .read-sheet .last in
     let g = c .before .read2 .given .0 in
-    SheetHeld (readSheet (c .before .before .before .before .before .before .before .before .before .before .before .before .before .args .text .now)) (l .1 .0) (l .1 .1 .0) (l .1 .1 .1 .0) (g .0) (g .1 .0) (g .1 .1 .0)
+    SheetHeld (readSheet (c .before .before .before .before .before .before .before .before .before .before .before .before .before .args .text .now))
+    (l .1 .0) (l .1 .1 .0) (l .1 .1 .1 .0) (g .0) (g .1 .0) (g .1 .1 .0)
 held c = rw (c .before .read2 .given .1) at (c .before .before .before .before .before .before .read-sheet .ensures)
 
 -- the arrays are long enough
-room-volumes : (c : tie.After-known-told2) → c .before .read2 .given .0 .1 .0 ≤ length (c .before .before .before .before .before .before .read-sheet .last .1 .0)
+room-volumes :
+    (c : tie.After-known-told2) → c .before .read2 .given .0 .1 .0 ≤ length (c .before .before .before .before .before .before .read-sheet .last .1 .0)
 room-volumes c = omega (arith, held c .holds .few, c .before .before .before .before .before .before .read-sheet .kept .1 .0)
 
-room-sizes : (c : tie.After-known-told2) → c .before .read2 .given .0 .1 .0 ≤ length (c .before .before .before .before .before .before .read-sheet .last .1 .1 .0)
+room-sizes :
+    (c : tie.After-known-told2) → c .before .read2 .given .0 .1 .0 ≤ length (c .before .before .before .before .before .before .read-sheet .last .1 .1 .0)
 room-sizes c = omega (arith, held c .holds .few, c .before .before .before .before .before .before .read-sheet .kept .1 .1 .0)
 
-room-weights : (c : tie.After-known-told2) → c .before .read2 .given .0 .1 .1 .0 ≤ length (c .before .before .before .before .before .before .read-sheet .last .1 .1 .1 .0)
+room-weights :
+    (c : tie.After-known-told2) → c .before .read2 .given .0 .1 .1 .0 ≤ length (c .before .before .before .before .before .before .read-sheet .last .1 .1 .1 .0)
 room-weights c = omega (arith, held c .holds .few, held c .holds .short, c .before .before .before .before .before .before .read-sheet .kept .1 .1 .1 .0)
 
 array-share-prefix-volumes : tie.Need-array-share-prefix-volumes

@@ -18,7 +18,10 @@ enum-known-planned : tie.Need-enum-known-planned
 enum-known-planned c = search needs
 
 -- the table that was planned
-left : (c : tie.After-known-told) → Left (c .before .before .before .before .before .before .before .before .before .before .args .text .now) (c .before .planned .given .0 .0) (c .before .before .before .before .before .plan .last .1 .1 .0)
+left :
+    (c : tie.After-known-told)
+    → Left (c .before .before .before .before .before .before .before .before .before .before .args .text .now) (c .before .planned .given .0 .0)
+    (c .before .before .before .before .before .plan .last .1 .1 .0)
 left c =
     let e = c .before .before .before .before .before .plan .ensures in
     plan-left _ _ _ _ _ refl (e .0) (c .before .planned .given .1) (e .1 .1)

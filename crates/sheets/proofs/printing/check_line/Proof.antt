@@ -13,7 +13,8 @@ use Rattle.sheets.proofs.Checking.{line-bad, line-placed}
 use Rattle.sheets.proofs.printing.check_line.Statement.{statement}
 use Rattle.sheets.proofs.printing.check_line.Tie as tie
 
-a-line : (c : tie.Else1) → let a = c .before .before .before .before .before .before .before .before .args in isLine (a .k) (lineAt (a .table .now) (a .i)) ≡ true
+a-line :
+    (c : tie.Else1) → let a = c .before .before .before .before .before .before .before .before .args in isLine (a .k) (lineAt (a .table .now) (a .i)) ≡ true
 a-line c = sym (c .before .is-line .ensures) ∙ not-false (c .before .is-line .result) (c .if1 .left)
 
 mul-c : tie.Need-mul-c
@@ -71,7 +72,8 @@ returns-2 c =
     let a = c .before .before .before .before .before .before .before .before .before .before .before .before .args in
     let t = a .table .now in
     λ before passed.
-    line-placed _ before (lineAt t (a .i)) (c .before .before .place-line .result) (c .before .before .place-line .last .1 .0) (a-line (c .before .before .before .before)) (c .before .before .place-line .ensures before (getD t (4 * a .i + 2) 0) (getD t (4 * a .i + 3) 0) passed)
+    line-placed _ before (lineAt t (a .i)) (c .before .before .place-line .result) (c .before .before .place-line .last .1 .0)
+    (a-line (c .before .before .before .before)) (c .before .before .place-line .ensures before (getD t (4 * a .i + 2) 0) (getD t (4 * a .i + 3) 0) passed)
 
 pub check-line-spec : {M : Type 1} → statement M
 check-line-spec =

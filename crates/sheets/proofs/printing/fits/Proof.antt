@@ -18,7 +18,8 @@ unfolding textLimit
 returns c =
     let s = c .before .before in
     let short = table-short (s .args .table .now) (s .args .n) (s .pre .1) (s .args .k) (s .args .total) (s .pre .0) (omega arith) (omega arith) in
-    sym (le-leb (length (tableText (tableIn (s .args .k) (s .args .total) (s .args .table .now) (s .args .n)))) (s .args .room) (omega (arith, c .if1 .taken, short)))
+    sym (le-leb (length (tableText (tableIn (s .args .k) (s .args .total) (s .args .table .now) (s .args .n)))) (s .args .room)
+    (omega (arith, c .if1 .taken, short)))
 
 mul-text-width : tie.Need-mul-text-width
 mul-text-width c = omega arith
@@ -30,7 +31,8 @@ returns-2 : tie.Need-returns-2
 returns-2 c =
     let s = c .before .before .before in
     ap (λ (w : _). leb w (s .args .room))
-    (c .text-width .ensures ∙ table-counted (s .args .table .now) (s .args .n) (s .pre .1) (s .args .k) (s .args .total) (s .pre .0) (omega arith) (omega arith))
+    (c .text-width .ensures
+    ∙ table-counted (s .args .table .now) (s .args .n) (s .pre .1) (s .args .k) (s .args .total) (s .pre .0) (omega arith) (omega arith))
 
 pub fits-spec : {M : Type 1} → statement M
 fits-spec = tie.close (tie.spec returns mul-text-width text-width-requires returns-2)

@@ -41,7 +41,8 @@ returns-4 c =
     simp (service (c .before .before), le-leb _ _ (c .before .if3 .left), le-ltb _ _ over)
 
 -- the rule is well-formed
-rule : (c : tie.Else4) → let a = c .before .before .before .before .args in isRule (a .k) (record { len = a .len; value = a .value; backend = a .backend }) ≡ true
+rule :
+    (c : tie.Else4) → let a = c .before .before .before .before .args in isRule (a .k) (record { len = a .len; value = a .value; backend = a .backend }) ≡ true
 unfolding isRule isSuffix
 rule c =
     let a = c .before .before .before .before .args in

@@ -92,14 +92,16 @@ put-number-requires-3 c κs =
 
 same-length-out : tie.Need-same-length
 same-length-out c =
-    let w = chain (worded (c .before .before .before .before .before .before .before .before .before .before .before .before .before .args .out .now)) (c .before .before .before .before .before .before .before .before .before .before .put-number .ensures) in
+    let w = chain (worded (c .before .before .before .before .before .before .before .before .before .before .before .before .before .args .out .now))
+    (c .before .before .before .before .before .before .before .before .before .before .put-number .ensures) in
     same-length (chain (chain w (c .before .before .before .before .before .before .put-number2 .ensures)) (c .before .before .put-number3 .ensures))
 
 returns : tie.Need-returns
 returns c =
     let a = c .before .before .before .before .before .before .before .before .before .before .before .before .before .args in
     let w = chain (worded (a .out .now)) (c .before .before .before .before .before .before .before .before .before .before .put-number .ensures) in
-    rw (← parts (a .k) (a .n) (a .total)) (chain (chain w (c .before .before .before .before .before .before .put-number2 .ensures)) (c .before .before .put-number3 .ensures))
+    rw (← parts (a .k) (a .n) (a .total))
+    (chain (chain w (c .before .before .before .before .before .before .put-number2 .ensures)) (c .before .before .put-number3 .ensures))
 
 pub put-head-spec : {M : Type 1} → statement M
 put-head-spec =

@@ -65,13 +65,15 @@ put-number-requires-2 c κs =
 
 same-length-out : tie.Need-same-length
 same-length-out c =
-    same-length (chain (chain (c .before .before .before .before .before .before .before .before .before .before .put-number .ensures) (c .before .before .before .before .before .before .put-suffix .ensures)) (c .before .before .put-number2 .ensures))
+    same-length (chain (chain (c .before .before .before .before .before .before .before .before .before .before .put-number .ensures)
+    (c .before .before .before .before .before .before .put-suffix .ensures)) (c .before .before .put-number2 .ensures))
 
 returns : tie.Need-returns
 returns c =
     let a = c .before .before .before .before .before .before .before .before .before .before .before .before .before .args in
     rw (← parts (a .service) (a .len) (a .value) (a .backend))
-    (chain (chain (c .before .before .before .before .before .before .before .before .before .before .put-number .ensures) (c .before .before .before .before .before .before .put-suffix .ensures)) (c .before .before .put-number2 .ensures))
+    (chain (chain (c .before .before .before .before .before .before .before .before .before .before .put-number .ensures)
+    (c .before .before .before .before .before .before .put-suffix .ensures)) (c .before .before .put-number2 .ensures))
 
 pub put-line-spec : {M : Type 1} → statement M
 put-line-spec =

@@ -58,7 +58,8 @@ returns : tie.Need-returns
 returns c =
     let s = c .before .before .before .before .before .before .before .before .before in
     let w = c .before .before .before .before .before .before .write-suffix in
-    chain (suffix-text _ _ _ _ (record { short = s .pre .0 .0; small = s .pre .0 .1 }) (s .pre .1) _ _ (w .ensures .0) (w .ensures .1)) (c .before .before .separate .ensures)
+    chain (suffix-text _ _ _ _ (record { short = s .pre .0 .0; small = s .pre .0 .1 }) (s .pre .1) _ _ (w .ensures .0) (w .ensures .1))
+    (c .before .before .separate .ensures)
 
 pub put-suffix-spec : {M : Type 1} → statement M
 put-suffix-spec =

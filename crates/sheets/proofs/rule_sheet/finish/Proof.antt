@@ -51,7 +51,12 @@ unfolding unless sheetAnswer
 returns-3 c =
     λ all e.
     ap Refused (c .refused-at3 .ensures)
-    ∙ sym (ap sheetAnswer (whole-by _ all _ e) ∙ simp (some (c .before .before .before .before .before .before), eq-eqb _ _ (c .before .before .before .before .if2 .left), ne-eqb _ _ (c .before .before .if3 .taken)))
+    ∙ sym (ap sheetAnswer (whole-by _ all _ e)
+    ∙ simp (
+      some (c .before .before .before .before .before .before),
+      eq-eqb _ _ (c .before .before .before .before .if2 .left),
+      ne-eqb _ _ (c .before .before .if3 .taken),
+    ))
 
 returns-4 : tie.Need-returns-4
 unfolding unless sheetAnswer

@@ -55,17 +55,21 @@ refused-at-requires : tie.Need-refused-at-requires Inv-loop μ-loop
 refused-at-requires c κs = tt
 
 same-length : tie.Need-same-length Inv-loop μ-loop
-same-length c = c .before .before .before .before .before .loop .inv .1 .passed .room ∙ sym (c .before .before .before .before .before .before .before .before .pre .1)
+same-length c =
+    c .before .before .before .before .before .loop .inv .1 .passed .room ∙ sym (c .before .before .before .before .before .before .before .before .pre .1)
 
 -- a refusal at the line behind those
-at : (why : Refusal) (c : tie.At-loop Inv-loop μ-loop) → _≡_ {A = Reading Table} (refused why (length (c .loop .inv .1 .before) + 2)) (refused why (c .loop .last .count + 2))
+at :
+    (why : Refusal) (c : tie.At-loop Inv-loop μ-loop)
+    → _≡_ {A = Reading Table} (refused why (length (c .loop .inv .1 .before) + 2)) (refused why (c .loop .last .count + 2))
 at why c = ap (λ (n : ℕ). refused why (n + 2)) (sym (passed-count _ _ _ _ _ (c .loop .inv .1 .passed)))
 
 returns : tie.Need-returns Inv-loop μ-loop
 returns c =
     let a = c .before .before .before .before .before .before .before .before .args in
     let r = c .before .before .before .before .before .loop .inv .1 in
-    let e = r .rest ∙ next-cut (a .head) (a .text .now) (r .before) _ _ (c .before .before .before .find .ensures) (c .before .before .before .before .loop-test .taken) (c .before .before .if1 .taken) ∙ at Malformed (c .before .before .before .before .before) in
+    let e = r .rest ∙ next-cut (a .head) (a .text .now) (r .before) _ _ (c .before .before .before .find .ensures)
+    (c .before .before .before .before .loop-test .taken) (c .before .before .if1 .taken) ∙ at Malformed (c .before .before .before .before .before) in
     let back = refused-by _ _ _ _ e in
     (ap Refused (c .refused-at .ensures) ∙ back .0, back .1)
 
@@ -87,14 +91,22 @@ refused-at-requires-2 : tie.Need-refused-at-requires-2 Inv-loop μ-loop
 refused-at-requires-2 c κs = tt
 
 same-length-2 : tie.Need-same-length-2 Inv-loop μ-loop
-same-length-2 c = c .before .before .before .before .before .before .before .before .take-line .kept .1 .1 .1 .1 .1 .1 .0 ∙ c .before .before .before .before .before .before .before .before .before .before .before .before .before .before .loop .inv .1 .passed .room ∙ sym (c .before .before .before .before .before .before .before .before .before .before .before .before .before .before .before .before .before .pre .1)
+same-length-2 c =
+    c .before .before .before .before .before .before .before .before .take-line .kept .1 .1 .1 .1 .1 .1 .0
+    ∙ c .before .before .before .before .before .before .before .before .before .before .before .before .before .before .loop .inv .1 .passed .room
+    ∙ sym (c .before .before .before .before .before .before .before .before .before .before .before .before .before .before .before .before .before
+    .pre .1)
 
 returns-2 : tie.Need-returns-2 Inv-loop μ-loop
 returns-2 c =
     let a = c .before .before .before .before .before .before .before .before .before .before .before .before .before .before .before .before .before .args in
     let r = c .before .before .before .before .before .before .before .before .before .before .before .before .before .before .loop .inv .1 in
-    let taken = rw (c .before .before .before .placed .given .1) at (c .before .before .before .before .before .before .before .before .take-line .ensures (r .before) (r .passed)) in
-    let e = r .rest ∙ next-refused (a .head) (a .text .now) (r .before) _ _ (c .before .before .before .before .before .before .before .before .before .before .before .before .find .ensures) (c .before .before .before .before .before .before .before .before .before .before .before .if1 .left) _ taken ∙ at _ (c .before .before .before .before .before .before .before .before .before .before .before .before .before .before) in
+    let taken = rw (c .before .before .before .placed .given .1) at
+    (c .before .before .before .before .before .before .before .before .take-line .ensures (r .before) (r .passed)) in
+    let e = r .rest ∙ next-refused (a .head) (a .text .now) (r .before) _ _
+    (c .before .before .before .before .before .before .before .before .before .before .before .before .find .ensures)
+    (c .before .before .before .before .before .before .before .before .before .before .before .if1 .left) _ taken
+    ∙ at _ (c .before .before .before .before .before .before .before .before .before .before .before .before .before .before) in
     let back = refused-by _ _ _ _ e in
     (ap Refused (c .refused-at2 .ensures) ∙ back .0, back .1)
 
@@ -105,7 +117,13 @@ add-start : tie.Need-add-start Inv-loop μ-loop
 add-start c = omega (arith, c .before .before .before .before .before .before .before .before .before .if1 .left)
 
 loop-less : tie.Need-loop-less Inv-loop μ-loop
-loop-less c = omega (arith, c .before .before .before .before .before .before .before .before .before .before .find .ensures, c .before .before .before .before .before .before .before .before .before .if1 .left, c .before .before .before .before .before .before .before .before .before .before .before .loop-test .taken)
+loop-less c =
+    omega (
+      arith,
+      c .before .before .before .before .before .before .before .before .before .before .find .ensures,
+      c .before .before .before .before .before .before .before .before .before .if1 .left,
+      c .before .before .before .before .before .before .before .before .before .before .before .loop-test .taken,
+    )
 
 loop-again : tie.Need-loop-again Inv-loop μ-loop
 loop-again c =
@@ -116,7 +134,10 @@ loop-again c =
       record {
         before = taken .0 ∷ r .before;
         passed = taken .1 .1;
-        rest = r .rest ∙ next-got (a .head) (a .text .now) (r .before) _ _ (c .before .before .before .before .before .before .before .before .before .before .find .ensures) (c .before .before .before .before .before .before .before .before .before .if1 .left) _ (taken .1 .0);
+        rest =
+            r .rest ∙ next-got (a .head) (a .text .now) (r .before) _ _
+            (c .before .before .before .before .before .before .before .before .before .before .find .ensures)
+            (c .before .before .before .before .before .before .before .before .before .if1 .left) _ (taken .1 .0);
       },
     )
 

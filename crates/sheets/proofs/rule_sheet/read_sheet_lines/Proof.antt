@@ -44,7 +44,8 @@ same-length c = search needs
 returns-2 : tie.Need-returns-2
 unfolding readTable tableLine tableFrom readAs totalLimit then
 returns-2 c =
-    let line = rw (c .before .before .before .before .before .read2 .given .1) at (c .before .before .before .before .before .before .before .read-first-line .ensures) in
+    let line = rw (c .before .before .before .before .before .read2 .given .1) at
+    (c .before .before .before .before .before .before .before .read-first-line .ensures) in
     rw (line .0) (c .before .before .read-lines .ensures)
 
 pub read-sheet-lines-spec : {M : Type 1} → statement M

@@ -87,8 +87,13 @@ returns-3 c =
     let d = c .before .before .before .before in
     let l = lineOf (d .before .before .before .before .before .before .before .before .read2 .given .0 .0) in
     let read = read-as (d .before .before .before .before .before .before .before) in
-    let follows = placed-as d before passed in
-    (l, (read .1 before (length before + 2) ∙ placed-next before l _ _ (follows .0), passed-next _ before l _ _ _ passed (read .0) (follows .0) _ _ _ (follows .1) (c .before .before .store-line .ensures)))
+    let follows = placed-as d before passed in (
+      l,
+      (
+        read .1 before (length before + 2) ∙ placed-next before l _ _ (follows .0),
+        passed-next _ before l _ _ _ passed (read .0) (follows .0) _ _ _ (follows .1) (c .before .before .store-line .ensures),
+      ),
+    )
 
 pub take-line-spec : {M : Type 1} → statement M
 take-line-spec =

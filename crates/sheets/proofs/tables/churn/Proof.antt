@@ -25,14 +25,16 @@ refused-sheet-requires c κs = search needs
 -- the sheets were read
 old-held :
     (c : tie.After-known-told)
-    → TableHeld (c .before .before .before .before .before .before .before .before .args .old .now) (c .before .old-read .given .0 .0) (c .before .before .before .before .read-sheet-lines .last .1 .0)
+    → TableHeld (c .before .before .before .before .before .before .before .before .args .old .now) (c .before .old-read .given .0 .0)
+    (c .before .before .before .before .read-sheet-lines .last .1 .0)
 old-held c =
     let read = c .before .before .before .before .read-sheet-lines in
     table-held _ _ _ (read .kept .1 .0) (sym (c .before .old-read .given .1) ∙ read .ensures .0) (read .ensures .1)
 
 new-held :
     (c : tie.After-known-told2)
-    → TableHeld (c .before .before .before .before .before .before .before .before .before .before .before .before .before .before .args .new .now) (c .before .new-read .given .0 .0) (c .before .before .before .before .read-sheet-lines2 .last .1 .0)
+    → TableHeld (c .before .before .before .before .before .before .before .before .before .before .before .before .before .before .args .new .now)
+    (c .before .new-read .given .0 .0) (c .before .before .before .before .read-sheet-lines2 .last .1 .0)
 new-held c =
     let read = c .before .before .before .before .read-sheet-lines2 in
     table-held _ _ _ (read .kept .1 .0) (sym (c .before .new-read .given .1) ∙ read .ensures .0) (read .ensures .1)
@@ -63,7 +65,10 @@ unfolding churnAnswer
 returns-2 c =
     let is = c .before .enum-told2 .given .1 in
     c .refused-sheet2 .ensures _ is
-    ∙ sym (rw (old-held (c .before .before .before .before .before .before) .read, sheet-refused _ _ (sym is ∙ c .before .before .before .before .read-sheet-lines2 .ensures .0)))
+    ∙ sym (rw (
+      old-held (c .before .before .before .before .before .before) .read,
+      sheet-refused _ _ (sym is ∙ c .before .before .before .before .read-sheet-lines2 .ensures .0),
+    ))
 
 slice-aggregate-compare : tie.Need-slice-aggregate-compare
 slice-aggregate-compare c = search needs

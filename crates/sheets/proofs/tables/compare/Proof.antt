@@ -47,7 +47,10 @@ returns-2 : tie.Need-returns-2
 unfolding churnOf
 returns-2 c =
     let s = c .before .before .before .before .before .before in
-    sym (rw (old-there (c .before .before), lacks (tableOf (s .args .b) (s .args .new .now)) (s .args .service) (s .pre .1 .1) (c .before .first-backend2 .ensures) (c .if2 .taken)))
+    sym (rw (
+      old-there (c .before .before),
+      lacks (tableOf (s .args .b) (s .args .new .now)) (s .args .service) (s .pre .1 .1) (c .before .first-backend2 .ensures) (c .if2 .taken),
+    ))
 
 new-there : (c : tie.Else2) → let a = c .before .before .before .before .before .before .args in hasService (tableOf (a .b) (a .new .now)) (a .service) ≡ true
 new-there c =
@@ -75,7 +78,8 @@ returns-4 c =
     let d = c .before .before .before .before .before in
     let s = d .before .before .before .before .before .before in
     let all = shifted (s .args .a .k) (s .pre .0 .1 .1) in
-    ap Value (c .count-moved .ensures ∙ ap (λ (x : ℕ). moved x (linesIn (s .args .old .now) (s .args .a .n)) (linesIn (s .args .new .now) (s .args .b .n)) (s .args .service)) all)
+    ap Value (c .count-moved .ensures
+    ∙ ap (λ (x : ℕ). moved x (linesIn (s .args .old .now) (s .args .a .n)) (linesIn (s .args .new .now) (s .args .b .n)) (s .args .service)) all)
     ∙ sym (rw (old-there (d .before .before), new-there d, eq-eqb _ _ (c .before .before .if3 .left)))
 
 pub compare-spec : {M : Type 1} → statement M

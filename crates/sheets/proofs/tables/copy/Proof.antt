@@ -52,8 +52,11 @@ loop-less c = omega arith
 loop-again : tie.Need-loop-again Inv-loop μ-loop
 loop-again c =
     let a = c .before .before .before .args in
-    let l = c .before .before .loop in
-    (omega arith, ap (λ (o : List ℕ). set o (l .i) (getD (a .from .now) (l .i) 0)) (l .inv .1) ∙ step (a .to .now) (a .from .now) (l .i) (omega arith) (omega arith))
+    let l = c .before .before .loop in (
+      omega arith,
+      ap (λ (o : List ℕ). set o (l .i) (getD (a .from .now) (l .i) 0)) (l .inv .1)
+          ∙ step (a .to .now) (a .from .now) (l .i) (omega arith) (omega arith),
+    )
 
 same-length : tie.Need-same-length Inv-loop μ-loop
 same-length c = long (c .before)

@@ -46,10 +46,12 @@ turn :
 turn c =
     let a = c .before .before .args in
     c .before .loop .inv .1
-    ∙ ap (λ (ls : List Line). firstMatch (ownRules (a .service) ls) (a .address)) (rows-more (a .table .now) (a .n) (c .before .before .pre .room) (a .n - c .before .loop .left) (omega arith))
+    ∙ ap (λ (ls : List Line). firstMatch (ownRules (a .service) ls) (a .address))
+    (rows-more (a .table .now) (a .n) (c .before .before .pre .room) (a .n - c .before .loop .left) (omega arith))
 
 -- the line's suffix is short
-short : (c : tie.In-loop Inv-loop μ-loop) → getD (c .before .before .args .table .now) (4 * (c .before .before .args .n - c .before .loop .left) + 1) 0 ≤ mostBits
+short :
+    (c : tie.In-loop Inv-loop μ-loop) → getD (c .before .before .args .table .now) (4 * (c .before .before .args .n - c .before .loop .left) + 1) 0 ≤ mostBits
 short c = formed mostBits _ (c .before .before .pre .each (c .before .before .args .n - c .before .loop .left) (omega arith)) .short
 
 -- a suffix of so few bits has a power of two
@@ -139,7 +141,8 @@ returns-2 c =
     let a = c .before .before .args in
     sym
     (c .before .loop .inv .1
-    ∙ ap (λ (ls : List Line). firstMatch (ownRules (a .service) ls) (a .address)) (rows-none (a .table .now) (a .n) (c .before .before .pre .room) (a .n - c .before .loop .left) (omega arith))
+    ∙ ap (λ (ls : List Line). firstMatch (ownRules (a .service) ls) (a .address))
+    (rows-none (a .table .now) (a .n) (c .before .before .pre .room) (a .n - c .before .loop .left) (omega arith))
     ∙ of-none (a .service) (a .address))
 
 pub first-backend-spec : {M : Type 1} → statement M

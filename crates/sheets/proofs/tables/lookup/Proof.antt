@@ -37,7 +37,8 @@ slice-aggregate-first-backend c = search needs
 -- the sheet was read
 has :
     (c : tie.After-known-told2)
-    → TableHeld (c .before .before .before .before .before .before .before .args .text .now) (c .before .read2 .given .0 .0) (c .before .before .before .before .read-sheet-lines .last .1 .0)
+    → TableHeld (c .before .before .before .before .before .before .before .args .text .now) (c .before .read2 .given .0 .0)
+    (c .before .before .before .before .read-sheet-lines .last .1 .0)
 has c =
     let read = c .before .before .before .before .read-sheet-lines in
     table-held _ _ _ (read .kept .1 .0) (sym (c .before .read2 .given .1) ∙ read .ensures .0) (read .ensures .1)

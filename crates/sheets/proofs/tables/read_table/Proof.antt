@@ -27,7 +27,8 @@ enum-known-read-2 c = search needs
 -- the sheet was read
 has :
     (c : tie.After-known-told2)
-    → TableHeld (c .before .before .before .before .before .before .before .before .args .text .now) (c .before .read2 .given .0 .0) (c .before .before .before .before .read-sheet-lines .last .1 .0)
+    → TableHeld (c .before .before .before .before .before .before .before .before .args .text .now) (c .before .read2 .given .0 .0)
+    (c .before .before .before .before .read-sheet-lines .last .1 .0)
 has c =
     let read = c .before .before .before .before .read-sheet-lines in
     table-held _ _ _ (read .kept .1 .0) (sym (c .before .read2 .given .1) ∙ read .ensures .0) (read .ensures .1)
@@ -61,8 +62,12 @@ same-length c = search needs
 
 returns-3 : tie.Need-returns-3
 returns-3 c =
-    let h = has (c .before .before .before .before .before .before) in
-    (read-made _ _ _ h _ (c .before .before .before .before .before .if1 .left), c .before .before .copy .ensures ∙ ap (sets (c .before .before .before .before .before .before .before .before .before .before .before .before .before .before .args .table .now) 0) (h .stored ∙ sym (ap (λ (r : Reading Table). valuesOf r (λ t. cells (t .lines))) (h .read))))
+    let h = has (c .before .before .before .before .before .before) in (
+      read-made _ _ _ h _ (c .before .before .before .before .before .if1 .left),
+      c .before .before .copy .ensures
+          ∙ ap (sets (c .before .before .before .before .before .before .before .before .before .before .before .before .before .before .args .table .now) 0)
+          (h .stored ∙ sym (ap (λ (r : Reading Table). valuesOf r (λ t. cells (t .lines))) (h .read))),
+    )
 
 pub read-table-spec : {M : Type 1} → statement M
 read-table-spec =
