@@ -34,8 +34,7 @@ cases =
       tolerance = 20000;
       capacity = 5;
       volumes = 55 ∷ 45 ∷ [];
-      weights
-          = (166667 ∷ 333333 ∷ 500000 ∷ []) ∷ (250000 ∷ 250000 ∷ 500000 ∷ []) ∷ [];
+      weights = (166667 ∷ 333333 ∷ 500000 ∷ []) ∷ (250000 ∷ 250000 ∷ 500000 ∷ []) ∷ [];
     }))
     -- P9 to P12, in a sheet
     ∷ reads "SHEET 5 2 5\nSERVICE 55 50 50\nSERVICE 45 18.4.2 81.6\n" (refused no2 3)

@@ -118,7 +118,7 @@ checkLines k before (l ∷ ls) = unless (isLine k l) no2 0 (placed before l 0 (c
 unfoldable pub checkEnd : {A : Type 0} → ℕ → A → List Line → Reading A
 checkEnd broken a ls = unless (eqb broken 0) no1 0 (unless (closed ls) no9 0 (got a))
 
--- n counts a line of too few fields too
+-- a table that is no text, checked as its sheet would be: the numbers of line 1, then line by line, then the end; n counts a line of too few fields too
 unfoldable pub checkSheet : Table → ℕ → Reading Table
 checkSheet t broken =
     unless (inLimits 1 mostBits (t .k)) no2 0
