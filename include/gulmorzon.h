@@ -1,4 +1,5 @@
-/* Gulmorzon for C: split a percentage sheet, look an address up, count the churn between two rule sheets.
+/* Gulmorzon for C: split a percentage sheet, look an address up, count the churn between two rule sheets, read the gauges
+ * of a backend.
  *
  * Link target/staticlib/libgulmorzon.a, which `rt staticlib gulmorzon` proves and builds for x86-64 Linux. It needs memcpy
  * and memset and nothing else. What each call answers and writes is proved for every input; the contracts stand in
@@ -73,6 +74,37 @@ struct gulmorzon_plan_answer {
     uint64_t total;
 };
 
+/* The gauges of a backend of a service: share is the part of its 2^k suffixes that the backend holds, load is the service's
+ * volume times the share. Both doubles are exact, so that == against the fraction holds; a backend that holds nothing reads
+ * 0, never -0. */
+struct gulmorzon_gauges {
+    double share;
+    double load;
+};
+
+/* Answered: number 0 and the record. Refused: the number, the line as above, and a record of zeros. */
+struct gulmorzon_gauges_answer {
+    size_t number;
+    size_t line;
+    struct gulmorzon_gauges gauges;
+};
+
+/* Which gauge is read, and the mark of what was read. GULMORZON_ABSENT is only a mark. */
+enum gulmorzon_gauge {
+    GULMORZON_SHARE = 1,
+    GULMORZON_LOAD = 2,
+    GULMORZON_ABSENT = 8 /* the service isn't there, in place of GULMORZON_UNKNOWN_SERVICE */
+};
+
+/* Answered: number 0, the mark, and the value of that gauge, 0 where the service is absent. Refused: the number and the
+ * line as above; mark and value are 0. */
+struct gulmorzon_reading_answer {
+    size_t number;
+    size_t line;
+    size_t mark;
+    double value;
+};
+
 /* Splits a percentage sheet: writes its rule sheet from the start of out. The value is its number of bytes; no zero byte
  * is added, and the rest of out stays as it was. */
 struct gulmorzon_answer gulmorzon_split(const char *text, size_t text_len, char *out, size_t out_len);
@@ -83,6 +115,16 @@ struct gulmorzon_answer gulmorzon_lookup(const char *text, size_t text_len, size
 /* The number of k-bit suffixes of a service whose backend is not the same in two rule sheets. */
 struct gulmorzon_answer gulmorzon_churn(const char *old_text, size_t old_len, const char *new_text, size_t new_len,
                                         size_t service);
+
+/* Share and load of a backend of a service in a rule sheet, for a volume of 0 to 10,000. A backend is 1 to 32 and need not
+ * be in the sheet. After the sheet's own refusals come 8, then 2 with line 0 for a volume or backend out of its limits. */
+struct gulmorzon_gauges_answer gulmorzon_gauges(const char *text, size_t text_len, size_t service, uint64_t volume,
+                                                size_t backend);
+
+/* One of the two: gauge is GULMORZON_SHARE or GULMORZON_LOAD. The limits are the same, and any other gauge is 2 with line 0
+ * too. A service that isn't there is no refusal here, whatever the other numbers are: the mark is GULMORZON_ABSENT. */
+struct gulmorzon_reading_answer gulmorzon_reading(const char *text, size_t text_len, size_t service, uint64_t volume,
+                                                  size_t backend, size_t gauge);
 
 /* The one call: the table of a percentage sheet in numbers, without its text. figures takes three for each service: its
  * grant, the length of its list and how the list ended (within 0, no gain 1, budget 2). table takes four for each line of

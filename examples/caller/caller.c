@@ -1,8 +1,9 @@
 /* A tool of an operator's own that calls Gulmorzon. It splits two sheets, looks addresses up, counts the churn between the
- * two tables, plans a third sheet in numbers and shows refusals and short buffers. Each answer is printed and checked: the
- * exit status is 1 if one is wrong. */
+ * two tables, plans a third sheet in numbers, reads gauges and shows refusals and short buffers. Each answer is printed and
+ * checked: the exit status is 1 if one is wrong. */
 #include "gulmorzon.h"
 
+#include <math.h>
 #include <stdio.h>
 #include <string.h>
 
@@ -19,6 +20,11 @@
 #define FIGURES {2, 3, 0, 5, 13, 1, 1, 32, 2}
 #define NUMBERS \
     {1, 1, 0, 1, 1, 0, 0, 2, 2, 4, 2, 3, 2, 3, 1, 2, 2, 2, 0, 3, 2, 1, 0, 2, 2, 0, 0, 1, 3, 0, 0, 14}
+
+/* Gauges. In LOADED backend 1 holds 13 of 32 suffixes of service 1 and all of service 2; in DEEP 1,365 of 4,096. */
+#define LOADED "TABLE 5 5 0\n1 *00000 1\n1 *000 2\n1 *0 1\n1 * 2\n2 * 1\n"
+#define DEEP \
+    "TABLE 12 7 3319680000\n1 *001010101010 1\n1 *0010101010 1\n1 *00101010 1\n1 *001010 1\n1 *0010 1\n1 *00 1\n1 * 2\n"
 
 #define LEN(text) (sizeof(text) - 1)
 
@@ -137,11 +143,85 @@ static void plans(void)
     plan("plan, both too short", MIXED, LEN(MIXED), 8, 31, short_figures);
 }
 
+/* The same double; 0 is plus zero. */
+static int same(double x, double y)
+{
+    return x == y && !signbit(x);
+}
+
+static void record(const char *what, const char *table, size_t len, size_t service, uint64_t volume, size_t backend,
+                   struct gulmorzon_gauges_answer want)
+{
+    struct gulmorzon_gauges_answer a = gulmorzon_gauges(table, len, service, volume, backend);
+    printf("%s: number %zu, line %zu, share %.17g, load %.17g\n", what, a.number, a.line, a.gauges.share, a.gauges.load);
+    check(what, a.number == want.number && a.line == want.line);
+    check("share and load", same(a.gauges.share, want.gauges.share) && same(a.gauges.load, want.gauges.load));
+}
+
+static void records(void)
+{
+    static const struct gulmorzon_gauges_answer part = {.gauges = {13.0 / 32.0, 55.0 * 13.0 / 32.0}};
+    static const struct gulmorzon_gauges_answer rest = {.gauges = {0.59375, 32.65625}};
+    static const struct gulmorzon_gauges_answer whole = {.gauges = {1.0, 10000.0}}, idle = {.gauges = {1.0, 0.0}};
+    static const struct gulmorzon_gauges_answer deep = {.gauges = {1365.0 / 4096.0, 9999.0 * 1365.0 / 4096.0}};
+    static const struct gulmorzon_gauges_answer nothing = {.number = GULMORZON_ANSWERED};
+    static const struct gulmorzon_gauges_answer cut = {.number = GULMORZON_MALFORMED, .line = 6};
+    static const struct gulmorzon_gauges_answer unknown = {.number = GULMORZON_UNKNOWN_SERVICE};
+    static const struct gulmorzon_gauges_answer bad = {.number = GULMORZON_BAD_FIELD};
+    record("gauges of 13 in 32", LOADED, LEN(LOADED), 1, 55, 1, part);
+    record("gauges of 19 in 32", LOADED, LEN(LOADED), 1, 55, 2, rest);
+    record("gauges of a whole tree", LOADED, LEN(LOADED), 2, 10000, 1, whole);
+    record("gauges, no volume", LOADED, LEN(LOADED), 2, 0, 1, idle);
+    record("gauges of 1,365 in 4,096", DEEP, LEN(DEEP), 1, 9999, 1, deep);
+    record("gauges, nothing held", LOADED, LEN(LOADED), 1, 55, 32, nothing);
+    record("gauges, the sheet cut, no such service", LOADED, LEN(LOADED) - 1, 3, 10001, 0, cut);
+    record("gauges, no such service, a bad volume", LOADED, LEN(LOADED), 3, 10001, 0, unknown);
+    record("gauges, a bad volume", LOADED, LEN(LOADED), 1, 10001, 1, bad);
+    record("gauges, backend 0", LOADED, LEN(LOADED), 1, 55, 0, bad);
+    record("gauges, backend 33", LOADED, LEN(LOADED), 1, 55, 33, bad);
+}
+
+static void reading(const char *what, size_t len, size_t service, uint64_t volume, size_t backend, size_t gauge,
+                    struct gulmorzon_reading_answer want)
+{
+    struct gulmorzon_reading_answer a = gulmorzon_reading(LOADED, len, service, volume, backend, gauge);
+    printf("%s: number %zu, line %zu, mark %zu, value %.17g\n", what, a.number, a.line, a.mark, a.value);
+    check(what, a.number == want.number && a.line == want.line && a.mark == want.mark && same(a.value, want.value));
+}
+
+static void readings(void)
+{
+    static const struct gulmorzon_reading_answer share = {.mark = GULMORZON_SHARE, .value = 13.0 / 32.0};
+    static const struct gulmorzon_reading_answer load = {.mark = GULMORZON_LOAD, .value = 55.0 * 13.0 / 32.0};
+    static const struct gulmorzon_reading_answer no_share = {.mark = GULMORZON_SHARE}, no_load = {.mark = GULMORZON_LOAD};
+    static const struct gulmorzon_reading_answer whole = {.mark = GULMORZON_LOAD, .value = 10000.0};
+    static const struct gulmorzon_reading_answer absent = {.mark = GULMORZON_ABSENT};
+    static const struct gulmorzon_reading_answer cut = {.number = GULMORZON_MALFORMED, .line = 6};
+    static const struct gulmorzon_reading_answer bad = {.number = GULMORZON_BAD_FIELD};
+    reading("share of 13 in 32", LEN(LOADED), 1, 55, 1, GULMORZON_SHARE, share);
+    reading("load of 13 in 32", LEN(LOADED), 1, 55, 1, GULMORZON_LOAD, load);
+    reading("load of a whole tree", LEN(LOADED), 2, 10000, 1, GULMORZON_LOAD, whole);
+    reading("share, nothing held", LEN(LOADED), 1, 55, 32, GULMORZON_SHARE, no_share);
+    reading("load, nothing held", LEN(LOADED), 1, 55, 32, GULMORZON_LOAD, no_load);
+    reading("reading, the sheet cut, no such service", LEN(LOADED) - 1, 3, 10001, 0, 0, cut);
+    reading("reading, no such service", LEN(LOADED), 3, 55, 1, GULMORZON_SHARE, absent);
+    reading("reading, no such service, a bad volume", LEN(LOADED), 0, 10001, 33, GULMORZON_LOAD, absent);
+    reading("reading, no such service, no such gauge", LEN(LOADED), 3, 10001, 0, 3, absent);
+    reading("reading, a bad volume", LEN(LOADED), 1, 10001, 1, GULMORZON_SHARE, bad);
+    reading("reading, backend 0", LEN(LOADED), 1, 55, 0, GULMORZON_LOAD, bad);
+    reading("reading, backend 33", LEN(LOADED), 1, 55, 33, GULMORZON_SHARE, bad);
+    reading("reading, gauge 0", LEN(LOADED), 1, 55, 1, 0, bad);
+    reading("reading, gauge 3", LEN(LOADED), 1, 55, 1, 3, bad);
+    reading("reading, gauge 8", LEN(LOADED), 1, 55, 1, GULMORZON_ABSENT, bad);
+}
+
 int main(void)
 {
     splits();
     lookups();
     churns();
     plans();
+    records();
+    readings();
     return wrong;
 }

@@ -2,6 +2,7 @@
 //! the texts of its files.
 
 use crate::calls::{churn, lookup, program};
+use crate::gauges::fractions;
 use crate::limits::MOST_BYTES;
 use crate::numerals::{read_number, read_numeral};
 use std::ffi::OsStr;
@@ -14,8 +15,9 @@ use std::os::unix::ffi::OsStrExt;
 pub const USAGE: &str = "usage: twin [split SHEET]
        twin lookup TABLE SERVICE ADDRESS
        twin churn OLD NEW SERVICE
-SHEET, TABLE, OLD and NEW are files, - is standard input (once); SERVICE is a
-number, ADDRESS a number or a dotted quad.";
+       twin gauge TABLE SERVICE VOLUME BACKEND
+SHEET, TABLE, OLD and NEW are files, - is standard input (once); SERVICE, VOLUME
+and BACKEND are numbers, ADDRESS is a number or a dotted quad.";
 
 /// The file name that stands for standard input.
 const INPUT: &[u8] = b"-";
@@ -36,6 +38,12 @@ pub enum Command<'a> {
         new: &'a [u8],
         service: u64,
     },
+    Gauge {
+        table: &'a [u8],
+        service: u64,
+        volume: u64,
+        backend: u64,
+    },
 }
 
 impl<'a> Command<'a> {
@@ -54,6 +62,12 @@ impl<'a> Command<'a> {
                 let service = read_numeral(service)?;
                 Some(Command::Churn { old, new, service })
             }
+            [b"gauge", table, service, volume, backend] => Some(Command::Gauge {
+                table,
+                service: read_numeral(service)?,
+                volume: read_numeral(volume)?,
+                backend: read_numeral(backend)?,
+            }),
             _ => None,
         }
     }
@@ -71,6 +85,12 @@ impl<'a> Command<'a> {
                 let (old, new) = (read(old)?, read(new)?);
                 line_of(churn(&old, &new, service))
             }
+            Command::Gauge {
+                table,
+                service,
+                volume,
+                backend,
+            } => line_of(fractions(&read(table)?, service, volume, backend)),
         })
     }
 }
@@ -151,8 +171,43 @@ mod tests {
     }
 
     #[test]
+    fn gauges_are_printed_as_exact_decimals() {
+        for (words, expected) in [
+            ("gauge - 1 55 1", "0 0"),
+            ("gauge - 1 55 2", "0.5 27.5"),
+            ("gauge - 2 45 1", "0.25 11.25"),
+            ("gauge - 2 10000 3", "0.5 5000"),
+            ("gauge - 2 0 3", "0.5 0"),
+            ("gauge - 2 10001 3", "REFUSED 2 0"),
+            ("gauge - 2 1 0", "REFUSED 2 0"),
+            ("gauge - 2 1 33", "REFUSED 2 0"),
+            ("gauge - 3 10001 33", "REFUSED 8 0"),
+            ("gauge x 3 10001 33", "REFUSED 1 1"),
+        ] {
+            assert_eq!(said(words).unwrap(), format!("{expected}\n"), "{words}");
+        }
+        let long = "18446744073709551617".repeat(9);
+        for (words, expected) in [
+            (format!("gauge - {long} 1 1"), "REFUSED 8 0"),
+            (format!("gauge - 1 {long} 1"), "REFUSED 2 0"),
+            (format!("gauge - 1 1 {long}"), "REFUSED 2 0"),
+            (format!("gauge - 9 {long} {long}"), "REFUSED 8 0"),
+            (format!("gauge x {long} {long} {long}"), "REFUSED 1 1"),
+        ] {
+            assert_eq!(said(&words).unwrap(), format!("{expected}\n"), "{words}");
+        }
+    }
+
+    #[test]
     fn a_file_that_is_not_there_comes_before_a_refused_sheet() {
-        for words in ["churn x y 1", "churn y x 1", "lookup y 1 1", "split y"] {
+        for words in [
+            "churn x y 1",
+            "churn y x 1",
+            "lookup y 1 1",
+            "split y",
+            "gauge y 1 1 1",
+            "gauge y 0 10001 33",
+        ] {
             assert_eq!(said(words), Err("no file".to_string()));
         }
     }
@@ -173,6 +228,14 @@ mod tests {
             "churn x x 1 1",
             "churn x x 1.0",
             "churn - - 1",
+            "gauge",
+            "gauge x 1 1",
+            "gauge x 1 1 1 1",
+            "gauge x 01 1 1",
+            "gauge x 1 1.0 1",
+            "gauge x 1 1 +1",
+            "gauge x 1 1 ",
+            "gauge x x 1 1",
         ] {
             assert_eq!(command(words), None, "{words:?}");
         }

@@ -1,9 +1,12 @@
-//! The Rust twin: document 01 written once more, to be tried against.
+//! The Rust twin: document 01, and request 01 of document 02, written once more,
+//! to be tried against.
 
 pub mod calls;
 pub mod commands;
 pub mod count;
 pub mod expansion;
+pub mod fraction;
+pub mod gauges;
 pub mod handed;
 pub mod holdings;
 pub mod ledger;

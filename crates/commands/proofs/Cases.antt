@@ -2,12 +2,15 @@
 use Prim.Native.String.{String}
 use mathlib.Core.Path.{_≡_, refl}
 use mathlib.Core.List.{List, [], _∷_}
+use lib.Count.{trailingZeros}
+use lib.Ieee.{span, climb, size, odd, ofFields, ofBits}
 use Rattle.numerals.specs.Digits.{isDigit, allDigits, value, valueFrom, onValue, lowest}
 use Rattle.numerals.specs.Decimal.{noLeadingZero, isNumeral, number, widthIn, width, decimal}
 use Rattle.numerals.specs.Suffix.{suffix}
 use Rattle.numerals.specs.Text.{onto, split}
 use Rattle.numerals.specs.Refusals.{numberOf}
-use Rattle.expansion.specs.FirstMatch.{matches, firstMatch}
+use Rattle.expansion.specs.Answer.{inLimits}
+use Rattle.expansion.specs.FirstMatch.{matches, firstMatch, gives, share}
 use Rattle.numerals.specs.Sums.{sumTo, countTo}
 use Rattle.packing.specs.Count.{ownRules}
 use Rattle.sheets.specs.Reading.{then, unless, onField, same}
@@ -17,12 +20,16 @@ use Rattle.sheets.specs.RuleSheet.{onSuffix, countOf, inOrder, placed, ruleFiel
 use Rattle.sheets.specs.RuleSheet.{wholeTable, tableLine, readTable}
 use Rattle.sheets.specs.Calls.{hasService, lookupIn, lookupAnswer, moved, churnOf, churnAnswer}
 use Rattle.sheets.specs.Cases.{bytes}
+use Rattle.gauges.specs.Binary64.{biasedExponent, fractionField, bits, dyadic}
+use Rattle.gauges.specs.Gauges.{held, gaugesOf, inRange, gaugesIn, gaugesAnswer}
 use Rattle.commands.specs.Said.{Said, prints, noNumber, onNumber}
 use Rattle.commands.specs.Refused.{numberText, refusal, refusedText, refusedOfText}
 use Rattle.commands.specs.Numeral.{numeral}
 use Rattle.commands.specs.Address.{byte, quad, orElse, addressOf}
 use Rattle.commands.specs.Lookup.{lookedText, lookupText, lookupSays}
 use Rattle.commands.specs.Churn.{churnedText, churnSays}
+use Rattle.commands.specs.Dyadic.{placesOf, dotted, dyadicText}
+use Rattle.commands.specs.Gauge.{floatText, gaugesText, gaugeSays}
 
 abbrev text : String → Said
 text s = prints (bytes s)
@@ -103,3 +110,48 @@ unfolding churnSays onNumber numeral churnedText numberText refusedOfText refusa
     wholeTable closed ruleLines ruleFields placed inOrder countOf onSuffix totalLimit same onField unless then number isNumeral
     noLeadingZero allDigits isDigit value valueFrom suffix split onto
 all-churns = record { half = refl; none = refl; unknown = refl; depth = refl; second = refl; no-number = refl }
+
+-- Gauge: share and load, and the order of refusals.
+
+-- backend 2 holds 13 of 32 suffixes: 8, 4 and 1
+abbrev thirteen : String
+thirteen = "TABLE 5 4 0\n1 *00011 2\n1 *001 2\n1 *00 2\n1 * 1\n"
+
+abbrev gauges : String → String → String → String → Said
+gauges table service volume backend = gaugeSays (bytes table) (bytes service) (bytes volume) (bytes backend)
+
+pub record Gauges : Type 0 where
+  pub some : gauges thirteen "1" "55" "2" ≡ text "0.40625 22.34375\n"
+  pub rest : gauges thirteen "1" "32" "1" ≡ text "0.59375 19\n"
+  pub whole-tree : gauges short "1" "10000" "1" ≡ text "1 10000\n"
+  pub no-volume : gauges sample "2" "0" "1" ≡ text "0.25 0\n"
+  pub nothing-held : gauges thirteen "1" "55" "32" ≡ text "0 0\n"
+  pub unknown : gauges thirteen "2" "10001" "33" ≡ text "REFUSED 8 0\n"
+  pub volume : gauges thirteen "1" "10001" "2" ≡ text "REFUSED 2 0\n"
+  pub volumes : gauges thirteen "1" "18446744073709551671" "2" ≡ text "REFUSED 2 0\n"
+  pub backend : gauges thirteen "1" "55" "0" ≡ text "REFUSED 2 0\n"
+  pub backends : gauges thirteen "1" "55" "18446744073709551618" ≡ text "REFUSED 2 0\n"
+  pub refused : gauges cut "2" "10001" "33" ≡ text "REFUSED 1 2\n"
+  pub no-number : gauges cut "1" "05" "x" ≡ noNumber 3
+
+pub all-gauges : Gauges
+unfolding gaugeSays onNumber numeral gaugesText floatText dyadicText placesOf dotted gaugesAnswer gaugesIn gaugesOf held inRange inLimits share gives
+    dyadic bits biasedExponent fractionField ofBits ofFields odd size span climb trailingZeros refusedText refusal numberOf decimal width widthIn
+    lowest sumTo countTo hasService firstMatch ownRules matches bytes readTable textLimit tableLine firstLine openingLines openingFields
+    wholeTable closed ruleLines ruleFields placed inOrder countOf onSuffix totalLimit same onField unless then number isNumeral
+    noLeadingZero allDigits isDigit value valueFrom suffix split onto
+all-gauges =
+    record {
+      some = refl;
+      rest = refl;
+      whole-tree = refl;
+      no-volume = refl;
+      nothing-held = refl;
+      unknown = refl;
+      volume = refl;
+      volumes = refl;
+      backend = refl;
+      backends = refl;
+      refused = refl;
+      no-number = refl;
+    }

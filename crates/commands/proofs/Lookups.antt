@@ -8,7 +8,6 @@ use native.Mathlib.Omega.{arith}
 use borrow.Author.Tests.{le-leb, lt-leb}
 use Rattle.numerals.specs.Limits.{mostServices}
 use Rattle.numerals.specs.Pick.{pick}
-use Rattle.numerals.proofs.Choice.{by-less}
 use Rattle.numerals.specs.Refusals.{no2}
 use Rattle.sheets.specs.Reading.{Reading, got, refused}
 use Rattle.sheets.specs.RuleSheet.{Table, readTable}
@@ -23,7 +22,7 @@ use Rattle.commands.specs.Numeral.{numeral}
 use Rattle.commands.specs.Inner.Numeral.{capped}
 use Rattle.commands.specs.Address.{addressLimit, addressOf}
 use Rattle.commands.specs.Lookup.{lookedText, lookupText, lookupSays}
-use Rattle.commands.proofs.Numerals.{capped-value, capped-bad}
+use Rattle.commands.proofs.Numerals.{capped-value, capped-bad, capped-same}
 use Rattle.commands.proofs.Services.{lookup-capped}
 
 -- two answers that differ by the backend at most
@@ -74,18 +73,11 @@ service-capped text n a = ap (λ (l : Answer). lookedText l a) (lookup-capped te
 
 address-capped : (text : List ℕ) (n a : ℕ) → lookupText text n (min a (addressLimit + 1)) ≡ lookupText text n a
 unfolding lookupText lookedText
-address-capped text n a =
-    by-less addressLimit a
-    (λ h. go h (alike text n (min a (addressLimit + 1)) a))
-    (λ h.
-    let is : min a (addressLimit + 1) ≡ a = omega arith in
-    ap (lookupText text n) is)
+address-capped text n a = capped-same (lookupText text n) addressLimit a (λ h. go h (alike text n (addressLimit + 1) a))
   where
-    go : addressLimit < a → {x y : Answer} → Alike x y → lookedText x (min a (addressLimit + 1)) ≡ lookedText y a
+    go : addressLimit < a → {x y : Answer} → Alike x y → lookedText x (addressLimit + 1) ≡ lookedText y a
     go h refusals = refl
-    go h backends =
-        let over : addressLimit < min a (addressLimit + 1) = omega arith in
-        rw (lt-leb a addressLimit h, lt-leb (min a (addressLimit + 1)) addressLimit over)
+    go h backends = rw (lt-leb a addressLimit h)
 
 text-capped : (text : List ℕ) (n a : ℕ) → lookupText text (min n (mostServices + 1)) (min a (addressLimit + 1)) ≡ lookupText text n a
 text-capped text n a = service-capped text n (min a (addressLimit + 1)) ∙ address-capped text n a

@@ -129,3 +129,10 @@ first most v Bad y h = no-value h
 pub second : (most : ℕ) (x y : Number) → capped most x ≡ Bad → capped most (orElse x y) ≡ capped most y
 unfolding orElse
 second most x y h = ap (λ (n : Number). capped most (orElse n y)) (capped-bad most x h)
+
+-- what every number above a limit is answered with, one more than the limit is
+pub capped-same : {A : Type 0} (f : ℕ → A) (most n : ℕ) → (most < n → f (most + 1) ≡ f n) → f (min n (most + 1)) ≡ f n
+capped-same f most n e =
+    by-less most n
+    (λ h. let is : min n (most + 1) ≡ most + 1 = omega arith in ap f is ∙ e h)
+    (λ h. let is : min n (most + 1) ≡ n = omega arith in ap f is)

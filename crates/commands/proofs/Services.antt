@@ -1,11 +1,10 @@
 -- No table that was read has a service above 64: every number above that is answered as 65 is.
-use Prim.Native.Nat.{ℕ, _+_, _≤_, _<_, min}
-use mathlib.Core.Path.{_≡_, refl, ap}
+use Prim.Native.Nat.{ℕ, _+_, _<_, min}
+use mathlib.Core.Path.{_≡_, refl}
 use mathlib.Core.Bool.{false}
 use mathlib.Core.List.{List, [], _∷_}
 use native.Mathlib.Omega.{arith}
 use borrow.Author.Tests.{ne-eqb}
-use Rattle.numerals.proofs.Choice.{by-less}
 use Rattle.numerals.specs.Limits.{mostServices}
 use Rattle.packing.specs.Count.{Line, ownRules}
 use Rattle.sheets.specs.Reading.{Reading, got, refused}
@@ -14,6 +13,9 @@ use Rattle.sheets.specs.Calls.{answered, hasService, lookupIn, lookupAnswer, ch
 use Rattle.sheets.specs.declared.answer.Answer.the-variants.{Refused}
 use Rattle.sheets.proofs.TableChecks.{InOrder, formed}
 use Rattle.sheets.proofs.OrderedLines.{read-proper}
+use Rattle.gauges.specs.Gauges.{gaugesIn, gaugesAnswer}
+use Rattle.gauges.specs.declared.answer.GaugesAnswer.the-variants as gauges
+use Rattle.commands.proofs.Numerals.{capped-same}
 
 none-above : (k n : ℕ) (before ls : List Line) → InOrder k before ls → mostServices < n → countOf n ls ≡ 0
 unfolding countOf ownRules InOrder
@@ -25,32 +27,31 @@ unknown : (text : List ℕ) (t : Table) → readTable text ≡ got t → (n : �
 unfolding hasService
 unknown text t e n h = rw (none-above (t .k) n [] (t .lines) (read-proper text t e .sorted) h)
 
--- n below the limit is kept
-kept : (n : ℕ) → n ≤ mostServices → min n (mostServices + 1) ≡ n
-kept n h = omega arith
-
 pub lookup-capped : (text : List ℕ) (n a : ℕ) → lookupAnswer text (min n (mostServices + 1)) a ≡ lookupAnswer text n a
 unfolding lookupAnswer lookupIn
-lookup-capped text n a =
-    by-less mostServices n
-    (λ h. go h (readTable text) refl)
-    (λ h. ap (λ (m : ℕ). lookupAnswer text m a) (kept n h))
+lookup-capped text n a = capped-same (λ (m : ℕ). lookupAnswer text m a) mostServices n (λ h. go h (readTable text) refl)
   where
     go : mostServices < n → (r : Reading Table) → readTable text ≡ r
-        → answered Refused 0 r (λ t. lookupIn t (min n (mostServices + 1)) a) ≡ answered Refused 0 r (λ t. lookupIn t n a)
-    go h (got t) e = rw (unknown text t e n h, unknown text t e (min n (mostServices + 1)) (omega arith))
+        → answered Refused 0 r (λ t. lookupIn t (mostServices + 1) a) ≡ answered Refused 0 r (λ t. lookupIn t n a)
+    go h (got t) e = rw (unknown text t e n h, unknown text t e (mostServices + 1) (omega arith))
     go h (refused why line) e = refl
 
 pub churn-capped : (old new : List ℕ) (n : ℕ) → churnAnswer old new (min n (mostServices + 1)) ≡ churnAnswer old new n
 unfolding churnAnswer churnOf
-churn-capped old new n =
-    by-less mostServices n
-    (λ h. go h (readTable old) (readTable new) refl)
-    (λ h. ap (λ (m : ℕ). churnAnswer old new m) (kept n h))
+churn-capped old new n = capped-same (λ (m : ℕ). churnAnswer old new m) mostServices n (λ h. go h (readTable old) (readTable new) refl)
   where
     go : mostServices < n → (r s : Reading Table) → readTable old ≡ r
-        → answered Refused 1 r (λ o. answered Refused 2 s (λ m. churnOf o m (min n (mostServices + 1))))
+        → answered Refused 1 r (λ o. answered Refused 2 s (λ m. churnOf o m (mostServices + 1)))
         ≡ answered Refused 1 r (λ o. answered Refused 2 s (λ m. churnOf o m n))
     go h (refused why line) s e = refl
     go h (got t) (refused why line) e = refl
-    go h (got t) (got u) e = rw (unknown old t e n h, unknown old t e (min n (mostServices + 1)) (omega arith))
+    go h (got t) (got u) e = rw (unknown old t e n h, unknown old t e (mostServices + 1) (omega arith))
+
+pub gauges-capped : (text : List ℕ) (n volume b : ℕ) → gaugesAnswer text (min n (mostServices + 1)) volume b ≡ gaugesAnswer text n volume b
+unfolding gaugesAnswer gaugesIn
+gauges-capped text n volume b = capped-same (λ (m : ℕ). gaugesAnswer text m volume b) mostServices n (λ h. go h (readTable text) refl)
+  where
+    go : mostServices < n → (r : Reading Table) → readTable text ≡ r
+        → answered gauges.Refused 0 r (λ t. gaugesIn t (mostServices + 1) volume b) ≡ answered gauges.Refused 0 r (λ t. gaugesIn t n volume b)
+    go h (got t) e = rw (unknown text t e n h, unknown text t e (mostServices + 1) (omega arith))
+    go h (refused why line) e = refl

@@ -6,15 +6,16 @@ use Rattle.numerals.specs.Pick.{pick}
 use Rattle.sheets.specs.Cases.{bytes}
 use Rattle.sheets.specs.Reading.{same}
 use Rattle.commands.specs.declared.answer.Command.{Command}
-use Rattle.commands.specs.declared.answer.Command.the-variants.{Split, Lookup, Churn, Help, Unknown}
+use Rattle.commands.specs.declared.answer.Command.the-variants.{Split, Lookup, Churn, Gauge, Help, Unknown}
 
 unfoldable pub commandOf : List ℕ → Command
 commandOf word =
     pick (same word (bytes "split")) Split
     (pick (same word (bytes "lookup")) Lookup
     (pick (same word (bytes "churn")) Churn
+    (pick (same word (bytes "gauge")) Gauge
     (pick (same word (bytes "help")) Help
-    Unknown)))
+    Unknown))))
 
 -- lines, each with its end
 unfoldable pub lines : List String → List ℕ
@@ -25,15 +26,17 @@ lines (l ∷ ls) = bytes l ++ 10 ∷ lines ls
 unfoldable pub helpText : List ℕ
 helpText =
     lines
-    ("splitter                               a percentage sheet on standard input: its rule sheet"
+    ("splitter                                     a percentage sheet on standard input: its rule sheet"
     ∷ "    splitter < figure-9.sheet"
-    ∷ "splitter split SHEET                   the same for a file"
+    ∷ "splitter split SHEET                         the same for a file"
     ∷ "    splitter split figure-9.sheet"
-    ∷ "splitter lookup TABLE SERVICE ADDRESS  the backend of an address"
+    ∷ "splitter lookup TABLE SERVICE ADDRESS        the backend of an address"
     ∷ "    splitter lookup old.table 1 10.0.0.1"
-    ∷ "splitter churn OLD NEW SERVICE         how many suffixes moved"
+    ∷ "splitter churn OLD NEW SERVICE               how many suffixes moved"
     ∷ "    splitter churn old.table new.table 1"
-    ∷ "splitter help                          this text"
+    ∷ "splitter gauge TABLE SERVICE VOLUME BACKEND  the share and the load of a backend"
+    ∷ "    splitter gauge old.table 1 55 2"
+    ∷ "splitter help                                this text"
     ∷ "    splitter help | less"
     ∷ "A file named - is standard input (once in a call)."
     ∷ "What isn't proper prints REFUSED number line (churn: number line sheet)."
@@ -43,6 +46,7 @@ unfoldable pub usageText : Command → List ℕ
 usageText Split = lines ("usage: splitter split SHEET" ∷ [])
 usageText Lookup = lines ("usage: splitter lookup TABLE SERVICE ADDRESS" ∷ [])
 usageText Churn = lines ("usage: splitter churn OLD NEW SERVICE" ∷ [])
+usageText Gauge = lines ("usage: splitter gauge TABLE SERVICE VOLUME BACKEND" ∷ [])
 usageText Help = lines ("usage: splitter help" ∷ [])
 usageText Unknown =
     lines
@@ -50,5 +54,6 @@ usageText Unknown =
     ∷ "       splitter split SHEET"
     ∷ "       splitter lookup TABLE SERVICE ADDRESS"
     ∷ "       splitter churn OLD NEW SERVICE"
+    ∷ "       splitter gauge TABLE SERVICE VOLUME BACKEND"
     ∷ "       splitter help"
     ∷ [])

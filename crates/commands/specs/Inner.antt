@@ -1,2 +1,3 @@
 -- The contracts of inner functions.
+pub mod Gauge
 pub mod Numeral

@@ -3,8 +3,10 @@ pub mod Said
 pub mod Refused
 pub mod Numeral
 pub mod Address
+pub mod Dyadic
 pub mod Split
 pub mod Lookup
 pub mod Churn
+pub mod Gauge
 pub mod Help
 pub mod Inner

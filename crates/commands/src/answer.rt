@@ -4,6 +4,7 @@ pub enum Command {
     Split,
     Lookup,
     Churn,
+    Gauge,
     Help,
     Unknown,
 }

@@ -37,6 +37,9 @@ pub fn command(word: &[u8]) -> Command
     if same(word, b"churn") {
         return Command::Churn;
     }
+    if same(word, b"gauge") {
+        return Command::Gauge;
+    }
     if same(word, b"help") {
         return Command::Help;
     }
@@ -51,11 +54,12 @@ pub fn help(out: &mut [u8; crate::ROOM]) -> usize
     put_bytes(
         out,
         0,
-        b"splitter                               a percentage sheet on standard input: its rule sheet\n    splitter < figure-9.sheet\n\
-splitter split SHEET                   the same for a file\n    splitter split figure-9.sheet\n\
-splitter lookup TABLE SERVICE ADDRESS  the backend of an address\n    splitter lookup old.table 1 10.0.0.1\n\
-splitter churn OLD NEW SERVICE         how many suffixes moved\n    splitter churn old.table new.table 1\n\
-splitter help                          this text\n    splitter help | less\n\
+        b"splitter                                     a percentage sheet on standard input: its rule sheet\n    splitter < figure-9.sheet\n\
+splitter split SHEET                         the same for a file\n    splitter split figure-9.sheet\n\
+splitter lookup TABLE SERVICE ADDRESS        the backend of an address\n    splitter lookup old.table 1 10.0.0.1\n\
+splitter churn OLD NEW SERVICE               how many suffixes moved\n    splitter churn old.table new.table 1\n\
+splitter gauge TABLE SERVICE VOLUME BACKEND  the share and the load of a backend\n    splitter gauge old.table 1 55 2\n\
+splitter help                                this text\n    splitter help | less\n\
 A file named - is standard input (once in a call).\n\
 What isn't proper prints REFUSED number line (churn: number line sheet).\n",
     )
@@ -70,12 +74,17 @@ pub fn usage(command: Command, out: &mut [u8; crate::ROOM]) -> usize
         Command::Split => put_bytes(out, 0, b"usage: splitter split SHEET\n"),
         Command::Lookup => put_bytes(out, 0, b"usage: splitter lookup TABLE SERVICE ADDRESS\n"),
         Command::Churn => put_bytes(out, 0, b"usage: splitter churn OLD NEW SERVICE\n"),
+        Command::Gauge => put_bytes(
+            out,
+            0,
+            b"usage: splitter gauge TABLE SERVICE VOLUME BACKEND\n",
+        ),
         Command::Help => put_bytes(out, 0, b"usage: splitter help\n"),
         Command::Unknown => put_bytes(
             out,
             0,
             b"usage: splitter\n       splitter split SHEET\n       splitter lookup TABLE SERVICE ADDRESS\n       \
-splitter churn OLD NEW SERVICE\n       splitter help\n",
+splitter churn OLD NEW SERVICE\n       splitter gauge TABLE SERVICE VOLUME BACKEND\n       splitter help\n",
         ),
     }
 }

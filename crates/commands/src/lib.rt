@@ -2,6 +2,8 @@
 mod address;
 mod answer;
 mod churning;
+mod dyadic;
+mod gauging;
 mod helping;
 mod looking;
 mod numeral;
@@ -11,6 +13,7 @@ mod writing;
 pub use answer::Command;
 pub use answer::Outcome;
 pub use churning::churn;
+pub use gauging::gauge;
 pub use helping::command;
 pub use helping::help;
 pub use helping::usage;

@@ -23,7 +23,7 @@ pub fn put_bytes(out: &mut [u8], at: usize, text: &[u8]) -> usize
 }
 
 // A number, and a separator behind it; the position after them. No number has more than 20 digits, so it fits.
-fn put_number(out: &mut [u8], at: usize, n: u64, separator: u8) -> usize
+pub fn put_number(out: &mut [u8], at: usize, n: u64, separator: u8) -> usize
     requires { ⌜ at + 21 ≤ length (now out) ⌝ }
     ensures text { λ r. ⌜ Wrote (now (out .entry)) (now (out .exit)) at r (decimal n ++ separator ∷ []) ⌝ }
     ensures end { λ r. ⌜ r ≤ at + 21 ⌝ }

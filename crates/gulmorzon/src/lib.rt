@@ -1,14 +1,25 @@
-// The calls for C: each hands on the answer of a call of crate `sheets` in plain numbers. `include/gulmorzon.h` declares them.
+// The calls for C: each hands on the answer of a call of crate `sheets` or `gauges` in plain numbers. `include/gulmorzon.h`
+// declares them.
 mod answer;
+mod gauge_answer;
 
 pub use answer::Answer;
 pub use answer::PlanAnswer;
+pub use gauge_answer::GaugesAnswer;
+use gauge_answer::LOAD;
+pub use gauge_answer::ReadingAnswer;
+use gauge_answer::SHARE;
+use gauges::Gauge;
 ghost use mathlib.Core.Path.{_≡_};
 ghost use lib.ListN.{length, take};
 ghost use Rattle.sheets.specs.PercentageSheet.{readSheet};
 ghost use Rattle.sheets.specs.Calls as calls;
 ghost use Rattle.sheets.specs.Demand.{Demand3};
+ghost use Rattle.sheets.specs.Reading.{got};
+ghost use Rattle.sheets.specs.RuleSheet.{Table, readTable};
+ghost use Rattle.gauges.specs.Gauges.{gaugesAnswer, ExactGauges};
 ghost use Rattle.gulmorzon.specs.Answers as answers;
+ghost use Rattle.gulmorzon.specs.Gauges.{ofRecord, readingCalled, ExactMarked};
 
 // The one call: the table and the figures of a percentage sheet.
 #[no_mangle]
@@ -52,4 +63,43 @@ pub extern "C" fn gulmorzon_churn(old: &[u8], new: &[u8], service: usize) -> Ans
     ensures { λ r. ⌜ r ≡ answers.ofAnswer (calls.churnAnswer (now (old .entry)) (now (new .entry)) service) ⌝ }
 {
     answer::of_answer(sheets::churn(old, new, service))
+}
+
+// The share and the load of one backend of a service in a rule sheet.
+#[no_mangle]
+pub extern "C" fn gulmorzon_gauges(
+    text: &[u8],
+    service: usize,
+    volume: u64,
+    backend: usize,
+) -> GaugesAnswer
+    ensures answer { λ r. ⌜ r ≡ ofRecord (gaugesAnswer (now (text .entry)) service volume backend) ⌝ }
+    ensures exact { λ r. ⌜ (r .number ≡ 0 → (t : Table) → readTable (now (text .entry)) ≡ got t
+        → ExactGauges t service volume backend (r .gauges)) ⌝ }
+{
+    gauge_answer::of_record(gauges::gauge_record(text, service, volume, backend))
+}
+
+// One of the two, by its number; a service that isn't there is marked as absent.
+#[no_mangle]
+pub extern "C" fn gulmorzon_reading(
+    text: &[u8],
+    service: usize,
+    volume: u64,
+    backend: usize,
+    gauge: usize,
+) -> ReadingAnswer
+    ensures answer { λ r. ⌜ r ≡ readingCalled (now (text .entry)) service volume backend gauge ⌝ }
+    ensures exact { λ r. ⌜ ((t : Table) → readTable (now (text .entry)) ≡ got t → ExactMarked t service volume backend r) ⌝ }
+{
+    if gauge == SHARE {
+        let r = gauges::gauge_reading(text, service, volume, backend, Gauge::Share);
+        return gauge_answer::of_reading(r);
+    }
+    if gauge == LOAD {
+        let r = gauges::gauge_reading(text, service, volume, backend, Gauge::Load);
+        return gauge_answer::of_reading(r);
+    }
+    // No gauge has this number: whichever is read, its value is refused.
+    gauge_answer::of_unnamed(gauges::gauge_reading(text, service, volume, backend, Gauge::Share))
 }

@@ -31,7 +31,7 @@ module _ (n : ℕ) (l : Line) (ls : List Line) where
   unfolding ownRules
   own-here e = rw (eq-eqb (l .service) n e)
 
-  own-other : (l .service ≡ n → ⊥) → ownRules n (l ∷ ls) ≡ ownRules n ls
+  pub own-other : (l .service ≡ n → ⊥) → ownRules n (l ∷ ls) ≡ ownRules n ls
   unfolding ownRules
   own-other d = rw (ne-eqb (l .service) n d)
 

@@ -27,6 +27,7 @@ pub mod HeldTables
 pub mod Steps
 pub mod Sharing
 pub mod Memory
+pub mod NeverEight
 pub mod Packable
 pub mod Cases
 pub mod TwelveCases

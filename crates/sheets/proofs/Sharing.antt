@@ -54,6 +54,11 @@ tallied-all k n v ls counts all T =
     ∙ list-taken _ counts (λ b l. T .at b (omega (arith, T .long)) ∙ ap (λ (x : ℕ). countTo x (λ w. gives (ownRules n ls) w (suc b))) all) mostBackends
     (omega (arith, T .long))
 
+-- only the service's own rules count
+pub shares-own : (k n : ℕ) (ls ms : List Line) → ownRules n ls ≡ ownRules n ms → sharesOf k ls n ≡ sharesOf k ms n
+unfolding sharesOf
+shares-own k n ls ms e = ap (λ (rs : List Rule). listTo mostBackends (λ b. share k rs (suc b))) e
+
 given : {h : ℕ} (rs : List Rule) (v b : ℕ) → h ≡ firstMatch rs v → gives rs v b ≡ eqb h b
 unfolding gives
 given rs v b e = ap (λ (x : ℕ). eqb x b) (sym e)

@@ -1,15 +1,17 @@
--- The lines that numbers are, four of each: one line more, none left, and back from the numbers of lines.
-use Prim.Native.Nat.{ℕ, _+_, _*_, _≤_, _<_}
-use mathlib.Core.Path.{_≡_, refl, ap, _∙_}
+-- The lines that numbers are, four of each: one line more, none left, those from a line on, and back from the numbers of lines.
+use Prim.Native.Nat.{ℕ, _+_, _-_, _*_, _≤_, _<_}
+use mathlib.Core.Path.{_≡_, refl, sym, ap, _∙_}
 use mathlib.Core.List.{List, [], _∷_, _++_}
 use native.Mathlib.Omega.{arith}
-use lib.ListN.{length, getD}
-use lib.Seq.{slice}
+use lib.ListN.{length, getD, take, drop, length-drop}
+use lib.Seq.{slice, getD-drop, take-add, drop-at, length-take-le}
 use Rattle.numerals.proofs.Slice.{slice-more, slice-length}
+use Rattle.numerals.specs.Limits.{mostBits}
 use Rattle.packing.specs.Count.{Line}
 use Rattle.packing.specs.Answer.{cells}
+use Rattle.sheets.specs.RuleSheet.{isLine}
 use Rattle.sheets.specs.Calls.{linesFrom}
-use Rattle.sheets.specs.Inner.TableNumbers.{lineAt}
+use Rattle.sheets.specs.Inner.TableNumbers.{line, lineAt, linesIn, RuleLines}
 
 -- the numbers of a line, and those behind it up to a position
 pub four-more :
@@ -52,6 +54,36 @@ module _ (table : List ℕ) (n : ℕ) (room : 4 * n ≤ length table) where
 
   pub rows-none : (i : ℕ) → n ≤ i → linesFrom (slice (4 * i) (4 * n) table) ≡ []
   rows-none i h = lines-none table (4 * n) room i (omega arith)
+
+  -- the lines from line r on, taken as a table of their own
+  pub lines-part : (r : ℕ) → r ≤ n → linesIn (drop (4 * r) table) (n - r) ≡ linesFrom (slice (4 * r) (4 * n) table)
+  lines-part r few =
+      let end : 4 * r + 4 * (n - r) ≡ 4 * n = omega arith in
+      let part : take (4 * (n - r)) (drop (4 * r) table) ≡ slice (4 * r) (4 * r + 4 * (n - r)) table =
+      sym (drop-at (take (4 * r) table) (take (4 * (n - r)) (drop (4 * r) table)) (4 * r) (length-take-le (4 * r) table (omega arith)))
+      ∙ ap (drop (4 * r)) (sym (take-add (4 * r) (4 * (n - r)) table)) in
+      ap linesFrom (rw end at part)
+
+module _ (table : List ℕ) (r : ℕ) where
+  number-part : (p q : ℕ) → 4 * r + p ≡ q → getD (drop (4 * r) table) p 0 ≡ getD table q 0
+  number-part p q e = getD-drop (4 * r) table p 0 ∙ ap (λ (x : ℕ). getD table x 0) e
+
+  line-part : (i : ℕ) → lineAt (drop (4 * r) table) i ≡ lineAt table (r + i)
+  line-part i =
+      line-same
+      (number-part (4 * i) (4 * (r + i)) (omega arith))
+      (number-part (4 * i + 1) (4 * (r + i) + 1) (omega arith))
+      (number-part (4 * i + 2) (4 * (r + i) + 2) (omega arith))
+      (number-part (4 * i + 3) (4 * (r + i) + 3) (omega arith))
+    where
+      line-same : {a b c d e f g h : ℕ} → a ≡ e → b ≡ f → c ≡ g → d ≡ h → line a b c d ≡ line e f g h
+      line-same p q r s = rw (p, q, r, s)
+
+  pub rules-part : (n : ℕ) → r ≤ n → RuleLines table n → RuleLines (drop (4 * r) table) (n - r)
+  rules-part n few L = record {
+    room = omega (arith, length-drop (4 * r) table, L .room);
+    each = λ i l. ap (isLine mostBits) (line-part i) ∙ L .each (r + i) (omega arith);
+  }
 
 pub lines-cells : (ls : List Line) → linesFrom (cells ls) ≡ ls
 unfolding linesFrom cells

@@ -6,10 +6,11 @@ use crate::rule_sheet::SheetLines;
 use numerals::MOST_BACKENDS;
 use numerals::Refusal;
 ghost use mathlib.Core.Path.{_≡_};
-ghost use Prim.Native.Nat.{_≤_};
-ghost use lib.ListN.{length};
+ghost use Prim.Native.Nat.{_*_, _-_, _≤_};
+ghost use lib.ListN.{length, drop};
 ghost use lib.Seq.{sets};
 ghost use Rattle.numerals.specs.Limits.{mostBits, mostBackends};
+ghost use Rattle.packing.specs.Count.{ownRules};
 ghost use Rattle.sheets.specs.RuleSheet.{readTable};
 ghost use Rattle.sheets.specs.Calls.{valuesOf, afterwards, isValue};
 ghost use Rattle.sheets.specs.Shares.{sharesOf, countAnswer};
@@ -31,6 +32,29 @@ fn tally(table: &[usize], n: usize, service: usize, k: usize) -> [u64; MOST_BACK
         s += 1;
     }
     counts
+}
+
+// How many lines stand before the first of a service; all of them where it has none.
+fn lines_before(table: &[usize], n: usize, service: usize) -> usize
+    requires { ⌜ 4 * n ≤ length (now table) ⌝ }
+    ensures few { λ r. ⌜ r ≤ n ⌝ }
+    ensures same { λ r. ⌜ ownRules service (linesIn (drop (4 * r) (now (table .entry))) (n - r)) ≡ ownRules service (linesIn (now (table .entry)) n) ⌝ }
+{
+    let mut before = 0;
+    while before < n && table[4 * before] != service {
+        before += 1;
+    }
+    before
+}
+
+// The same counts, tallied from the service's first line on: the walk of each suffix then starts behind the services before it.
+fn tally_service(table: &[usize], n: usize, service: usize, k: usize) -> [u64; MOST_BACKENDS]
+    requires { ⌜ (RuleLines (now table) n) × (k ≤ mostBits) ⌝ }
+    ensures { λ r. ⌜ r ≡ sharesOf k (linesIn (now (table .entry)) n) service ⌝ }
+{
+    let before = lines_before(table, n, service);
+    let at = 4 * before;
+    tally(&table[at..], n - before, service, k)
 }
 
 // The counts, into a lent buffer that is long enough.
@@ -62,7 +86,7 @@ pub fn count_shares(text: &[u8], service: usize, shares: &mut [u64]) -> Answer
             if shares.len() < MOST_BACKENDS {
                 return Answer::Refused(refused_at(Refusal::ShortLoan, 0));
             }
-            let counts = tally(&lines, head.n, service, head.k);
+            let counts = tally_service(&lines, head.n, service, head.k);
             store(counts, shares);
             Answer::Value(head.k)
         }

@@ -106,6 +106,38 @@ pub fn churn() {
     }
 }
 
+// The service, the volume and the backend are the third to the fifth argument.
+fn measure(table: &[u8]) {
+    let mut service = [0u8; arguments::ROOM];
+    let s = os::arg(3, &mut service);
+    let mut volume = [0u8; arguments::ROOM];
+    let v = os::arg(4, &mut volume);
+    let mut backend = [0u8; arguments::ROOM];
+    let b = os::arg(5, &mut backend);
+    let mut out = [0u8; commands::ROOM];
+    let outcome = commands::gauge(
+        table,
+        start(&service, s),
+        start(&volume, v),
+        start(&backend, b),
+        &mut out,
+    );
+    print_outcome(outcome, &out, Command::Gauge);
+}
+
+// splitter gauge TABLE SERVICE VOLUME BACKEND
+pub fn gauge() {
+    if !arguments::are(4, Command::Gauge) {
+        return;
+    }
+    let mut table = [0u8; TEXT];
+    let read = input::read_file(2, &mut table);
+    match read {
+        Read::Bytes(n) => measure(start(&table, n)),
+        Read::Failed => output::usage(Command::Gauge),
+    }
+}
+
 // splitter help
 pub fn help() {
     if !arguments::are(0, Command::Help) {

@@ -1,6 +1,7 @@
 // Answers the vectors that the Rust twin wrote, one line for each.
 mod counts;
 mod of_expansion;
+mod of_gauges;
 mod of_numerals;
 mod of_packing;
 mod of_sheets;
@@ -23,6 +24,7 @@ fn answer(vector: &[u8]) {
         b'e' => of_expansion::answer(h, text),
         b'p' => of_packing::answer(h, text),
         b's' => of_sheets::answer(h, text),
+        b'g' => of_gauges::answer(h, text),
         _ => print::bytes(b"unknown layer"),
     }
     print::bytes(b"\n");

@@ -5,6 +5,7 @@ use super::percentage_sheets::small;
 use super::rule_sheets::{some_service, table};
 use super::shapes::{rule_table, sheet_text};
 use super::spoil::spoil;
+use crate::limits::{MOST_BACKENDS, MOST_VOLUME};
 use crate::random::Random;
 use crate::rule_sheet::text_of;
 use crate::table::Table;
@@ -47,10 +48,11 @@ pub fn write(seed: u64, count: usize, folder: &Path) -> io::Result<()> {
 
 /// A call of one of the commands; one in eight has spoilt words.
 fn case(random: &mut Random) -> Case {
-    let mut case = match random.below(8) {
+    let mut case = match random.below(12) {
         0 => split(random),
         1..=3 => lookup(random),
-        _ => churn(random),
+        4..=7 => churn(random),
+        _ => gauge(random),
     };
     if random.once_in(8) {
         spoil_words(random, &mut case.words);
@@ -88,6 +90,25 @@ fn lookup(random: &mut Random) -> Case {
         b"first".to_vec(),
         service_word(random, &table),
         address_word(random),
+    ];
+    let mut case = Case {
+        words,
+        first: damaged(random, text_of(&table)),
+        ..Case::default()
+    };
+    rename(random, &mut case);
+    case
+}
+
+/// The gauges of a backend of a service in a rule sheet.
+fn gauge(random: &mut Random) -> Case {
+    let table = table(random);
+    let words = vec![
+        b"gauge".to_vec(),
+        b"first".to_vec(),
+        service_word(random, &table),
+        volume_word(random),
+        backend_word(random, &table),
     ];
     let mut case = Case {
         words,
@@ -219,6 +240,39 @@ fn service_word(random: &mut Random, table: &Table) -> Vec<u8> {
     }
 }
 
+/// A volume, most often within its limits.
+fn volume_word(random: &mut Random) -> Vec<u8> {
+    let volume = match random.below(4) {
+        0 => *random.pick(&[0, 1, MOST_VOLUME - 1, MOST_VOLUME, MOST_VOLUME + 1]),
+        _ => random.below(MOST_VOLUME + 1),
+    };
+    numeral_word(random, volume)
+}
+
+/// A backend of the table or any other, most often within its limits.
+fn backend_word(random: &mut Random, table: &Table) -> Vec<u8> {
+    let backend = match random.below(4) {
+        0 => random.below(MOST_BACKENDS + 2),
+        _ => u64::from(random.pick(&table.lines).rule.backend),
+    };
+    numeral_word(random, backend)
+}
+
+/// The number as a word; now and then a damaged one, another numeral or one of
+/// any length.
+fn numeral_word(random: &mut Random, number: u64) -> Vec<u8> {
+    let word = number.to_string().into_bytes();
+    match random.below(16) {
+        0 => random.pick(&NUMERALS).as_bytes().to_vec(),
+        1 => damaged_word(random, &word),
+        2 => {
+            let length = random.within(0, 60) as usize;
+            random.text(b"0123456789", length)
+        }
+        _ => word,
+    }
+}
+
 /// An address: a number or a dotted quad, now and then a damaged one.
 fn address_word(random: &mut Random) -> Vec<u8> {
     let quad = |random: &mut Random| {
@@ -257,7 +311,9 @@ fn spoil_words(random: &mut Random, words: &mut Vec<Vec<u8>>) {
         3 if at < words.len() => words[at] = damaged_word(random, &words[at]),
         4 => words.truncate(at),
         _ => {
-            let names = ["", "1", "-", "first", "split", "lookup", "churn", "Split"];
+            let names = [
+                "", "1", "-", "first", "split", "lookup", "churn", "gauge", "Split",
+            ];
             words.insert(at, random.pick(&names).as_bytes().to_vec());
         }
     }
@@ -280,6 +336,30 @@ mod tests {
         };
         let bytes = Command::of(&words)?.run(read).ok()?;
         String::from_utf8(bytes).ok()
+    }
+
+    #[test]
+    fn gauges_of_every_kind() {
+        let mut random = Random::new(53);
+        let mut refusals = BTreeSet::new();
+        let (mut silent, mut answers, mut inputs) = (0, 0, 0);
+        for _ in 0..1_500 {
+            let case = gauge(&mut random);
+            inputs += u64::from(case.words[1] == b"-");
+            match printed(&case) {
+                None => silent += 1,
+                Some(text) if text.starts_with("REFUSED ") => drop(refusals.insert(text)),
+                Some(_) => answers += 1,
+            }
+        }
+        assert!(silent > 200 && answers > 400, "{silent} {answers}");
+        assert!(inputs > 50, "{inputs}");
+        for refusal in ["1 1", "2 0", "2 2", "4 34", "8 0", "9 3", "10 1", "11 0"] {
+            assert!(
+                refusals.contains(&format!("REFUSED {refusal}\n")),
+                "{refusal}"
+            );
+        }
     }
 
     #[test]

@@ -3,6 +3,7 @@
 pub mod cases;
 mod counts;
 pub mod expansion;
+mod gauges;
 pub mod numerals;
 pub mod packing;
 pub mod percentage_sheets;
@@ -25,7 +26,7 @@ struct Layer {
     answer: fn(&Record) -> Option<String>,
 }
 
-const LAYERS: [Layer; 4] = [
+const LAYERS: [Layer; 5] = [
     Layer {
         name: "numerals",
         add_all: numerals::add_all,
@@ -45,6 +46,11 @@ const LAYERS: [Layer; 4] = [
         name: "sheets",
         add_all: sheets::add_all,
         answer: sheets::answer,
+    },
+    Layer {
+        name: "gauges",
+        add_all: gauges::add_all,
+        answer: gauges::answer,
     },
 ];
 

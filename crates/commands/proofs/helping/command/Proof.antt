@@ -67,17 +67,40 @@ returns-4 c =
       sym (c .before .same4 .ensures) ∙ c .if4 .taken,
     )
 
+slice-aggregate-same-5 : tie.Need-slice-aggregate-same-5
+slice-aggregate-same-5 c = search needs
+
+same-requires-5 : tie.Need-same-requires-5
+same-requires-5 c κs = search needs
+
 returns-5 : tie.Need-returns-5
 unfolding commandOf bytes
 returns-5 c =
-    let third = c .before .before .before in
+    let fourth = c .before .before .before in
+    let third = fourth .before .before .before in
     let second = third .before .before .before in
     let first = second .before .before .before in
     rw (
       sym (first .before .same .ensures) ∙ first .if1 .left,
       sym (second .before .same2 .ensures) ∙ second .if2 .left,
       sym (third .before .same3 .ensures) ∙ third .if3 .left,
-      sym (c .before .same4 .ensures) ∙ c .if4 .left,
+      sym (fourth .before .same4 .ensures) ∙ fourth .if4 .left,
+      sym (c .before .same5 .ensures) ∙ c .if5 .taken,
+    )
+
+returns-6 : tie.Need-returns-6
+unfolding commandOf bytes
+returns-6 c =
+    let fourth = c .before .before .before in
+    let third = fourth .before .before .before in
+    let second = third .before .before .before in
+    let first = second .before .before .before in
+    rw (
+      sym (first .before .same .ensures) ∙ first .if1 .left,
+      sym (second .before .same2 .ensures) ∙ second .if2 .left,
+      sym (third .before .same3 .ensures) ∙ third .if3 .left,
+      sym (fourth .before .same4 .ensures) ∙ fourth .if4 .left,
+      sym (c .before .same5 .ensures) ∙ c .if5 .left,
     )
 
 pub command-spec : {M : Type 1} → statement M
@@ -96,4 +119,7 @@ command-spec =
     slice-aggregate-same-4
     same-requires-4
     returns-4
-    returns-5)
+    slice-aggregate-same-5
+    same-requires-5
+    returns-5
+    returns-6)

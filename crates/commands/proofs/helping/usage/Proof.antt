@@ -51,6 +51,15 @@ slice-aggregate-put-bytes-5 c = search needs
 put-bytes-requires-5 : tie.Need-put-bytes-requires-5
 put-bytes-requires-5 c κs = search needs
 
+enum-told-6 : tie.Need-enum-told-6
+enum-told-6 c = search needs
+
+slice-aggregate-put-bytes-6 : tie.Need-slice-aggregate-put-bytes-6
+slice-aggregate-put-bytes-6 c = search needs
+
+put-bytes-requires-6 : tie.Need-put-bytes-requires-6
+put-bytes-requires-6 c κs = search needs
+
 returns : tie.Need-returns
 unfolding usageText lines bytes
 returns c = rw (c .before .before .before .enum-told .given .1) (whole (c .put-bytes .ensures))
@@ -71,6 +80,10 @@ returns-5 : tie.Need-returns-5
 unfolding usageText lines bytes
 returns-5 c = rw (c .before .before .before .enum-told5 .given .1) (whole (c .put-bytes5 .ensures))
 
+returns-6 : tie.Need-returns-6
+unfolding usageText lines bytes
+returns-6 c = rw (c .before .before .before .enum-told6 .given .1) (whole (c .put-bytes6 .ensures))
+
 pub usage-spec : {M : Type 1} → statement M
 usage-spec =
     tie.close
@@ -90,8 +103,12 @@ usage-spec =
     enum-told-5
     slice-aggregate-put-bytes-5
     put-bytes-requires-5
+    enum-told-6
+    slice-aggregate-put-bytes-6
+    put-bytes-requires-6
     returns
     returns-2
     returns-3
     returns-4
-    returns-5)
+    returns-5
+    returns-6)

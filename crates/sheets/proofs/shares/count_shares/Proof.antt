@@ -84,11 +84,11 @@ returns-2 c =
     rw (c .refused-at2 .ensures)
     (sym (answer (c .before .before .before) ∙ rw (lt-ltb 0 _ (some (c .before .before)), lt-leb mostBackends _ (c .before .if2 .taken))), refl)
 
-slice-aggregate-tally : tie.Need-slice-aggregate-tally
-slice-aggregate-tally c = search needs
+slice-aggregate-tally-service : tie.Need-slice-aggregate-tally-service
+slice-aggregate-tally-service c = search needs
 
-tally-requires : tie.Need-tally-requires
-tally-requires c κs =
+tally-service-requires : tie.Need-tally-service-requires
+tally-service-requires c κs =
     let read = c .before .before .before .before .before in
     (has read .ruled, bits read)
 
@@ -111,7 +111,7 @@ returns-4 c =
     let read = room .before .before .before .before in
     let a = read .before .before .before .before .before .before .before .before .args in (
       sym (answer (room .before .before) ∙ rw (lt-ltb 0 _ (some (room .before)), le-leb mostBackends _ (room .if2 .left))),
-      c .before .before .store .ensures ∙ ap (sets (a .shares .now) 0) (counts .tally .ensures ∙ shares-held _ _ _ (has read) (a .service)),
+      c .before .before .store .ensures ∙ ap (sets (a .shares .now) 0) (counts .tally-service .ensures ∙ shares-held _ _ _ (has read) (a .service)),
     )
 
 pub count-shares-spec : {M : Type 1} → statement M
@@ -128,8 +128,8 @@ count-shares-spec =
     returns
     refused-at-requires-2
     returns-2
-    slice-aggregate-tally
-    tally-requires
+    slice-aggregate-tally-service
+    tally-service-requires
     store-requires
     returns-3
     same-length

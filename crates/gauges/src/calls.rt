@@ -1,0 +1,95 @@
+// The two calls on a rule sheet's text: the record of a backend's gauges, and one gauge of it.
+use crate::answer::Gauge;
+use crate::answer::Gauges;
+use crate::answer::GaugesAnswer;
+use crate::answer::Reading;
+use crate::answer::ReadingAnswer;
+use numerals::MOST_BACKENDS;
+use numerals::MOST_VOLUME;
+use numerals::Refusal;
+use numerals::refusal_number;
+use sheets::Answer;
+use sheets::Refused;
+ghost use mathlib.Core.Path.{_≡_};
+ghost use Rattle.sheets.specs.Reading.{got};
+ghost use Rattle.sheets.specs.RuleSheet.{Table, readTable};
+ghost use Rattle.gauges.specs.Gauges.{gaugesAnswer, readingAnswer, readingOf, inRange, ExactGauges, ExactReading};
+ghost use Rattle.gauges.specs.Inner.Absence.{inPlaceOf8};
+
+// Whether the numbers beside the text are in their limits.
+fn in_range(volume: u64, backend: usize) -> bool
+    ensures { λ r. ⌜ r ≡ inRange volume backend ⌝ }
+{
+    if MOST_VOLUME < volume {
+        return false;
+    }
+    if backend < 1 {
+        return false;
+    }
+    backend <= MOST_BACKENDS
+}
+
+// The share and the load of one backend of a service in a rule sheet.
+pub fn gauge_record(text: &[u8], service: usize, volume: u64, backend: usize) -> GaugesAnswer
+    ensures answer { λ r. ⌜ r ≡ gaugesAnswer (now (text .entry)) service volume backend ⌝ }
+    ensures exact { λ r. ⌜ ((t : Table) → readTable (now (text .entry)) ≡ got t → (g : Gauges) → r ≡ GaugesAnswer.Made g
+        → ExactGauges t service volume backend g) ⌝ }
+{
+    let mut shares = [0u64; MOST_BACKENDS];
+    let counted = sheets::count_shares(text, service, &mut shares);
+    match counted {
+        Answer::Refused(r) => GaugesAnswer::Refused(r),
+        Answer::Value(k) => {
+            if !in_range(volume, backend) {
+                let r = Refused {
+                    why: Refusal::BadField,
+                    line: 0,
+                    of: 0,
+                };
+                return GaugesAnswer::Refused(r);
+            }
+            let held = shares[backend - 1];
+            GaugesAnswer::Made(crate::exact::gauges_of(k, held, volume))
+        }
+    }
+}
+
+// The gauge that is read of a record.
+fn read(gauge: Gauge, g: Gauges) -> Reading
+    ensures { λ r. ⌜ r ≡ readingOf gauge g ⌝ }
+{
+    match gauge {
+        Gauge::Share => Reading::Share(g.share),
+        Gauge::Load => Reading::Load(g.load),
+    }
+}
+
+// A service that isn't there is marked as absent, in place of 8.
+fn refused_or_absent(r: Refused) -> ReadingAnswer
+    ensures { λ a. ⌜ a ≡ inPlaceOf8 r ⌝ }
+{
+    let why = r.why;
+    if refusal_number(why) == refusal_number(Refusal::UnknownService) {
+        return ReadingAnswer::Read(Reading::Absent);
+    }
+    ReadingAnswer::Refused(r)
+}
+
+// One gauge of a backend of a service in a rule sheet; a service that isn't there is absent.
+pub fn gauge_reading(
+    text: &[u8],
+    service: usize,
+    volume: u64,
+    backend: usize,
+    gauge: Gauge,
+) -> ReadingAnswer
+    ensures answer { λ r. ⌜ r ≡ readingAnswer (now (text .entry)) service volume backend gauge ⌝ }
+    ensures exact { λ r. ⌜ ((t : Table) → readTable (now (text .entry)) ≡ got t → (x : Reading) → r ≡ ReadingAnswer.Read x
+        → ExactReading t service volume backend x) ⌝ }
+{
+    let made = gauge_record(text, service, volume, backend);
+    match made {
+        GaugesAnswer::Made(g) => ReadingAnswer::Read(read(gauge, g)),
+        GaugesAnswer::Refused(r) => refused_or_absent(r),
+    }
+}
