@@ -40,7 +40,7 @@ extern "C" {
 enum gulmorzon_number {
     GULMORZON_ANSWERED = 0,
     GULMORZON_MALFORMED = 1,       /* LF missing, keyword wrong, or too few or too many fields */
-    GULMORZON_BAD_FIELD = 2,       /* a field not of its form or limits */
+    GULMORZON_BAD_FIELD = 2,       /* a field not of its form or limits, or a number of the call out of its limits */
     GULMORZON_UNBALANCED = 3,      /* weights don't sum to 100 percent */
     GULMORZON_TOO_MANY = 4,        /* a 65th service, a 33rd backend or a 33rd rule of a service */
     GULMORZON_NO_SERVICE = 5,      /* only line 1 */
@@ -77,7 +77,7 @@ struct gulmorzon_plan_answer {
 /* The gauges of a backend of a service: share is the part of its 2^k suffixes that the backend holds, load is the service's
  * volume times the share. Both doubles are exact, so that == against the fraction holds; a backend that holds nothing reads
  * 0, never -0. */
-struct gulmorzon_gauges {
+struct gulmorzon_gauge_record {
     double share;
     double load;
 };
@@ -86,7 +86,7 @@ struct gulmorzon_gauges {
 struct gulmorzon_gauges_answer {
     size_t number;
     size_t line;
-    struct gulmorzon_gauges gauges;
+    struct gulmorzon_gauge_record gauges;
 };
 
 /* Which gauge is read, and the mark of what was read. GULMORZON_ABSENT is only a mark. */
@@ -96,8 +96,8 @@ enum gulmorzon_gauge {
     GULMORZON_ABSENT = 8 /* the service isn't there, in place of GULMORZON_UNKNOWN_SERVICE */
 };
 
-/* Answered: number 0, the mark, and the value of that gauge, 0 where the service is absent. Refused: the number and the
- * line as above; mark and value are 0. */
+/* Answered: number 0, the mark, and the value of that gauge, 0 where the service is absent: look at the mark before the
+ * value. Refused: the number and the line as above; mark and value are 0. */
 struct gulmorzon_reading_answer {
     size_t number;
     size_t line;

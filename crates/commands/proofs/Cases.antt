@@ -28,7 +28,7 @@ use Rattle.commands.specs.Numeral.{numeral}
 use Rattle.commands.specs.Address.{byte, quad, orElse, addressOf}
 use Rattle.commands.specs.Lookup.{lookedText, lookupText, lookupSays}
 use Rattle.commands.specs.Churn.{churnedText, churnSays}
-use Rattle.commands.specs.Dyadic.{placesOf, dotted, dyadicText}
+use Rattle.commands.specs.Dyadic.{decimalsOf, dotted, dyadicText}
 use Rattle.commands.specs.Gauge.{floatText, gaugesText, gaugeSays}
 
 abbrev text : String → Said
@@ -135,7 +135,7 @@ pub record Gauges : Type 0 where
   pub no-number : gauges cut "1" "05" "x" ≡ noNumber 3
 
 pub all-gauges : Gauges
-unfolding gaugeSays onNumber numeral gaugesText floatText dyadicText placesOf dotted gaugesAnswer gaugesIn gaugesOf held inRange inLimits share gives
+unfolding gaugeSays onNumber numeral gaugesText floatText dyadicText decimalsOf dotted gaugesAnswer gaugesIn gaugesOf held inRange inLimits share gives
     dyadic bits biasedExponent fractionField ofBits ofFields odd size span climb trailingZeros refusedText refusal numberOf decimal width widthIn
     lowest sumTo countTo hasService firstMatch ownRules matches bytes readTable textLimit tableLine firstLine openingLines openingFields
     wholeTable closed ruleLines ruleFields placed inOrder countOf onSuffix totalLimit same onField unless then number isNumeral

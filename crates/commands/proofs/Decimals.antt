@@ -15,23 +15,23 @@ use Rattle.numerals.specs.Decimal.{isNumeral, decimal}
 use Rattle.numerals.proofs.Choice.{by-less}
 use Rattle.numerals.proofs.Base.{digit}
 use Rattle.numerals.proofs.Decimal.{first-digit, all-decimal, value-decimal}
-use Rattle.commands.specs.Dyadic.{placesOf, dotted, dyadicText, DecimalOf}
+use Rattle.commands.specs.Dyadic.{decimalsOf, dotted, dyadicText, DecimalOf}
 use Rattle.commands.proofs.Texts.{digits-most}
 
 -- at remainder 0 the digits end
-pub places-none : (j : ℕ) → placesOf j 0 ≡ []
-unfolding placesOf
-places-none zero = refl
-places-none (suc j) = refl
+pub decimals-none : (j : ℕ) → decimalsOf j 0 ≡ []
+unfolding decimalsOf
+decimals-none zero = refl
+decimals-none (suc j) = refl
 
 -- one digit, and those of what it leaves
-places-more : (j r : ℕ) → 0 < r → placesOf (suc j) r ≡ (48 + 5 * r / 2 ^ j) ∷ placesOf j (5 * r % 2 ^ j)
-unfolding placesOf
-places-more j r h = rw (ne-eqb r 0 (λ e. omega arith))
+decimals-more : (j r : ℕ) → 0 < r → decimalsOf (suc j) r ≡ (48 + 5 * r / 2 ^ j) ∷ decimalsOf j (5 * r % 2 ^ j)
+unfolding decimalsOf
+decimals-more j r h = rw (ne-eqb r 0 (λ e. omega arith))
 
 -- it is below 10
-place-small : (j r : ℕ) → r < 2 ^ suc j → 5 * r / 2 ^ j < 10
-place-small j r h = div-lt-iff-lt-mul {x = 5 * r} {y = 10} (pow-pos j) .1 (omega (arith, pow-suc 2 j))
+decimal-small : (j r : ℕ) → r < 2 ^ suc j → 5 * r / 2 ^ j < 10
+decimal-small j r h = div-lt-iff-lt-mul {x = 5 * r} {y = 10} (pow-pos j) .1 (omega (arith, pow-suc 2 j))
 
 -- the same in the code's words, where something is left of all
 pub record Left (j all left : ℕ) : Type 0 where
@@ -57,30 +57,30 @@ module _ {j all left : ℕ} (l : Left j all left) where
   half-some = omega (arith, half, pow-pos (j - 1))
 
   pub next-small : left * 5 / (all / 2) < 10
-  next-small = rw (half, mul-comm left 5) (place-small (j - 1) left (omega (arith, l .few, l .is, ap (λ (i : ℕ). 2 ^ i) one-more)))
+  next-small = rw (half, mul-comm left 5) (decimal-small (j - 1) left (omega (arith, l .few, l .is, ap (λ (i : ℕ). 2 ^ i) one-more)))
 
-  pub next-place : placesOf j left ≡ (48 + left * 5 / (all / 2)) ∷ placesOf (j - 1) (left * 5 % (all / 2))
-  next-place = ap (λ (i : ℕ). placesOf i left) one-more ∙ places-more (j - 1) left (l .some) ∙ rw (half, mul-comm left 5)
+  pub next-decimal : decimalsOf j left ≡ (48 + left * 5 / (all / 2)) ∷ decimalsOf (j - 1) (left * 5 % (all / 2))
+  next-decimal = ap (λ (i : ℕ). decimalsOf i left) one-more ∙ decimals-more (j - 1) left (l .some) ∙ rw (half, mul-comm left 5)
 
-places-short : (j r : ℕ) → length (placesOf j r) ≤ j
-unfolding placesOf
-places-short zero r = omega arith
-places-short (suc j) zero = omega arith
-places-short (suc j) (suc r) = rw (places-more j (suc r) (omega arith)) (omega (arith, places-short j (5 * suc r % 2 ^ j)))
+decimals-short : (j r : ℕ) → length (decimalsOf j r) ≤ j
+unfolding decimalsOf
+decimals-short zero r = omega arith
+decimals-short (suc j) zero = omega arith
+decimals-short (suc j) (suc r) = rw (decimals-more j (suc r) (omega arith)) (omega (arith, decimals-short j (5 * suc r % 2 ^ j)))
 
 -- so long as something is left, there is a digit
-places-some : (j r : ℕ) → r < 2 ^ j → placesOf j r ≡ [] → r ≡ 0
-places-some zero r h e = omega arith
-places-some (suc j) zero h e = refl
-places-some (suc j) (suc r) h e = omega (arith, ap length (sym (places-more j (suc r) (omega arith)) ∙ e))
+decimals-some : (j r : ℕ) → r < 2 ^ j → decimalsOf j r ≡ [] → r ≡ 0
+decimals-some zero r h e = omega arith
+decimals-some (suc j) zero h e = refl
+decimals-some (suc j) (suc r) h e = omega (arith, ap length (sym (decimals-more j (suc r) (omega arith)) ∙ e))
 
-places-digits : (j r : ℕ) → r < 2 ^ j → allDigits 10 (placesOf j r) ≡ true
-unfolding placesOf allDigits
-places-digits zero r h = refl
-places-digits (suc j) zero h = refl
-places-digits (suc j) (suc r) h =
-    rw (places-more j (suc r) (omega arith), digit 10 (5 * suc r / 2 ^ j) (place-small j (suc r) h))
-    (places-digits j (5 * suc r % 2 ^ j) (mod-lt (5 * suc r) (pow-pos j)))
+decimals-digits : (j r : ℕ) → r < 2 ^ j → allDigits 10 (decimalsOf j r) ≡ true
+unfolding decimalsOf allDigits
+decimals-digits zero r h = refl
+decimals-digits (suc j) zero h = refl
+decimals-digits (suc j) (suc r) h =
+    rw (decimals-more j (suc r) (omega arith), digit 10 (5 * suc r / 2 ^ j) (decimal-small j (suc r) h))
+    (decimals-digits j (5 * suc r % 2 ^ j) (mod-lt (5 * suc r) (pow-pos j)))
 
 -- one digit more, over p for 2^j and t for the power of ten
 value-step : (x p t v d s r : ℕ) → x * p ≡ ((v * 10 + d) * p + s) * t → d * p + s ≡ 5 * r → x * (p * 2) ≡ (v * (p * 2) + r) * (t * 10)
@@ -91,15 +91,15 @@ unfolding valueFrom
 value-first v d ds = let back : 48 + d - 48 ≡ d = omega arith in ap (λ (x : ℕ). valueFrom 10 (v * 10 + x) ds) back
 
 -- written after the digits of v they are those of v + r / 2^j, without the dot
-value-after : (j v r : ℕ) → r < 2 ^ j → valueFrom 10 v (placesOf j r) * 2 ^ j ≡ (v * 2 ^ j + r) * 10 ^ length (placesOf j r)
-unfolding placesOf valueFrom
+value-after : (j v r : ℕ) → r < 2 ^ j → valueFrom 10 v (decimalsOf j r) * 2 ^ j ≡ (v * 2 ^ j + r) * 10 ^ length (decimalsOf j r)
+unfolding decimalsOf valueFrom
 value-after zero v r h = omega arith
 value-after (suc j) v zero h = omega arith
 value-after (suc j) v (suc r) h =
     let d : ℕ = 5 * suc r / 2 ^ j in
     let s : ℕ = 5 * suc r % 2 ^ j in
-    rw (places-more j (suc r) (omega arith), value-first v d (placesOf j s), pow-suc 2 j, pow-suc 10 (length (placesOf j s)))
-    (value-step (valueFrom 10 (v * 10 + d) (placesOf j s)) (2 ^ j) (10 ^ length (placesOf j s)) v d s (suc r)
+    rw (decimals-more j (suc r) (omega arith), value-first v d (decimalsOf j s), pow-suc 2 j, pow-suc 10 (length (decimalsOf j s)))
+    (value-step (valueFrom 10 (v * 10 + d) (decimalsOf j s)) (2 ^ j) (10 ^ length (decimalsOf j s)) v d s (suc r)
     (value-after j (v * 10 + d) s (mod-lt (5 * suc r) (pow-pos j)))
     (div-add-mod' (5 * suc r) (2 ^ j)))
 
@@ -107,22 +107,22 @@ not-empty : (ds : List ℕ) (d : ℕ) → [] ≡ ds ++ d ∷ [] → ⊥
 not-empty ds d e = omega (arith, length-append ds (d ∷ []), ap length e)
 
 -- the last digit isn't 0
-places-last : (j r : ℕ) (ds : List ℕ) (d : ℕ) → placesOf j r ≡ ds ++ d ∷ [] → 48 < d
-unfolding placesOf
-places-last zero r ds d e = absurd (not-empty ds d e)
-places-last (suc j) zero ds d e = absurd (not-empty ds d e)
-places-last (suc j) (suc r) [] d e =
+decimals-last : (j r : ℕ) (ds : List ℕ) (d : ℕ) → decimalsOf j r ≡ ds ++ d ∷ [] → 48 < d
+unfolding decimalsOf
+decimals-last zero r ds d e = absurd (not-empty ds d e)
+decimals-last (suc j) zero ds d e = absurd (not-empty ds d e)
+decimals-last (suc j) (suc r) [] d e =
     let q : ℕ = 5 * suc r / 2 ^ j in
     let s : ℕ = 5 * suc r % 2 ^ j in
-    let all : (48 + q) ∷ placesOf j s ≡ d ∷ [] = sym (places-more j (suc r) (omega arith)) ∙ e in
-    let none : s ≡ 0 = places-some j s (mod-lt (5 * suc r) (pow-pos j)) (cc) in
+    let all : (48 + q) ∷ decimalsOf j s ≡ d ∷ [] = sym (decimals-more j (suc r) (omega arith)) ∙ e in
+    let none : s ≡ 0 = decimals-some j s (mod-lt (5 * suc r) (pow-pos j)) (cc) in
     let is : 48 + q ≡ d = cc in
     by-less 0 q
     (λ h. omega arith)
     (λ h. let zeros : q ≡ 0 = omega arith in omega (arith, ap (λ (x : ℕ). x * 2 ^ j) zeros, div-add-mod' (5 * suc r) (2 ^ j)))
-places-last (suc j) (suc r) (c ∷ ds) d e =
-    let all : (48 + 5 * suc r / 2 ^ j) ∷ placesOf j (5 * suc r % 2 ^ j) ≡ c ∷ (ds ++ d ∷ []) = sym (places-more j (suc r) (omega arith)) ∙ e in
-    places-last j (5 * suc r % 2 ^ j) ds d (cc)
+decimals-last (suc j) (suc r) (c ∷ ds) d e =
+    let all : (48 + 5 * suc r / 2 ^ j) ∷ decimalsOf j (5 * suc r % 2 ^ j) ≡ c ∷ (ds ++ d ∷ []) = sym (decimals-more j (suc r) (omega arith)) ∙ e in
+    decimals-last j (5 * suc r % 2 ^ j) ds d (cc)
 
 -- numerator and denominator times 2^i
 module _ (a j i : ℕ) where
@@ -133,26 +133,26 @@ module _ (a j i : ℕ) where
   scaled-mod =
       rw (pow-add 2 j i, mod-mul (a * 2 ^ i) (pow-pos j) (pow-pos i), mul-div-cancel a (pow-pos i), mul-mod-left a (2 ^ i), add-zero (a % 2 ^ j * 2 ^ i))
 
-none-scaled : (j i r : ℕ) → r ≡ 0 → placesOf (j + i) (r * 2 ^ i) ≡ placesOf j r
-none-scaled j i r e = rw (e, zero-mul (2 ^ i), places-none (j + i), places-none j)
+none-scaled : (j i r : ℕ) → r ≡ 0 → decimalsOf (j + i) (r * 2 ^ i) ≡ decimalsOf j r
+none-scaled j i r e = rw (e, zero-mul (2 ^ i), decimals-none (j + i), decimals-none j)
 
-places-scaled : (j i r : ℕ) → r < 2 ^ j → placesOf (j + i) (r * 2 ^ i) ≡ placesOf j r
-places-scaled zero i r h = none-scaled zero i r (omega arith)
-places-scaled (suc j) i zero h = none-scaled (suc j) i zero refl
-places-scaled (suc j) i (suc r) h =
-    ap (λ (l : ℕ). placesOf l (suc r * 2 ^ i)) (suc-add j i)
-    ∙ places-more (j + i) (suc r * 2 ^ i) (mul-pos (omega arith) (pow-pos i))
+decimals-scaled : (j i r : ℕ) → r < 2 ^ j → decimalsOf (j + i) (r * 2 ^ i) ≡ decimalsOf j r
+decimals-scaled zero i r h = none-scaled zero i r (omega arith)
+decimals-scaled (suc j) i zero h = none-scaled (suc j) i zero refl
+decimals-scaled (suc j) i (suc r) h =
+    ap (λ (l : ℕ). decimalsOf l (suc r * 2 ^ i)) (suc-add j i)
+    ∙ decimals-more (j + i) (suc r * 2 ^ i) (mul-pos (omega arith) (pow-pos i))
     ∙ rw (
-      places-more j (suc r) (omega arith),
+      decimals-more j (suc r) (omega arith),
       ← mul-assoc 5 (suc r) (2 ^ i),
       scaled-div (5 * suc r) j i,
       scaled-mod (5 * suc r) j i,
-      places-scaled j i (5 * suc r % 2 ^ j) (mod-lt (5 * suc r) (pow-pos j)),
+      decimals-scaled j i (5 * suc r % 2 ^ j) (mod-lt (5 * suc r) (pow-pos j)),
     )
 
 dyadic-scaled : (m j i : ℕ) → dyadicText (m * 2 ^ i) (j + i) ≡ dyadicText m j
 unfolding dyadicText
-dyadic-scaled m j i = rw (scaled-div m j i, scaled-mod m j i, places-scaled j i (m % 2 ^ j) (mod-lt m (pow-pos j)))
+dyadic-scaled m j i = rw (scaled-div m j i, scaled-mod m j i, decimals-scaled j i (m % 2 ^ j) (mod-lt m (pow-pos j)))
 
 -- the larger exponent has the other in it, and its numerator the other numerator times the same power
 same-upwards : (m j n k : ℕ) → j ≤ k → m * 2 ^ k ≡ n * 2 ^ j → dyadicText n k ≡ dyadicText m j
@@ -170,21 +170,21 @@ dyadic-same m j n k e =
     (λ h. same-upwards n k m j (omega arith) (sym e))
     (λ h. sym (same-upwards m j n k h e))
 
-dotted-some : (j r : ℕ) → 0 < r → r < 2 ^ j → dotted (placesOf j r) ≡ 46 ∷ placesOf j r
+dotted-some : (j r : ℕ) → 0 < r → r < 2 ^ j → dotted (decimalsOf j r) ≡ 46 ∷ decimalsOf j r
 unfolding dotted
 dotted-some zero r h k = let none : ⊥ = omega arith in absurd none
-dotted-some (suc j) r h k = rw (places-more j r h)
+dotted-some (suc j) r h k = rw (decimals-more j r h)
 
 -- the text of a whole number, and of one with digits behind the dot
 module _ (n j : ℕ) where
   pub dyadic-whole : n % 2 ^ j ≡ 0 → dyadicText n j ≡ decimal (n / 2 ^ j)
   unfolding dyadicText dotted
-  dyadic-whole e = rw (e, places-none j) (append-nil (decimal (n / 2 ^ j)))
+  dyadic-whole e = rw (e, decimals-none j) (append-nil (decimal (n / 2 ^ j)))
 
-  pub dyadic-broken : 0 < n % 2 ^ j → dyadicText n j ≡ (decimal (n / 2 ^ j) ++ 46 ∷ []) ++ placesOf j (n % 2 ^ j)
+  pub dyadic-broken : 0 < n % 2 ^ j → dyadicText n j ≡ (decimal (n / 2 ^ j) ++ 46 ∷ []) ++ decimalsOf j (n % 2 ^ j)
   unfolding dyadicText
   dyadic-broken h =
-      rw (dotted-some j (n % 2 ^ j) h (mod-lt n (pow-pos j)), append-assoc (decimal (n / 2 ^ j)) (46 ∷ []) (placesOf j (n % 2 ^ j)))
+      rw (dotted-some j (n % 2 ^ j) h (mod-lt n (pow-pos j)), append-assoc (decimal (n / 2 ^ j)) (46 ∷ []) (decimalsOf j (n % 2 ^ j)))
 
 -- ---- the text is the number, exactly
 
@@ -199,14 +199,14 @@ dyadic-exact n j =
     let q = n / 2 ^ j in
     let r = n % 2 ^ j in
     let few : r < 2 ^ j = mod-lt n (pow-pos j) in
-    let ps = placesOf j r in
+    let ps = decimalsOf j r in
     record {
       whole = decimal q;
-      places = ps;
+      decimals = ps;
       is = refl;
       numeral = rw (first-digit q, all-decimal q);
-      digits = places-digits j r few;
-      last = places-last j r;
+      digits = decimals-digits j r few;
+      last = decimals-last j r;
       exact =
           ap (λ (x : ℕ). x * 2 ^ j) (value-append 0 (decimal q) ps ∙ ap (λ (v : ℕ). valueFrom 10 v ps) (value-decimal q))
           ∙ value-after j q r few
@@ -222,12 +222,12 @@ pub dyadic-short : (n j : ℕ) → n < 18446744073709551616 → length (dyadicTe
 unfolding dyadicText
 dyadic-short n j h =
     let q = n / 2 ^ j in
-    let ps = placesOf j (n % 2 ^ j) in
+    let ps = decimalsOf j (n % 2 ^ j) in
     let few : q < 18446744073709551616 = omega (arith, mul-le-mul (le-refl q) (pow-pos j), div-add-mod' n (2 ^ j)) in
     omega (
       arith,
       length-append (decimal q) (dotted ps),
       digits-most q few,
       dotted-short ps,
-      places-short j (n % 2 ^ j),
+      decimals-short j (n % 2 ^ j),
     )

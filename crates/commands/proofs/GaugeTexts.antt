@@ -1,5 +1,5 @@
 -- The text of a gauge: times 2^12 a gauge is a whole number, whose decimal over 2^12 is that of the gauge, exactly.
-use Prim.Native.Nat.{ℕ, suc, _+_, _-_, _*_, _^_, _≤_}
+use Prim.Native.Nat.{ℕ, suc, _+_, _-_, _*_, _^_, _≤_, _<_}
 use mathlib.Core.Path.{_≡_, refl, sym, ap, _∙_, subst}
 use mathlib.Core.Bool.{true, false}
 use mathlib.Core.List.{List}
@@ -23,8 +23,8 @@ use Rattle.gauges.specs.declared.answer.Gauges.{Gauges}
 use Rattle.gauges.specs.declared.answer.GaugesAnswer.the-variants.{Made}
 use Rattle.gauges.proofs.Fractions.{dyadic-value}
 use Rattle.gauges.proofs.Operations.{whole-value, whole-in, mul-values}
-use Rattle.gauges.proofs.Answers.{ranged, held-most, whole}
-use Rattle.commands.specs.Inner.Gauge.{IsGauge}
+use Rattle.gauges.proofs.Answers.{held-most, load-most, whole}
+use Rattle.commands.specs.Inner.Gauge.{IsGauge, gaugeRoom}
 use Rattle.commands.specs.Dyadic.{dyadicText, DecimalOf}
 use Rattle.commands.specs.Gauge.{floatText}
 use Rattle.commands.proofs.Decimals.{dyadic-same, dyadic-whole, dyadic-exact, dyadic-short}
@@ -94,7 +94,7 @@ made-gauges text n volume b g e =
     let few = held-most text (w .table) (w .read) n b in
     rw (w .is) (
       gauge-by count (w .table .k) (omega (arith, few)) bits,
-      gauge-by (volume * count) (w .table .k) (mul-le-mul (ranged volume b (w .in-range) .little) few) bits,
+      gauge-by (volume * count) (w .table .k) (load-most text (w .table) (w .read) n volume b (w .in-range)) bits,
     )
 
 -- ---- the text is exact
@@ -106,5 +106,5 @@ gauge-line n k few bits = text-by (dyadic n k) n k (dyadic-value n k (omega arit
 pub gauge-exact : (n k : ℕ) → n ≤ mostVolume * mostSuffixes → k ≤ mostBits → DecimalOf (floatText (dyadic n k)) n k
 gauge-exact n k few bits = rw (gauge-line n k few bits) (dyadic-exact n k)
 
-pub gauge-short : (n k : ℕ) → n ≤ mostVolume * mostSuffixes → k ≤ mostBits → length (floatText (dyadic n k)) ≤ 33
+pub gauge-short : (n k : ℕ) → n ≤ mostVolume * mostSuffixes → k ≤ mostBits → length (floatText (dyadic n k)) < gaugeRoom
 gauge-short n k few bits = rw (gauge-line n k few bits) (omega (arith, dyadic-short n k (omega arith)))

@@ -3,7 +3,6 @@ use Prim.Native.Nat.{ℕ, _+_, _*_, _≤_, _<_, min}
 use mathlib.Core.Path.{_≡_, sym, ap, _∙_}
 use mathlib.Core.Bool.{false}
 use mathlib.Core.List.{List, [], _∷_, _++_}
-use native.Mathlib.Nat.{mul-le-mul}
 use native.Mathlib.Omega.{arith}
 use lib.Dec.{leb}
 use lib.ListN.{length, take, length-append}
@@ -16,11 +15,12 @@ use Rattle.sheets.proofs.OneCall.{take-sets}
 use Rattle.sheets.proofs.OrderedLines.{read-proper}
 use Rattle.gauges.specs.Binary64.{dyadic}
 use Rattle.gauges.specs.Gauges.{held, gaugesOf, inRange, gaugesIn, gaugesAnswer}
-use Rattle.gauges.proofs.Answers.{ranged, held-most}
+use Rattle.gauges.proofs.Answers.{held-most, load-most}
 use Rattle.commands.specs.Said.{prints, noNumber, onNumber, outcome, filled}
 use Rattle.commands.specs.declared.answer.Outcome.{Outcome}
 use Rattle.commands.specs.declared.answer.Outcome.the-variants.{Answer, NoNumber}
 use Rattle.commands.specs.Numeral.{numeral}
+use Rattle.commands.specs.Inner.Gauge.{gaugeRoom}
 use Rattle.commands.specs.Inner.Numeral.{capped}
 use Rattle.commands.specs.Gauge.{floatText, gaugesText, gaugeSays, PrintsExactly}
 use Rattle.commands.proofs.Numerals.{capped-value, capped-bad, capped-same}
@@ -100,13 +100,13 @@ answer-same e = cc
 
 module _ (table service volume backend out : List ℕ) where
   line-exact :
-      68 ≤ length out → (r : Outcome) (after : List ℕ) → r ≡ outcome (gaugeSays table service volume backend)
+      2 * gaugeRoom ≤ length out → (r : Outcome) (after : List ℕ) → r ≡ outcome (gaugeSays table service volume backend)
       → after ≡ filled (gaugeSays table service volume backend) out → PrintsExactly table service volume backend r after
   unfolding gaugeSays onNumber gaugesAnswer gaugesIn gaugesText gaugesOf
   line-exact room r after answers fills t n v b end is s u w has i e =
       let bits = read-proper table t is .few-bits in
       let few = held-most table t is n b in
-      let most : v * held t n b ≤ mostVolume * mostSuffixes = mul-le-mul (ranged v b i .little) few in
+      let most = load-most table t is n v b i in
       let least : held t n b ≤ mostVolume * mostSuffixes = omega (arith, few) in
       let share = floatText (dyadic (held t n b) (t .k)) in
       let load = floatText (dyadic (v * held t n b) (t .k)) in
@@ -139,7 +139,7 @@ module _ (table service volume backend out : List ℕ) where
       × ((after ≡ filled (gaugeSays table service volume backend) out) × (PrintsExactly table service volume backend r after))
 
   pub said-exactly :
-      68 ≤ length out → (r : Outcome) (after : List ℕ)
+      2 * gaugeRoom ≤ length out → (r : Outcome) (after : List ℕ)
       → (r ≡ outcome (gaugeSays table service volume backend)) × (after ≡ filled (gaugeSays table service volume backend) out) → Said-exactly r after
   said-exactly room r after p = (p .0, (p .1, line-exact room r after (p .0) (p .1)))
 

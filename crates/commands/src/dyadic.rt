@@ -5,15 +5,16 @@ ghost use Prim.Native.Nat.{_+_, _<_, _≤_};
 ghost use lib.ListN.{length};
 ghost use Rattle.numerals.specs.Limits.{mostBits, mostSuffixes};
 ghost use Rattle.sheets.specs.Inner.Writing.{Wrote};
-ghost use Rattle.commands.specs.Dyadic.{placesOf, dyadicText};
+ghost use Rattle.commands.specs.Dyadic.{decimalsOf, dyadicText};
+ghost use Rattle.commands.specs.Inner.Gauge.{gaugeRoom};
 
-// 2^12. A gauge has at most 12 binary places: times this it is a whole number.
+// 2^12. A gauge has at most 12 binary digits behind the dot: times this it is a whole number.
 pub const PARTS: u64 = numerals::MOST_SUFFIXES as u64;
 
 // The digits of rest / 2^12 behind the dot, at a position; the position after them.
-fn put_places(out: &mut [u8], at: usize, rest: u64) -> usize
+fn put_decimals(out: &mut [u8], at: usize, rest: u64) -> usize
     requires { ⌜ (rest < mostSuffixes) × (at + mostBits ≤ length (now out)) ⌝ }
-    ensures text { λ r. ⌜ Wrote (now (out .entry)) (now (out .exit)) at r (placesOf mostBits rest) ⌝ }
+    ensures text { λ r. ⌜ Wrote (now (out .entry)) (now (out .exit)) at r (decimalsOf mostBits rest) ⌝ }
     ensures end { λ r. ⌜ r ≤ at + mostBits ⌝ }
 {
     let mut all = PARTS;
@@ -29,18 +30,18 @@ fn put_places(out: &mut [u8], at: usize, rest: u64) -> usize
     end
 }
 
-// n / 2^12, and a separator behind it; the position after them. They take at most 20 digits, a dot, 12 digits and the separator.
+// n / 2^12, and a separator behind it; the position after them.
 pub fn put_dyadic(out: &mut [u8], at: usize, n: u64, separator: u8) -> usize
-    requires { ⌜ at + 34 ≤ length (now out) ⌝ }
+    requires { ⌜ at + gaugeRoom ≤ length (now out) ⌝ }
     ensures text { λ r. ⌜ Wrote (now (out .entry)) (now (out .exit)) at r (dyadicText n mostBits ++ separator ∷ []) ⌝ }
-    ensures end { λ r. ⌜ r ≤ at + 34 ⌝ }
+    ensures end { λ r. ⌜ r ≤ at + gaugeRoom ⌝ }
 {
     let rest = n % PARTS;
     if rest == 0 {
         return put_number(out, at, n / PARTS, separator);
     }
     let dot = put_number(out, at, n / PARTS, 46);
-    let end = put_places(out, dot, rest);
+    let end = put_decimals(out, dot, rest);
     out[end] = separator;
     end + 1
 }

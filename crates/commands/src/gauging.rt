@@ -4,27 +4,27 @@ use gauges::GaugesAnswer;
 use numerals::Number;
 ghost use mathlib.Core.Path.{_≡_};
 ghost use mathlib.Core.List.{[], _∷_, _++_};
-ghost use Prim.Native.Nat.{_+_, _≤_};
+ghost use Prim.Native.Nat.{_+_, _*_, _≤_};
 ghost use lib.ListN.{length};
 ghost use Rattle.gauges.specs.Gauges.{gaugesAnswer};
 ghost use Rattle.sheets.specs.Inner.Writing.{Wrote};
 ghost use Rattle.commands.specs.Said.{outcome, filled};
 ghost use Rattle.commands.specs.Gauge.{floatText, gaugesText, gaugeSays, PrintsExactly};
-ghost use Rattle.commands.specs.Inner.Gauge.{IsGauge};
+ghost use Rattle.commands.specs.Inner.Gauge.{IsGauge, gaugeRoom};
 
 // A gauge as a decimal, and a separator behind it; the position after them.
 fn put_gauge(out: &mut [u8], at: usize, x: f64, separator: u8) -> usize
-    requires { ⌜ (IsGauge x) × (at + 34 ≤ length (now out)) ⌝ }
+    requires { ⌜ (IsGauge x) × (at + gaugeRoom ≤ length (now out)) ⌝ }
     ensures text { λ r. ⌜ Wrote (now (out .entry)) (now (out .exit)) at r (floatText x ++ separator ∷ []) ⌝ }
-    ensures end { λ r. ⌜ r ≤ at + 34 ⌝ }
+    ensures end { λ r. ⌜ r ≤ at + gaugeRoom ⌝ }
 {
     let parts = x * crate::dyadic::PARTS as f64;
     crate::dyadic::put_dyadic(out, at, parts as u64, separator)
 }
 
-// The gauges of a backend, or a refusal. A line takes two gauges with their separators, 34 bytes each at most.
+// The gauges of a backend, or a refusal. A line has two gauges with their separators.
 fn measure(table: &[u8], service: u64, volume: u64, backend: u64, out: &mut [u8]) -> usize
-    requires { ⌜ 68 ≤ length (now out) ⌝ }
+    requires { ⌜ 2 * gaugeRoom ≤ length (now out) ⌝ }
     ensures { λ r. ⌜ Wrote (now (out .entry)) (now (out .exit)) 0 r (gaugesText (gaugesAnswer (now (table .entry)) service volume backend)) ⌝ }
 {
     let made = gauges::gauge_record(table, service as usize, volume, backend as usize);

@@ -1,5 +1,4 @@
--- The count by first match (document 01, under that heading), over rules in their order, the first match first. It serves the expansion, the count of
--- a table, lookup and churn.
+-- The count by first match (document 01, under that heading), over rules in their order, the first match first: one definition, whoever counts.
 use Prim.Native.Nat.{ℕ, _%_, _^_}
 use mathlib.Core.Bool.{Bool}
 use mathlib.Core.List.{List, [], _∷_}

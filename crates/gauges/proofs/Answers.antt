@@ -88,6 +88,10 @@ pub held-most : (text : List ℕ) (t : Table) → readTable text ≡ got t → (
 unfolding held
 held-most text t is n b = le-trans (share-le (t .k) (ownRules n (t .lines)) b) (pow-few (t .k) (read-proper text t is .few-bits))
 
+pub load-most : (text : List ℕ) (t : Table) → readTable text ≡ got t → (n volume b : ℕ) → inRange volume b ≡ true
+    → volume * held t n b ≤ mostVolume * mostSuffixes
+load-most text t is n volume b i = mul-le-mul (ranged volume b i .little) (held-most text t is n b)
+
 module _ (text : List ℕ) (n volume b : ℕ) where
   -- the four ways in which a call may go, in the order of the refusals
   data Way : Type 0 where
@@ -222,11 +226,9 @@ module _ (text : List ℕ) (n volume b : ℕ) where
     unfolding gaugesOf
     exact-of i =
         let bits = read-proper text t is .few-bits in
-        let few = held-most text t is n b in
-        let most : volume * held t n b ≤ mostVolume * mostSuffixes = mul-le-mul (ranged volume b i .little) few in
         record {
-          share = exactly (held t n b) (t .k) (omega (arith, few)) (omega (arith, bits));
-          load = exactly (volume * held t n b) (t .k) (omega (arith, most)) (omega (arith, bits));
+          share = exactly (held t n b) (t .k) (omega (arith, held-most text t is n b)) (omega (arith, bits));
+          load = exactly (volume * held t n b) (t .k) (omega (arith, load-most text t is n volume b i)) (omega (arith, bits));
         }
 
     pub record-exact : (r : GaugesAnswer) → r ≡ gaugesAnswer text n volume b → (g : Gauges) → r ≡ Made g → ExactGauges t n volume b g

@@ -14,8 +14,9 @@ use lib.Ieee.Back.{round-whole}
 use lib.Ieee.Scale.{round-same}
 use borrow.Author.Tests.{ne-eqb}
 use Rattle.numerals.specs.Limits.{mostBits, mostSuffixes, mostVolume}
-use Rattle.numerals.proofs.Powers.{pow-few}
 use Rattle.gauges.specs.Binary64.{dyadic}
+use Rattle.gauges.specs.Gauges.{gaugesOf}
+use Rattle.gauges.specs.declared.answer.Gauges.{Gauges}
 use Rattle.gauges.proofs.Fractions.{dyadic-value, round-dyadic}
 
 -- a whole number up to 2^53 as a float
@@ -71,22 +72,25 @@ mul-values (fin t m e) (fin u n f) a c b d p q v w =
         swap x y c d ∙ ap (λ (i : ℕ). i * (y * d)) p ∙ ap (λ (i : ℕ). a * g * i) q ∙ swap a g b h
       where
         swap : (x y c d : ℕ) → x * y * (c * d) ≡ x * c * (y * d)
-        swap x y c d = simp (mul-assoc, mul-comm, mul-left-comm)
+        swap x y c d = simp (mul-assoc, mul-left-comm)
 
 -- ---- the gauges: k is at most 12, a share at most 2^12 and a volume at most 10,000, so that nothing is rounded
 
--- held / 2^k
-pub share-exact : (held k : ℕ) → held ≤ mostSuffixes → k ≤ mostBits
-    → div binary64 (ofInt binary64 (pos held)) (ofInt binary64 (pos (2 ^ k))) ≡ dyadic held k
-share-exact held k few bits =
-    div-whole _ _ held (2 ^ k) (pow-pos k) (whole-value held (omega arith)) (whole-value (2 ^ k) (omega (arith, pow-few k bits)))
-    ∙ round-dyadic held k (omega arith) (omega arith)
+-- from any floats that are held, 2^k and volume
+module _ (x y z : Float) (held k volume : ℕ) (few : held ≤ mostSuffixes) (bits : k ≤ mostBits) (little : volume ≤ mostVolume)
+    (count : HasValue x false held 1) (all : HasValue y false (2 ^ k) 1) (traffic : HasValue z false volume 1) where
+  -- held / 2^k
+  share-exact : div binary64 x y ≡ dyadic held k
+  share-exact = div-whole x y held (2 ^ k) (pow-pos k) count all ∙ round-dyadic held k (omega arith) (omega arith)
 
--- volume × held / 2^k
-pub load-exact : (volume held k : ℕ) → volume ≤ mostVolume → held ≤ mostSuffixes → k ≤ mostBits
-    → mul binary64 (ofInt binary64 (pos volume)) (dyadic held k) ≡ dyadic (volume * held) k
-load-exact volume held k little few bits =
-    let most : volume * held ≤ mostVolume * mostSuffixes = mul-le-mul little few in
-    mul-values _ _ volume 1 held (2 ^ k) (zero-lt-suc 0) (pow-pos k) (whole-value volume (omega arith)) (dyadic-value held k (omega arith) (omega arith))
-    ∙ ap (round binary64 false (volume * held)) (one-mul (2 ^ k))
-    ∙ round-dyadic (volume * held) k (omega (arith, most)) (omega arith)
+  -- volume × held / 2^k
+  load-exact : mul binary64 z (dyadic held k) ≡ dyadic (volume * held) k
+  load-exact =
+      let most : volume * held ≤ mostVolume * mostSuffixes = mul-le-mul little few in
+      mul-values z (dyadic held k) volume 1 held (2 ^ k) (zero-lt-suc 0) (pow-pos k) traffic (dyadic-value held k (omega arith) (omega arith))
+      ∙ ap (round binary64 false (volume * held)) (one-mul (2 ^ k))
+      ∙ round-dyadic (volume * held) k (omega (arith, most)) (omega arith)
+
+  pub gauges-exact : record { share = div binary64 x y; load = mul binary64 z (div binary64 x y) } ≡ gaugesOf k held volume
+  unfolding gaugesOf
+  gauges-exact = rw (share-exact, load-exact)

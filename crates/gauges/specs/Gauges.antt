@@ -12,6 +12,7 @@ use Rattle.expansion.specs.FirstMatch.{share}
 use Rattle.packing.specs.Count.{ownRules}
 use Rattle.sheets.specs.RuleSheet.{Table, readTable}
 use Rattle.sheets.specs.Calls.{refusedAt, answered, hasService}
+use Rattle.sheets.specs.declared.answer.Refused.{Refused as Why}
 use Rattle.gauges.specs.Binary64.{dyadic, Exactly}
 use Rattle.gauges.specs.declared.answer.Gauge.{Gauge}
 use Rattle.gauges.specs.declared.answer.Gauge.the-variants as which
@@ -35,12 +36,14 @@ gaugesOf k count volume = record { share = dyadic count k; load = dyadic (volume
 unfoldable pub inRange : ℕ → ℕ → Bool
 inRange volume b = both (leb volume mostVolume) (inLimits 1 mostBackends b)
 
--- the record: after the sheet's own refusals 8, then 2 for a number beside the text
+-- what both calls answer of a table: first what stands for a service that isn't there, then 2 for a number beside the text, then what is made of the record
+abbrev pub gauged : {A : Type 0} → A → (Why → A) → (Gauges → A) → Table → ℕ → ℕ → ℕ → A
+gauged missing refuse make t n volume b =
+    pick (hasService t n) (pick (inRange volume b) (make (gaugesOf (t .k) (held t n b) volume)) (refuse (refusedAt no2 0))) missing
+
+-- the record, or 8
 unfoldable pub gaugesIn : Table → ℕ → ℕ → ℕ → GaugesAnswer
-gaugesIn t n volume b =
-    pick (hasService t n)
-    (pick (inRange volume b) (record-of.Made (gaugesOf (t .k) (held t n b) volume)) (record-of.Refused (refusedAt no2 0)))
-    (record-of.Refused (refusedAt no8 0))
+gaugesIn = gauged (record-of.Refused (refusedAt no8 0)) record-of.Refused record-of.Made
 
 unfoldable pub gaugesAnswer : List ℕ → ℕ → ℕ → ℕ → GaugesAnswer
 gaugesAnswer text n volume b = answered record-of.Refused 0 (readTable text) (λ t. gaugesIn t n volume b)
@@ -52,10 +55,7 @@ readingOf which.Load g = Load (g .load)
 
 -- the reading: the mark that the service is absent stands in place of 8
 unfoldable pub readingIn : Table → ℕ → ℕ → ℕ → Gauge → ReadingAnswer
-readingIn t n volume b gauge =
-    pick (hasService t n)
-    (pick (inRange volume b) (reading.Read (readingOf gauge (gaugesOf (t .k) (held t n b) volume))) (reading.Refused (refusedAt no2 0)))
-    (reading.Read Absent)
+readingIn t n volume b gauge = gauged (reading.Read Absent) reading.Refused (λ g. reading.Read (readingOf gauge g)) t n volume b
 
 unfoldable pub readingAnswer : List ℕ → ℕ → ℕ → ℕ → Gauge → ReadingAnswer
 readingAnswer text n volume b gauge = answered reading.Refused 0 (readTable text) (λ t. readingIn t n volume b gauge)

@@ -25,14 +25,14 @@ use Rattle.gauges.specs.declared.answer.Reading.the-variants.{Share, Load, Abse
 use Rattle.gauges.specs.declared.answer.ReadingAnswer as reading-answer
 use Rattle.gauges.specs.declared.answer.ReadingAnswer.the-variants.{Read, Refused}
 use Rattle.gauges.proofs.Answers.{record-exact, reading-exact}
-use Rattle.gulmorzon.specs.Gauges.{nothing, ofRecord, shareMark, loadMark, absent, read, readingRefused, ofReading, noGauge, readingCalled, ExactMarked}
+use Rattle.gulmorzon.specs.Gauges.{plusZero, ofRecord, shareMark, loadMark, absent, read, readingRefused, ofReading, noGauge, readingCalled, ExactMarked}
 use Rattle.gulmorzon.specs.Inner.Unnamed.{ofUnnamed}
 use Rattle.gulmorzon.specs.declared.gauge_answer.GaugesAnswer.{GaugesAnswer}
 use Rattle.gulmorzon.specs.declared.gauge_answer.ReadingAnswer.{ReadingAnswer}
 use Rattle.gulmorzon.proofs.Promised.{not-zero}
 
 -- the code's 0.0
-pub zero-is : ofBits binary64 0 ≡ nothing
+pub zero-is : ofBits binary64 0 ≡ plusZero
 unfolding dyadic bits biasedExponent fractionField
 zero-is = rw (zero-mul (2 ^ (53 - size 0)))
 

@@ -22,14 +22,14 @@ use Rattle.gauges.specs.declared.answer.ReadingAnswer.the-variants as reading
 use Rattle.gulmorzon.specs.declared.gauge_answer.GaugesAnswer.{GaugesAnswer}
 use Rattle.gulmorzon.specs.declared.gauge_answer.ReadingAnswer.{ReadingAnswer}
 
--- plus zero
-abbrev pub nothing : Float
-nothing = dyadic 0 0
+-- the value beside a refusal, and of an absent service
+abbrev pub plusZero : Float
+plusZero = dyadic 0 0
 
 -- ---- the record
 
 abbrev pub recordRefused : Why → GaugesAnswer
-recordRefused r = record { number = numberOf (r .why); line = r .line; gauges = record { share = nothing; load = nothing } }
+recordRefused r = record { number = numberOf (r .why); line = r .line; gauges = record { share = plusZero; load = plusZero } }
 
 abbrev pub ofRecord : record-answer.GaugesAnswer → GaugesAnswer
 ofRecord (record-of.Made g) = record { number = 0; line = 0; gauges = g }
@@ -52,7 +52,7 @@ abbrev pub marked : ℕ → Float → ReadingAnswer
 marked mark value = record { number = 0; line = 0; mark = mark; value = value }
 
 abbrev pub absent : ReadingAnswer
-absent = marked absentMark nothing
+absent = marked absentMark plusZero
 
 abbrev pub read : Reading → ReadingAnswer
 read (Share x) = marked shareMark x
@@ -60,7 +60,7 @@ read (Load x) = marked loadMark x
 read Absent = absent
 
 abbrev pub readingRefused : Why → ReadingAnswer
-readingRefused r = record { number = numberOf (r .why); line = r .line; mark = 0; value = nothing }
+readingRefused r = record { number = numberOf (r .why); line = r .line; mark = 0; value = plusZero }
 
 abbrev pub ofReading : reading-answer.ReadingAnswer → ReadingAnswer
 ofReading (reading.Read x) = read x

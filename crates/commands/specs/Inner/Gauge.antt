@@ -1,5 +1,5 @@
--- What the writer of a gauge asks of it.
-use Prim.Native.Nat.{ℕ, _*_, _≤_}
+-- What the writer of a gauge asks of it, and of the buffer.
+use Prim.Native.Nat.{ℕ, _+_, _*_, _≤_}
 use mathlib.Core.Path.{_≡_}
 use lib.Ieee.{Float}
 use Rattle.numerals.specs.Limits.{mostBits, mostSuffixes, mostVolume}
@@ -12,3 +12,7 @@ pub record IsGauge (x : Float) : Type 0 where
   pub is : x ≡ dyadic count k
   pub few : count ≤ mostVolume * mostSuffixes
   pub bits : k ≤ mostBits
+
+-- the room that is asked for a gauge and its separator: 20 digits of any whole part, a dot and the decimals
+abbrev pub gaugeRoom : ℕ
+gaugeRoom = 20 + 1 + mostBits + 1

@@ -25,8 +25,8 @@ returns c =
 put-number-requires-2 : tie.Need-put-number-requires-2
 put-number-requires-2 c κs = search needs
 
-put-places-requires : tie.Need-put-places-requires
-put-places-requires c κs = search needs
+put-decimals-requires : tie.Need-put-decimals-requires
+put-decimals-requires c κs = search needs
 
 slice-write-out : tie.Need-slice-write-out
 slice-write-out c = search needs
@@ -39,7 +39,7 @@ returns-2 c =
     let n = c .before .before .before .before .before .before in
     let a = n .before .before .before .before .args in
     let v = n .put-number2 .ensures in
-    let w = c .before .before .put-places .ensures in
+    let w = c .before .before .put-decimals .ensures in
     let some : 0 < a .n % mostSuffixes = omega (arith, n .before .before) in
     (rw (dyadic-broken (a .n) mostBits some) (chain (chain (v .0) (w .0)) (byte _ _ _)), omega (arith, v .1, w .1))
 
@@ -54,7 +54,7 @@ put-dyadic-spec =
     same-length-out
     returns
     put-number-requires-2
-    put-places-requires
+    put-decimals-requires
     slice-write-out
     add-result
     same-length-2

@@ -1,8 +1,9 @@
 -- `gauging::gauge` meets its contract: the words are tested from the left, and all before the table is read.
-use Prim.Native.Nat.{_≤_}
+use Prim.Native.Nat.{_*_, _≤_}
 use mathlib.Core.Path.{sym, _∙_}
 use lib.ListN.{length}
 use borrow.Author.Needs.{needs}
+use Rattle.commands.specs.Inner.Gauge.{gaugeRoom}
 use Rattle.commands.proofs.Texts.{said, not-said}
 use Rattle.commands.proofs.GaugeWords.{no-service, no-volume, no-backend, says, said-exactly, none-exactly}
 use Rattle.commands.proofs.gauging.gauge.Statement.{statement}
@@ -67,7 +68,7 @@ returns-4 c =
     let v = b .before .before .before .before in
     let n = v .before .before .before .before in
     let a = n .before .before .before .before .before .before .before .args in
-    let room : 68 ≤ length (a .out .now) = search needs in
+    let room : 2 * gaugeRoom ≤ length (a .out .now) = search needs in
     said-exactly _ _ _ _ _ room _ _
     (said (c .measure .ensures) _
     (says _ _ _ _ _ (sym (n .before .before .read-numeral .ensures) ∙ n .number .given .1)

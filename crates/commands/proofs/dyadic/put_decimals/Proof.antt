@@ -1,4 +1,4 @@
--- `dyadic::put_places` meets its contract. The invariant: whoever writes the digits that are left has written all of them.
+-- `dyadic::put_decimals` meets its contract. The invariant: whoever writes the digits that are left has written all of them.
 use Prim.Native.Nat.{ℕ, _+_, _-_, _*_, _^_, _<_, _≤_}
 use mathlib.Core.Path.{_≡_, refl}
 use mathlib.Core.List.{List}
@@ -9,10 +9,10 @@ use Rattle.numerals.specs.Limits.{mostBits}
 use Rattle.numerals.proofs.Powers.{pow-few}
 use Rattle.sheets.specs.Inner.Writing.{Wrote}
 use Rattle.sheets.proofs.Writes.{chain, byte, nothing}
-use Rattle.commands.specs.Dyadic.{placesOf}
-use Rattle.commands.proofs.Decimals.{Left, more-bits, half, half-some, next-small, next-place, places-none}
-use Rattle.commands.proofs.dyadic.put_places.Statement.{statement}
-use Rattle.commands.proofs.dyadic.put_places.Tie as tie
+use Rattle.commands.specs.Dyadic.{decimalsOf}
+use Rattle.commands.proofs.Decimals.{Left, more-bits, half, half-some, next-small, next-decimal, decimals-none}
+use Rattle.commands.proofs.dyadic.put_decimals.Statement.{statement}
+use Rattle.commands.proofs.dyadic.put_decimals.Tie as tie
 
 abbrev Inv-loop : tie.InvT-loop
 Inv-loop out₀ at rest all₀ left₀ end₀ out all left end =
@@ -21,7 +21,7 @@ Inv-loop out₀ at rest all₀ left₀ end₀ out all left end =
     × (all ≡ 2 ^ (at + mostBits - end))
     × (left < all)
     × (length out ≡ length out₀)
-    × ((last : List ℕ) (next : ℕ) → Wrote out last end next (placesOf (at + mostBits - end) left) → Wrote out₀ last at next (placesOf mostBits rest))
+    × ((last : List ℕ) (next : ℕ) → Wrote out last end next (decimalsOf (at + mostBits - end) left) → Wrote out₀ last at next (decimalsOf mostBits rest))
 
 abbrev μ-loop : tie.MeasureT-loop
 μ-loop out₀ at rest all₀ left₀ end₀ out all left end = at + mostBits - end
@@ -70,7 +70,7 @@ loop-again c =
       rw fewer (half (left c)),
       mod-lt (l .left * 5) (half-some (left c)),
       simp length-set (l .inv .4),
-      λ last next w. l .inv .5 last next (rw (next-place (left c)) (chain (byte _ _ _) (rw fewer at w))),
+      λ last next w. l .inv .5 last next (rw (next-decimal (left c)) (chain (byte _ _ _) (rw fewer at w))),
     )
 
 same-length : tie.Need-same-length Inv-loop μ-loop
@@ -80,10 +80,10 @@ returns : tie.Need-returns Inv-loop μ-loop
 returns c =
     let l = c .before .loop in
     let none : l .left ≡ 0 = omega arith in
-    (l .inv .5 (l .out) (l .end) (rw (none, places-none) (nothing (l .out) (l .end))), l .inv .1)
+    (l .inv .5 (l .out) (l .end) (rw (none, decimals-none) (nothing (l .out) (l .end))), l .inv .1)
 
-pub put-places-spec : {M : Type 1} → statement M
-put-places-spec =
+pub put-decimals-spec : {M : Type 1} → statement M
+put-decimals-spec =
     tie.close
     (tie.spec
     Inv-loop
