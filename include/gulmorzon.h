@@ -9,7 +9,8 @@
  *   - a pointer is not null, even where the length is 0, and is aligned for its type;
  *   - it points to as many elements as the length says, each of them set;
  *   - a buffer that is written overlaps no other argument;
- *   - the thread has GULMORZON_STACK bytes of stack left.
+ *   - the thread has GULMORZON_STACK bytes of stack left;
+ *   - its rounding mode is C's default, to nearest (in another one a gauge of 0 may be -0).
  * The calls keep nothing between them and allocate nothing: threads may call at the same time.
  *
  * Texts are bytes with a length; a zero byte does not end them. Lengths of figures and table are counted in numbers.

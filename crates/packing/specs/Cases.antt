@@ -1,7 +1,7 @@
 -- The sample sheet of document 01 in numbers: granted 2 and 3, and its table and total. P7 over its text is in `specs/TwelveCases.antt` of crate `sheets`.
 use Prim.Native.Nat.{ℕ}
 use mathlib.Core.Path.{_≡_}
-use mathlib.Core.List.{[], _∷_}
+use mathlib.Core.List.{List, [], _∷_}
 use Rattle.packing.specs.Count.{Line, Services, counted}
 use Rattle.packing.specs.Table.{table, granted, oneEach}
 
@@ -18,10 +18,12 @@ sample =
 abbrev pub line : ℕ → ℕ → ℕ → ℕ → Line
 line s l v b = record { service = s; rule = record { len = l; value = v; backend = b } }
 
+-- its rule lines
+abbrev pub p7Lines : List Line
+p7Lines = line 1 1 0 2 ∷ line 1 0 0 3 ∷ line 2 2 0 2 ∷ line 2 1 0 1 ∷ line 2 0 0 3 ∷ []
+
 pub record P7 : Type 0 where
   pub first : granted sample 20000 oneEach 5 0 ≡ 2
   pub second : granted sample 20000 oneEach 5 1 ≡ 3
-  pub lines :
-      table sample 20000 (granted sample 20000 oneEach 5)
-      ≡ line 1 1 0 2 ∷ line 1 0 0 3 ∷ line 2 2 0 2 ∷ line 2 1 0 1 ∷ line 2 0 0 3 ∷ []
+  pub lines : table sample 20000 (granted sample 20000 oneEach 5) ≡ p7Lines
   pub amount : counted sample (table sample 20000 (granted sample 20000 oneEach 5)) ≡ 293333920

@@ -20,12 +20,14 @@ use Rattle.expansion.specs.Steps.{firstRule, frame, isWithin, reduction, reduct
 use Rattle.expansion.specs.Steps.{after, endOf, listOf, oldest, stair}
 use Rattle.expansion.specs.declared.rule.Ended.the-variants.{NoGain}
 use Rattle.packing.specs.Grants.{Grants, saving, next, rules, total, more, grantStep, grantsAfter, packed}
-use Rattle.packing.specs.Count.{services, volume, targetsOf, countedImbalance, counted, countedLargestExcess, countedLargestShortfall, ownRules}
+use Rattle.expansion.specs.declared.rule.Rule.{Rule}
+use Rattle.packing.specs.Count.{Line, services, volume, targetsOf, countedImbalance, counted, countedLargestExcess, countedLargestShortfall, ownRules}
 use Rattle.packing.specs.Table.{ruleBudget, frameOf, listFor, linesOf, tableOf, table, problem, granted, oneEach}
-use Rattle.packing.specs.Answer.{numbered, linesMade, figuresTo, figuresMade, figuresBuffer, tableBuffer}
+use Rattle.packing.specs.Answer.{numbered, linesMade, endNumber, figuresTo, figuresMade, figuresBuffer, tableBuffer}
 use Rattle.packing.specs.Demand.{Fitting}
 use Rattle.expansion.specs.Answer.{inLimits}
-use Rattle.packing.specs.Cases.{line}
+use Rattle.packing.specs.Cases.{line, sample as packable, p7Lines}
+use Rattle.packing.proofs.Cases.{lists, lists-are, packs-sample}
 use Rattle.sheets.specs.Reading.{Reading, got, refused, then, unless, onField, same}
 use Rattle.sheets.specs.PercentageSheet.{Sheet, weightFields, sum, serviceFields, serviceLines, volumesOf, weightsOf as rowsOf, whole}
 use Rattle.sheets.specs.PercentageSheet.{sheetLine, readSheet}
@@ -54,8 +56,7 @@ sample =
     }
 
 abbrev sampleTable : Table
-sampleTable =
-    record { k = 5; total = 293333920; lines = line 1 1 0 2 ∷ line 1 0 0 3 ∷ line 2 2 0 2 ∷ line 2 1 0 1 ∷ line 2 0 0 3 ∷ [] }
+sampleTable = record { k = 5; total = 293333920; lines = p7Lines }
 
 abbrev sheetBytes : List ℕ
 sheetBytes = bytes "SHEET 5 2 5\nSERVICE 55 16.6667 33.3333 50\nSERVICE 45 25 25 50\n"
@@ -65,12 +66,11 @@ tableBytes = bytes "TABLE 5 5 293333920\n1 *0 2\n1 * 3\n2 *00 2\n2 *0 1\n2 * 3\n
 
 -- the sample's table, by the definitions
 pub sample-packed : tableFor sample ≡ sampleTable
-unfolding tableFor servicesIn unit sumTo listTo countTo allTo firstTo argmax lastmax matches firstMatch gives share backends label weight has
-    wants excess shortfall imbalance giver receiver largestExcess largestShortfall firstRule frame isWithin reduction reductionAt term
-    isNoGain isWhole termLength lowestPlace newRule step after listOf oldest stair place value valueFrom lowest saving next rules total
-    more grantStep grantsAfter packed services volume targetsOf ruleBudget frameOf listFor problem granted linesOf tableOf table linesMade
-    numbered
-sample-packed = refl
+unfolding tableFor services volume servicesIn numbered unit listTo linesMade table problem granted
+sample-packed = made (packs-sample .amount) (packs-sample .lines)
+  where
+    made : {t : ℕ} {ls : List Line} → t ≡ 293333920 → ls ≡ p7Lines → record { k = 5; total = t; lines = ls } ≡ sampleTable
+    made e f = rw (e, f)
 
 -- its text, byte for byte
 sample-written : tableText sampleTable ≡ tableBytes
@@ -156,13 +156,22 @@ thirds-tight = record { made = refl; entire = refl; ended = refl; above = refl; 
 abbrev sampleFigures : List ℕ
 sampleFigures = 2 ∷ 4 ∷ 0 ∷ 3 ∷ 3 ∷ 0 ∷ []
 
+-- by the grants and the lists of both services
+abbrev figures : ℕ → ℕ → List Rule → List Rule → List ℕ
+figures g h own other =
+    g ∷ length own ∷ endNumber (endOf (frameOf packable 20000 0) own) ∷ h ∷ length other ∷ endNumber (endOf (frameOf packable 20000 1) other) ∷ []
+
+figures-right : figures 2 3 (lists 0) (lists 1) ≡ sampleFigures
+unfolding sumTo countTo allTo argmax lastmax matches firstMatch gives share backends label weight has wants excess shortfall giver receiver
+    largestExcess largestShortfall frame isWithin reduction reductionAt term isNoGain endOf targetsOf frameOf
+figures-right = refl
+
 pub sample-figures : figuresFor sample ≡ sampleFigures
-unfolding figuresFor figuresMade figuresTo servicesIn unit sumTo listTo countTo allTo firstTo argmax lastmax matches firstMatch gives share
-    backends label weight has wants excess shortfall imbalance giver receiver largestExcess largestShortfall firstRule frame isWithin
-    reduction reductionAt term isNoGain isWhole termLength lowestPlace newRule step after endOf listOf oldest stair place value valueFrom
-    lowest saving next rules total more grantStep grantsAfter packed services volume targetsOf ruleBudget frameOf listFor problem granted
-    numbered
-sample-figures = refl
+unfolding figuresFor figuresMade figuresTo services volume servicesIn numbered unit listTo problem granted
+sample-figures = made (packs-sample .first) (packs-sample .second) (lists-are 0) (lists-are 1)
+  where
+    made : {g h : ℕ} {own other : List Rule} → g ≡ 2 → h ≡ 3 → own ≡ lists 0 → other ≡ lists 1 → figures g h own other ≡ sampleFigures
+    made a b c d = rw (a, b, c, d) figures-right
 
 pub record OneCall : Type 0 where
   pub made : planAnswer sheetBytes 6 20 ≡ planned.Made (record { k = 5; services = 2; rules = 5; total = 293333920 })
