@@ -21,7 +21,7 @@ use Rattle.commands.specs.Refused.{refusedText}
 use Rattle.commands.specs.Numeral.{numeral}
 use Rattle.commands.specs.Dyadic.{dyadicText, DecimalOf}
 
--- the text of a finite float that isn't negative, m × 2^e; no gauge is another float, and those have the empty text
+-- the text of a finite float that isn't negative, m × 2^e: every gauge is one. Any other float has the empty text
 unfoldable pub floatText : Float → List ℕ
 floatText nan = []
 floatText (inf s) = []

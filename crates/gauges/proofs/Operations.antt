@@ -16,7 +16,6 @@ use borrow.Author.Tests.{ne-eqb}
 use Rattle.numerals.specs.Limits.{mostBits, mostSuffixes, mostVolume}
 use Rattle.gauges.specs.Binary64.{dyadic}
 use Rattle.gauges.specs.Gauges.{gaugesOf}
-use Rattle.gauges.specs.declared.answer.Gauges.{Gauges}
 use Rattle.gauges.proofs.Fractions.{dyadic-value, round-dyadic}
 
 -- a whole number up to 2^53 as a float

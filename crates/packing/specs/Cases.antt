@@ -18,7 +18,7 @@ sample =
 abbrev pub line : ℕ → ℕ → ℕ → ℕ → Line
 line s l v b = record { service = s; rule = record { len = l; value = v; backend = b } }
 
--- its rule lines
+-- the sample's rule lines, in the order of the rule sheet
 abbrev pub p7Lines : List Line
 p7Lines = line 1 1 0 2 ∷ line 1 0 0 3 ∷ line 2 2 0 2 ∷ line 2 1 0 1 ∷ line 2 0 0 3 ∷ []
 

@@ -13,6 +13,6 @@ pub record IsGauge (x : Float) : Type 0 where
   pub few : count ≤ mostVolume * mostSuffixes
   pub bits : k ≤ mostBits
 
--- the room that is asked for a gauge and its separator: 20 digits of any whole part, a dot and the decimals
+-- the room that is asked for a gauge and its separator: up to 20 digits of a whole part (any u64), a dot, the decimals, the separator
 abbrev pub gaugeRoom : ℕ
 gaugeRoom = 20 + 1 + mostBits + 1
