@@ -33,7 +33,7 @@ use denote.Index.{row, others, place-is, elem-out, elem-put, opens-slice, closes
 use denote.Memory.{shares}
 use denote.Steps.{owned}
 use denote.Struct.Laws as LL
-use Rattle.expansion.specs.Inner.Ledger.{noBackend}
+use Rattle.expansion.specs.KeptShares.{noBackend}
 use Rattle.expansion.specs.declared.ledger.Backend.{Backend}
 use Rattle.expansion.proofs.ledger.Backend as B
 use Rattle.expansion.proofs.ledger.Backend.Laws as B′

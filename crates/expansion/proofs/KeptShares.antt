@@ -16,8 +16,8 @@ use Rattle.expansion.specs.Imbalance.{backends, label, weight, has, want
 use Rattle.expansion.specs.Steps.{isWithin, reduction, reductionAt, term, isNoGain, Frame}
 use Rattle.expansion.specs.Inner.Sound.{Sound}
 use Rattle.numerals.specs.Limits.{mostBits, mostSuffixes, unit}
-use Rattle.expansion.specs.Inner.Ledger.{over, under, Small, noBackend, entryAt, errorAt, entryOf, changedBy, movedOf, Changeable, Movable}
-use Rattle.expansion.specs.Inner.Ledger.{largestOf, Keeps}
+use Rattle.expansion.specs.KeptShares.{noBackend, entryAt, entryOf, Keeps}
+use Rattle.expansion.specs.Inner.Ledger.{over, under, Small, errorAt, changedBy, movedOf, Changeable, Movable, largestOf}
 use Rattle.expansion.specs.Inner.Terms.{nextFor, nextOf}
 use Rattle.expansion.specs.declared.rule.Rule.{Rule}
 use Rattle.expansion.specs.declared.rule.Ended.the-variants.{Within, NoGain}
@@ -136,6 +136,12 @@ module _ (F : Frame) (rs : List Rule) (L : Ledger) (K : Keeps (F .targets) rs L)
         ≡ nextBy F rs
     kept-next = next-kept ∙ cc (same, kept-giver, kept-receiver, largest-over, largest-under) ∙ next-defined
 
+-- a move changes no entry but those of giver and receiver
+pub moved-other : (es : List Backend) (g r c b : ℕ) → b ≢ g → b ≢ r → getD (movedOf es g r c) b noBackend ≡ getD es b noBackend
+moved-other es g r c b d e =
+    getD-set-other (set es g (changedBy (getD es g noBackend) c 0)) r b (changedBy (getD es r noBackend) 0 c) noBackend e
+    ∙ getD-set-other es g b (changedBy (getD es g noBackend) c 0) noBackend d
+
 -- c suffixes went from g to r
 module _ (F : Frame) (rs rs′ : List Rule) (L M : Ledger) (K : Keeps (F .targets) rs L) (same : F .targets .unit ≡ unit) (g r c : ℕ) (apart : g ≢ r)
     (gave : share (F .targets .k) rs′ (label (F .targets) g) + c ≡ share (F .targets .k) rs (label (F .targets) g))
@@ -175,8 +181,7 @@ module _ (F : Frame) (rs rs′ : List Rule) (L M : Ledger) (K : Keeps (F .target
   at-other : (b : ℕ) → b < backends (F .targets) → b ≢ g → b ≢ r → entryAt M b ≡ entry rs′ b
   at-other b l d e =
       now b
-      ∙ getD-set-other mid r b (changedBy (entryAt L r) 0 c) noBackend e
-      ∙ getD-set-other (L .at) g b (changedBy (entryAt L g) c 0) noBackend d
+      ∙ moved-other (L .at) g r c b d e
       ∙ before b l
       ∙ ap (entryOf unit (F .targets .k) (weight (F .targets) b)) (sym (other b l d e))
 

@@ -13,6 +13,7 @@ pub mod Shape
 pub mod Base
 pub mod Signed
 pub mod KeptShares
+pub mod KeptAlong
 pub mod Surveys
 pub mod Nodes
 pub mod Holdings

@@ -15,7 +15,8 @@ use Rattle.expansion.specs.Imbalance.{backends, label, giver, receiver, 
 use Rattle.expansion.specs.Steps.{Frame, reduction, isWithin, isNoGain, term, termLength, lowestPlace, newRule, step, endOf}
 use Rattle.expansion.specs.Inner.Sound.{Sound}
 use Rattle.numerals.specs.Limits.{mostBackends, unit}
-use Rattle.expansion.specs.Inner.Ledger.{over, movedOf, Movable, Keeps}
+use Rattle.expansion.specs.KeptShares.{Keeps}
+use Rattle.expansion.specs.Inner.Ledger.{over, movedOf, Movable}
 use Rattle.expansion.specs.Inner.Terms.{nextFor}
 use Rattle.expansion.specs.Inner.Holders.{Holds, Given, lowered, nodeOf}
 use Rattle.expansion.specs.Inner.Run.{Fits}

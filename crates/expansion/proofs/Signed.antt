@@ -14,7 +14,8 @@ use mir.Facts.{toZ-ofZ, toZ-pos}
 use borrow.Author.Needs.{sfits-of}
 use borrow.Author.Tests.{ltb-true, ltb-false, le-ltb}
 use Rattle.numerals.specs.Limits.{mostSuffixes, mostBits, unit}
-use Rattle.expansion.specs.Inner.Ledger.{over, under, side, Small, entryOf, changedBy}
+use Rattle.expansion.specs.KeptShares.{entryOf}
+use Rattle.expansion.specs.Inner.Ledger.{over, under, side, Small, changedBy}
 use Rattle.numerals.proofs.Powers.{pow-few, shifted}
 
 -- the sides of a number

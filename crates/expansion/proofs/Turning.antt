@@ -19,7 +19,8 @@ use Rattle.expansion.specs.FirstMatch.{nobody, firstMatch, gives, share}
 use Rattle.expansion.specs.Imbalance.{backends, label, weight, imbalance}
 use Rattle.expansion.specs.Steps.{Frame, firstRule, frame, newRule, after, endOf, stair, listOf}
 use Rattle.numerals.specs.Limits.{mostBackends, mostRules, mostSuffixes, unit}
-use Rattle.expansion.specs.Inner.Ledger.{over, Small, entryAt, errorAt, entryOf, Keeps}
+use Rattle.expansion.specs.KeptShares.{noBackend, entryAt, entryOf, Keeps, OthersStay, SharesKept}
+use Rattle.expansion.specs.Inner.Ledger.{over, Small, errorAt}
 use Rattle.expansion.specs.Inner.Terms.{nextOf}
 use Rattle.expansion.specs.Inner.Holders.{Holds, lowered, nodeOf, Handed}
 use Rattle.expansion.specs.Inner.Lists.{noRule, newestFirst, Listed}
@@ -27,6 +28,7 @@ use Rattle.expansion.specs.Inner.Run.{Valid, Fits, Shared, inBudget, Sta
 use Rattle.expansion.specs.declared.rule.Rule.{Rule}
 use Rattle.expansion.specs.declared.rule.Ended.{Ended}
 use Rattle.expansion.specs.declared.rule.Ended.the-variants.{Budget}
+use Rattle.expansion.specs.declared.ledger.Backend.{Backend}
 use Rattle.expansion.specs.declared.ledger.Ledger.{Ledger}
 use Rattle.expansion.specs.declared.list.RuleList.{RuleList}
 use Rattle.expansion.specs.declared.run.State.{State}
@@ -38,8 +40,9 @@ use Rattle.expansion.proofs.Moves.{term-falls}
 use Rattle.expansion.proofs.Turns.{Going, after-suc, step-moves, listed, ended-budget, good-after, oldest-after}
 use Rattle.expansion.proofs.Base.{star-share}
 use Rattle.expansion.proofs.Checks.{first-lt}
-use Rattle.expansion.proofs.KeptShares.{moveOf, nextBy, kept-small, kept-imbalance, kept-next}
-use Rattle.expansion.proofs.Listing.{newest-more}
+use Rattle.expansion.proofs.KeptShares.{moveOf, nextBy, kept-small, kept-imbalance, kept-next, moved-other}
+use Rattle.expansion.proofs.KeptAlong.{kept-move}
+use Rattle.expansion.proofs.Listing.{length-newest, newest-more}
 use Rattle.expansion.proofs.NextMove.{next-stop, next-go, movedBy, Feasible, feasible}
 
 -- a move in the budget
@@ -99,6 +102,9 @@ module _ (F : Frame) (fits : Fits F) where
         next = t;
       }
 
+  pub listed-count : (x : ℕ) (list : RuleList) → Listed F x list → list .count ≡ length (after F x)
+  listed-count x list L = sym (length-newest (list .rules) (list .count)) ∙ ap length (L .rules)
+
   -- the list with one more rule
   pub listed-more : (x : ℕ) (list : RuleList) (r : Rule) (sum : ℕ) → Listed F x list
       → list .count < mostRules → length (list .rules) ≡ mostRules → length (list .stairs) ≡ mostRules
@@ -139,7 +145,7 @@ module _ (F : Frame) (x : ℕ) (holder low : List ℕ) (st : State) (S : Stands 
     made : (budget : ℕ) → list .count ≤ budget
         → listOf F budget ≡ after F x
         → (e : Ended) → endOf F (after F x) ≡ e
-        → Made F budget (record { list = list; ended = e })
+        → Made F budget (record { list = list; ended = e; kept = st .ledger })
     unfolding stair listOf
     made budget l is e end =
         record {
@@ -156,13 +162,13 @@ module _ (F : Frame) (x : ℕ) (holder low : List ℕ) (st : State) (S : Stands 
         }
 
     made-stopped : (budget : ℕ) → list .count ≤ budget → (e : Ended) → st .next ≡ Stop e
-        → Made F budget (record { list = list; ended = e })
+        → Made F budget (record { list = list; ended = e; kept = st .ledger })
     made-stopped budget l e n =
         let h = next-stop F (after F x) e (sym stands-next ∙ n) in
         made budget l (listed F x budget (omega (arith, L .count)) (h .0)) e (h .1)
 
     made-spent : (budget : ℕ) → list .count ≡ budget → (m : Move) → st .next ≡ Go m
-        → Made F budget (record { list = list; ended = Budget })
+        → Made F budget (record { list = list; ended = Budget; kept = st .ledger })
     unfolding listOf
     made-spent budget l m n =
         let h = next-go F (after F x) m (sym stands-next ∙ n) in
@@ -171,19 +177,19 @@ module _ (F : Frame) (x : ℕ) (holder low : List ℕ) (st : State) (S : Stands 
 
     -- where the run ends, its list is that of the budget
     pub made-ended : (budget : ℕ) → list .count ≤ budget → (e : Ended) → inBudget (st .next) (list .count) budget ≡ Stop e
-        → Made F budget (record { list = list; ended = e })
+        → Made F budget (record { list = list; ended = e; kept = st .ledger })
     made-ended budget l e n = go (st .next) refl n
       where
         spent : (m : Move) → st .next ≡ Go m → (t : Bool) → ltb (list .count) budget ≡ t → pick t (Go m) (Stop Budget) ≡ Stop e
-            → Made F budget (record { list = list; ended = e })
+            → Made F budget (record { list = list; ended = e; kept = st .ledger })
         spent m p true r q = absurd (let z : _≡_ {A = ℕ} 0 1 = cc in omega arith)
         spent m p false r q =
             let is : Budget ≡ e = cc in
-            subst (λ (o : Ended). Made F budget (record { list = list; ended = o })) is
+            subst (λ (o : Ended). Made F budget (record { list = list; ended = o; kept = st .ledger })) is
             (made-spent budget (omega (arith, ltb-false (list .count) budget r)) m p)
 
         go : (o : Next) → st .next ≡ o → inBudget o (list .count) budget ≡ Stop e
-            → Made F budget (record { list = list; ended = e })
+            → Made F budget (record { list = list; ended = e; kept = st .ledger })
         go (Stop f) p q = made-stopped budget l e (p ∙ q)
         go (Go m) p q = spent m p (ltb (list .count) budget) refl q
 
@@ -224,6 +230,23 @@ module _ (F : Frame) (x : ℕ) (holder low : List ℕ) (st : State) (S : Stands 
               ∙ ap (λ (r : Rule). r ∷ after F x)
               (sym (ap (λ (o : ℕ). record { len = F .targets .k - m .index; value = o; backend = label (F .targets) (m .receiver) }) v ∙ feasible-go .rule));
         }
+
+    -- shares are kept at the move
+    others-go : (M : Ledger) → M .at ≡ movedBy (st .ledger) m → OthersStay (F .targets) (after F x) (st .ledger) M
+    unfolding moveOf
+    others-go M e =
+        record {
+          entries = λ b g r.
+              ap (λ (es : List Backend). getD es b noBackend) e
+              ∙ moved-other (st .ledger .at) (m .giver) (m .receiver) (2 ^ m .index) b
+              (λ i. g (i ∙ ap (λ (o : Move). o .giver) (going .1))) (λ i. r (i ∙ ap (λ (o : Move). o .receiver) (going .1)));
+        }
+
+    pub kept-go : (M : Ledger) → M .at ≡ movedBy (st .ledger) m → (r : Rule) → Adds F x r
+        → SharesKept (F .targets) (r ∷ after F x) (length (after F x)) (st .ledger) M
+    kept-go M e r adds =
+        kept-move (F .targets) (after F x) r (st .ledger) M (S .keeps)
+        (subst (λ (xs : List Rule). Keeps (F .targets) xs M) (sym after-go ∙ adds .rules) (feasible-go .moved M e)) (others-go M e)
 
     pub stands-moved : (value : ℕ) (holder′ low′ : List ℕ) → Handed (F .targets .k) m value holder low holder′ low′
         → (M : Ledger) → M .at ≡ movedBy (st .ledger) m

@@ -1,14 +1,17 @@
 -- Worked cases of the expansion: P1 to P6 of document 01 ("Figures to try"), and figure 3(b) of the paper.
-use Prim.Native.Nat.{ℕ, suc}
+use Prim.Native.Nat.{ℕ, suc, _-_}
 use mathlib.Core.List.{List, [], _∷_}
 use mathlib.Core.Path.{_≡_}
-use lib.ListN.{length}
+use lib.IntN.{ℤ, pos, negℤ}
+use lib.ListN.{length, getD}
 use Rattle.numerals.specs.Limits.{mostRules}
 use Rattle.numerals.specs.Sums.{listTo}
 use Rattle.expansion.specs.Steps.{frame, endOf, listOf, stairsTo, Frame}
 use Rattle.expansion.specs.declared.rule.Rule.{Rule}
 use Rattle.expansion.specs.declared.rule.Ended.{Ended}
 use Rattle.expansion.specs.declared.rule.Ended.the-variants.{Within, NoGain}
+use Rattle.expansion.specs.declared.ledger.Backend.{Backend}
+use Rattle.expansion.specs.declared.ledger.Ledger.{Ledger}
 
 pub record Worked : Type 0 where
   pub given : Frame
@@ -100,3 +103,19 @@ figure3b =
 
 abbrev pub worked : List Worked
 worked = p1 ∷ p2 ∷ p3 ∷ p4 ∷ p5 ∷ p6 ∷ figure3b ∷ []
+
+-- P1's ledger after 1, 2, 3 and 4 rules. The third backend gives `*0` to the second, which gives `*000` and then `*00100` to the first: whoever has
+-- neither given nor received keeps its entry.
+abbrev entry : ℕ → ℕ → ℤ → Backend
+entry w a e = record { weight = w; share = a; error = e }
+
+abbrev pub p1-entries : List (List Backend)
+p1-entries =
+    (entry 166667 0 (negℤ (pos 5333344)) ∷ entry 333333 0 (negℤ (pos 10666656)) ∷ entry 500000 32 (pos 16000000) ∷ [])
+    ∷ (entry 166667 0 (negℤ (pos 5333344)) ∷ entry 333333 16 (pos 5333344) ∷ entry 500000 16 (pos 0) ∷ [])
+    ∷ (entry 166667 4 (negℤ (pos 1333344)) ∷ entry 333333 12 (pos 1333344) ∷ entry 500000 16 (pos 0) ∷ [])
+    ∷ (entry 166667 5 (negℤ (pos 333344)) ∷ entry 333333 11 (pos 333344) ∷ entry 500000 16 (pos 0) ∷ [])
+    ∷ []
+
+abbrev pub p1-ledger : ℕ → Ledger
+p1-ledger c = record { at = getD p1-entries (c - 1) [] }

@@ -6,6 +6,7 @@ ghost use Prim.Native.Nat.{ℕ, _≤_, _<_};
 ghost use lib.IntN.{pos};
 ghost use lib.ListN.{length, getD};
 ghost use Rattle.numerals.specs.Limits.{mostBits, mostSuffixes, mostBackends, unit};
+ghost use Rattle.expansion.specs.KeptShares.{entryAt, entryOf};
 ghost use Rattle.expansion.specs.Inner.Ledger as kept;
 
 // The ledger goes by value, so an entry is no wider than it must be.
@@ -35,7 +36,7 @@ pub struct Survey {
 // A backend that holds `share` of the 2^k suffixes.
 pub fn entry(weight: u64, share: u64, k: usize) -> Backend
     requires { ⌜ (k ≤ mostBits) × ((share ≤ mostSuffixes) × (weight ≤ unit)) ⌝ }
-    ensures { λ r. ⌜ r ≡ kept.entryOf unit k weight share ⌝ }
+    ensures { λ r. ⌜ r ≡ entryOf unit k weight share ⌝ }
 {
     Backend {
         weight: weight as u32,
@@ -48,8 +49,8 @@ pub fn entry(weight: u64, share: u64, k: usize) -> Backend
 pub fn opened(weights: &[u64], shares: &[u64], k: usize) -> Ledger
     requires { ⌜ (k ≤ mostBits) × ((length (now weights) ≤ mostBackends) × (length (now weights) ≤ length (now shares))) ⌝ }
     requires { ⌜ ((b : ℕ) → b < length (now weights) → (getD (now weights) b 0 ≤ unit) × (getD (now shares) b 0 ≤ mostSuffixes)) ⌝ }
-    ensures { λ r. ⌜ ((b : ℕ) → b < length (now (weights .entry)) → kept.entryAt r b
-        ≡ kept.entryOf unit k (getD (now (weights .entry)) b 0) (getD (now (shares .entry)) b 0)) ⌝ }
+    ensures { λ r. ⌜ ((b : ℕ) → b < length (now (weights .entry)) → entryAt r b
+        ≡ entryOf unit k (getD (now (weights .entry)) b 0) (getD (now (shares .entry)) b 0)) ⌝ }
 {
     let mut ledger = Ledger {
         at: [entry(0, 0, 0); MOST_BACKENDS],

@@ -7,26 +7,29 @@ use crate::rule::Move;
 use crate::rule::Rule;
 use numerals::MOST_BACKENDS;
 use numerals::MOST_SUFFIXES;
-ghost use mathlib.Core.List.{List};
+ghost use mathlib.Core.List.{List, _∷_};
 ghost use mathlib.Core.Path.{_≡_};
 ghost use Prim.Native.Nat.{ℕ, suc, _≤_, _<_};
 ghost use lib.ListN.{length, getD};
 ghost use Rattle.numerals.specs.Limits.{mostBits, mostBackends, mostRules, mostSuffixes, unit};
 ghost use Rattle.numerals.specs.Suffix.{Places};
 ghost use Rattle.numerals.specs.Sums.{listTo, argmax};
-ghost use Rattle.expansion.specs.Steps.{frame};
+ghost use Rattle.expansion.specs.Steps.{frame, after, listOf};
+ghost use Rattle.expansion.specs.KeptShares.{SharesKept};
 ghost use Rattle.expansion.specs.Answer.{frameMade};
 ghost use Rattle.expansion.specs.declared.rule.Rule as rule;
+ghost use Rattle.expansion.specs.declared.ledger.Ledger as ledger;
 ghost use Rattle.expansion.specs.Inner.Ledger.{Sized};
 ghost use Rattle.expansion.specs.Inner.Terms.{nextFor};
 ghost use Rattle.expansion.specs.Inner.Holders.{Holds};
 ghost use Rattle.expansion.specs.Inner.Lists.{Listed};
 ghost use Rattle.expansion.specs.Inner.Run.{framed, Valid, Fits, Shared, inBudget, Stands, Adds, Made};
 
-// A list, and how it ended.
+// A list, how it ended, and the ledger kept after its last rule.
 pub struct Run {
     pub list: RuleList,
     pub ended: Ended,
+    pub kept: Ledger,
 }
 
 // The ledger after the rules so far, the newest of them, the imbalance after them, and what comes next.
@@ -100,7 +103,7 @@ fn advance(
     requires { ⌜ Places mostBits (now places) × (state .next ≡ Next.Go m) ⌝ }
     ensures { λ r. ⌜ ((cap x : ℕ) (start : List rule.Rule) → let F = framed k cap tolerance (now (labels .entry)) (now (weights .entry)) start
         in Stands F x (now (holder .entry)) (now (low .entry)) state → Stands F (suc x) (now (holder .exit)) (now (low .exit)) r
-        × Adds F x (r .rule)) ⌝ }
+        × Adds F x (r .rule) × SharesKept (F .targets) (r .rule ∷ after F x) (length (after F x)) (state .ledger) (r .ledger)) ⌝ }
 {
     let receiver = m.receiver;
     let label = labels[receiver];
@@ -180,7 +183,8 @@ fn go_on(
         in Stands F x (now holder) (now low) state × Listed F x list) ⌝ }
     requires { ⌜ (list .count ≤ budget) × ((budget ≤ mostRules) × Places mostBits (now places)) ⌝ }
     ensures { λ r. ⌜ ((cap x : ℕ) (start : List rule.Rule) → let F = framed k cap tolerance (now (labels .entry)) (now (weights .entry)) start
-        in Stands F x (now (holder .entry)) (now (low .entry)) state → Listed F x list → Made F budget r) ⌝ }
+        in Stands F x (now (holder .entry)) (now (low .entry)) state → Listed F x list → Made F budget r
+        × SharesKept (F .targets) (listOf F budget) (list .count) (state .ledger) (r .kept)) ⌝ }
 {
     loop {
         let n = list.count;
@@ -188,7 +192,8 @@ fn go_on(
         let next = in_budget(wanted, n, budget);
         match next {
             Next::Stop(ended) => {
-                return Run { list, ended };
+                let kept = state.ledger;
+                return Run { list, ended, kept };
             }
             Next::Go(m) => {
                 state = advance(holder, low, places, state, labels, weights, k, tolerance, m);
@@ -204,7 +209,9 @@ fn go_on(
 // The list of a budget, for numbers that were checked. Step 1: everything goes to the largest weight.
 fn make_list(k: usize, tolerance: u64, budget: usize, labels: &[usize], weights: &[u64]) -> Run
     requires { ⌜ Valid k tolerance (now labels) (now weights) × ((1 ≤ budget) × (budget ≤ mostRules)) ⌝ }
-    ensures { λ r. ⌜ Made (frame k unit tolerance (now (labels .entry)) (now (weights .entry))) budget r ⌝ }
+    ensures made { λ r. ⌜ Made (frame k unit tolerance (now (labels .entry)) (now (weights .entry))) budget r ⌝ }
+    ensures kept { λ r. ⌜ (let F = frame k unit tolerance (now (labels .entry)) (now (weights .entry))
+        in (L : ledger.Ledger) × SharesKept (F .targets) (listOf F budget) 1 L (r .kept)) ⌝ }
 {
     let places = numerals::all_places();
     let first = heaviest(weights);
@@ -243,7 +250,9 @@ fn numbers() -> [usize; MOST_BACKENDS]
 // The list of backends that are labelled by their number.
 pub fn make_numbered(k: usize, tolerance: u64, budget: usize, weights: &[u64]) -> Run
     requires { ⌜ Valid k tolerance (listTo (length (now weights)) suc) (now weights) × ((1 ≤ budget) × (budget ≤ mostRules)) ⌝ }
-    ensures { λ r. ⌜ Made (frameMade k tolerance (now (weights .entry))) budget r ⌝ }
+    ensures made { λ r. ⌜ Made (frameMade k tolerance (now (weights .entry))) budget r ⌝ }
+    ensures kept { λ r. ⌜ (let F = frameMade k tolerance (now (weights .entry))
+        in (L : ledger.Ledger) × SharesKept (F .targets) (listOf F budget) 1 L (r .kept)) ⌝ }
 {
     let labels = numbers();
     let n = weights.len();

@@ -1,16 +1,14 @@
--- The ledger that the program keeps: each share and error is that of the count by first match.
+-- The ledger that the program keeps (specs/KeptShares): its errors, the moves in it and the survey of it.
 use Prim.Native.Nat.{ℕ, suc, _+_, _-_, _*_, _^_, _≤_, _<_}
 use mathlib.Core.Path.{_≡_}
 use mathlib.Core.Bool.{Bool, true, false}
 use mathlib.Core.List.{List}
-use lib.IntN.{ℤ, pos, negsuc, subℕ, _+ℤ_, _-ℤ_}
+use lib.IntN.{ℤ, pos, negsuc, _+ℤ_, _-ℤ_}
 use lib.Signed.{mag}
 use lib.ListN.{length, getD, set}
 use Rattle.numerals.specs.Limits.{mostSuffixes, unit}
 use Rattle.numerals.specs.Sums.{sumTo, argmax}
-use Rattle.expansion.specs.FirstMatch.{share}
-use Rattle.expansion.specs.Imbalance.{Targets, backends, label, weight}
-use Rattle.expansion.specs.declared.rule.Rule.{Rule}
+use Rattle.expansion.specs.KeptShares.{noBackend, entryAt}
 use Rattle.expansion.specs.declared.ledger.Backend.{Backend}
 use Rattle.expansion.specs.declared.ledger.Ledger.{Ledger}
 use Rattle.expansion.specs.declared.ledger.Extreme.{Extreme}
@@ -34,22 +32,8 @@ side true z = under z
 pub record Small (z : ℤ) : Type 0 where
   pub small : mag z < 2 ^ 50
 
-abbrev pub noBackend : Backend
-noBackend = record { weight = 0; share = 0; error = pos 0 }
-
-abbrev pub entryAt : Ledger → ℕ → Backend
-entryAt L b = getD (L .at) b noBackend
-
 abbrev pub errorAt : Ledger → ℕ → ℤ
 errorAt L b = (entryAt L b) .error
-
--- the entry of a backend with this weight and share
-unfoldable pub entryOf : ℕ → ℕ → ℕ → ℕ → Backend
-entryOf unit k w a = record { weight = w; share = a; error = subℕ (a * unit) (w * 2 ^ k) }
-
--- the ledger after the rules rs: at each backend its weight, its share by first match and its error
-pub record Keeps (T : Targets) (rs : List Rule) (L : Ledger) : Type 0 where
-  pub entries : (b : ℕ) → b < backends T → entryAt L b ≡ entryOf (T .unit) (T .k) (weight T b) (share (T .k) rs (label T b))
 
 -- a backend that lost some suffixes and gained others
 unfoldable pub changedBy : Backend → ℕ → ℕ → Backend

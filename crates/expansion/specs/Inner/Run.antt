@@ -11,7 +11,7 @@ use Rattle.expansion.specs.FirstMatch.{nobody, share}
 use Rattle.expansion.specs.Imbalance.{backends, label, imbalance}
 use Rattle.expansion.specs.Steps.{Frame, after, endOf, listOf, stair}
 use Rattle.expansion.specs.Inner.Sound.{Distinct, Labelled, Sound}
-use Rattle.expansion.specs.Inner.Ledger.{Keeps}
+use Rattle.expansion.specs.KeptShares.{Keeps}
 use Rattle.expansion.specs.Inner.Terms.{nextOf}
 use Rattle.expansion.specs.Inner.Holders.{Holds}
 use Rattle.expansion.specs.Inner.Lists.{newestFirst}

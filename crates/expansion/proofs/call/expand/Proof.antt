@@ -87,7 +87,7 @@ returns-2 c =
     let a = s .args in
     let m = list-of h in (
       sym
-          (answer-short (a .k) (a .tolerance) (a .budget) (a .weights .now) (m .make-numbered .result) (m .make-numbered .ensures)
+          (answer-short (a .k) (a .tolerance) (a .budget) (a .weights .now) (m .make-numbered .result) (m .make-numbered .ensures .0)
           (a .at) (room s) (passed (m .before)) (sym (room-is h) ∙ not-true _ (c .if1 .taken))),
       (refl, (refl, (refl, refl))),
     )
@@ -102,7 +102,7 @@ copy-out-requires : tie.Need-copy-out-requires
 copy-out-requires c κs =
     let e = c .before .before .before .before in
     let f = fits e in
-    (list-of (e .before) .make-numbered .ensures .few-rules, (omega arith, (omega arith, (omega arith, omega arith))))
+    (list-of (e .before) .make-numbered .ensures .0 .few-rules, (omega arith, (omega arith, (omega arith, omega arith))))
 
 same-length : tie.Need-same-length
 same-length c = search needs
@@ -131,7 +131,7 @@ returns-3 c =
     let a = s .args in
     let m = list-of (e .before) in
     let r = m .make-numbered .result in
-    let M = m .make-numbered .ensures in
+    let M = m .make-numbered .ensures .0 in
     let rules : r .list .count ≤ length (r .list .rules) = omega (arith, rules-long m, M .few-rules) in
     let stairs : r .list .count ≤ length (r .list .stairs) = omega (arith, stairs-long m, M .few-rules) in
     let column : (f : Rule → ℕ)

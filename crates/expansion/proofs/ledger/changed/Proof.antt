@@ -1,6 +1,6 @@
 -- `ledger::changed`: neither the parts nor the errors are large.
-use Prim.Native.Nat.{_*_, _^_, _≤_, _<_}
-use mathlib.Core.Path.{_≡_}
+use Prim.Native.Nat.{ℕ, _*_, _^_, _≤_, _<_}
+use mathlib.Core.Path.{_≡_, ap}
 use native.Mathlib.Omega.{arith}
 use lib.IntN.{ℤ, pos, _+ℤ_, _-ℤ_}
 use lib.Signed.{mag}
@@ -72,9 +72,13 @@ add-t13 : tie.Need-add-t13
 unfolding unit
 add-t13 c = rw (less-is (begun c), more-is (begun c)) (record { sfits = more-few (begun c) })
 
+-- the share by arithmetic alone, in whatever order it is lowered and raised
 returns : tie.Need-returns
 unfolding unit changedBy
-returns c = rw (less-is (begun c), more-is (begun c), back (more (begun c)) (more-few (begun c)))
+returns c =
+    let s = begun c in
+    rw (less-is s, more-is s, back (more s) (more-few s))
+    (ap (λ (share : ℕ). record { weight = s .args .b .weight; share = share; error = more s }) (omega (arith, s .pre .held)))
 
 pub changed-spec : {M : Type 1} → statement M
 changed-spec = tie.close (tie.spec cast-t4 sub-t5 cast-t6 add-t7 mul-t8 cast-t9 sub-t10 mul-t11 cast-t12 add-t13 returns)

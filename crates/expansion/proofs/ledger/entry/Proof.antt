@@ -8,7 +8,7 @@ use mir.Syntax.{w64}
 use mir.Val.{toZ}
 use borrow.Author.Needs.{needs}
 use Rattle.numerals.specs.Limits.{unit}
-use Rattle.expansion.specs.Inner.Ledger.{entryOf}
+use Rattle.expansion.specs.KeptShares.{entryOf}
 use Rattle.numerals.proofs.Powers.{shifted}
 use Rattle.expansion.proofs.Signed.{pos-less, mag-sub, back, plain, unit-few, parts-few, wants-few, parts-read}
 use Rattle.expansion.proofs.ledger.entry.Statement.{statement}

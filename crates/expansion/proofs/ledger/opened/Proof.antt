@@ -8,7 +8,7 @@ use denote.Ref.{now}
 use lib.ListN.{length, getD, set, length-set}
 use lib.Seq.{getD-set-same, getD-set-other}
 use Rattle.numerals.specs.Limits.{mostBackends, unit}
-use Rattle.expansion.specs.Inner.Ledger.{noBackend, entryAt, entryOf}
+use Rattle.expansion.specs.KeptShares.{noBackend, entryAt, entryOf}
 use Rattle.expansion.specs.declared.ledger.Backend.{Backend}
 use Rattle.expansion.proofs.ledger.opened.Statement.{statement}
 use Rattle.expansion.proofs.ledger.opened.Tie as tie

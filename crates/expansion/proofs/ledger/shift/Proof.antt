@@ -38,7 +38,8 @@ use denote.Triple.Table.{entered, cited}
 use denote.Triple.Walked.{says, needs, Stays, stay-slice, stay-none, walkOf, goes-slice, goes-none, Walks, ends-at, walked, walk-meets}
 use denote.Exit.{yes}
 use denote.Signature.{plain}
-use Rattle.expansion.specs.Inner.Ledger.{Movable, noBackend, changedBy}
+use Rattle.expansion.specs.KeptShares.{noBackend}
+use Rattle.expansion.specs.Inner.Ledger.{Movable, changedBy}
 use Rattle.expansion.specs.declared.ledger.Backend.{Backend}
 use Rattle.expansion.proofs.ledger.Backend as B
 use Rattle.expansion.proofs.ledger.Backend.Laws as B′

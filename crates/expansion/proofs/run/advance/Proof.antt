@@ -1,24 +1,26 @@
 -- `run::advance` meets its contract: the move that comes next can be made, and after it the state stands with its rule.
-use Prim.Native.Nat.{ℕ, _-_, _≤_, _<_}
+use Prim.Native.Nat.{ℕ, _-_, _^_, _≤_, _<_}
 use mathlib.Core.List.{List, _∷_}
 use mathlib.Core.Path.{_≡_, sym, _∙_}
 use native.Mathlib.Omega.{arith}
-use lib.ListN.{length, getD}
+use lib.ListN.{length, getD, length-map}
 use borrow.Author.Needs.{needs}
 use Rattle.numerals.specs.Limits.{mostBits, mostBackends}
 use Rattle.expansion.specs.FirstMatch.{nobody}
 use Rattle.expansion.specs.Imbalance.{backends, label}
 use Rattle.expansion.specs.Steps.{Frame, newRule, after}
-use Rattle.expansion.specs.Inner.Ledger.{Small, errorAt}
+use Rattle.expansion.specs.KeptShares.{entryAt}
+use Rattle.expansion.specs.Inner.Ledger.{Small, errorAt, Changeable}
 use Rattle.expansion.specs.Inner.Terms.{nextFor, nextOf}
 use Rattle.expansion.specs.Inner.Run.{framed, Fits, Stands}
 use Rattle.expansion.specs.declared.rule.Rule.{Rule}
 use Rattle.expansion.specs.declared.rule.Move.{Move}
 use Rattle.expansion.specs.declared.run.Next.the-variants.{Go}
-use Rattle.numerals.proofs.Powers.{shifted}
+use Rattle.numerals.proofs.Powers.{pow-few, shifted}
+use Rattle.expansion.proofs.KeptShares.{kept-change}
 use Rattle.expansion.proofs.NextMove.{Feasible, movedBy, next-fewer}
 use Rattle.expansion.proofs.Surveys.{surveyed-sized, surveyed-next}
-use Rattle.expansion.proofs.Turning.{small, someone, feasible-go, index-falls, adds-rule, stands-moved}
+use Rattle.expansion.proofs.Turning.{small, someone, feasible-go, index-falls, adds-rule, kept-go, stands-moved}
 use Rattle.expansion.proofs.run.advance.Statement.{statement}
 use Rattle.expansion.proofs.run.advance.Tie as tie
 
@@ -55,6 +57,16 @@ module _ (s : tie.Start) where
   low : s .args .m .index ≤ mostBits
   low = omega (arith, feasible .index, fits .sound .below, fits .few-bits)
 
+  -- the entries of the ledger, of which each backend's can rise by the term
+  entries : length (s .args .state .ledger .at) ≡ mostBackends
+  entries = simp length-map at (s .good .1 .1 .1 .0 .1 .1 .0 .1 .1 .0 .1 .0 .1)
+
+  takes : (b : ℕ) → b < length (s .args .weights .now) → Changeable (entryAt (s .args .state .ledger) b) 0 (2 ^ (s .args .m .index))
+  unfolding backends
+  takes b l =
+      kept-change F (after F x) (s .args .state .ledger) (S .keeps) (fits .sound) (fits .millionths) (fits .few-bits) b l 0 (2 ^ (s .args .m .index))
+      (omega arith) (pow-few (s .args .m .index) low)
+
 mul-label : tie.Need-mul-label
 mul-label c = let s = c .before .before .before .before .before in omega (arith, feasible s .receiver, fits s .few)
 
@@ -80,7 +92,17 @@ shl-moved : tie.Need-shl-moved
 shl-moved c = omega (arith, low (begun c))
 
 moved-requires : tie.Need-moved-requires
-moved-requires c κs = let s = begun c in rw (shifted (s .args .m .index) (low s)) (feasible s .movable)
+unfolding backends
+moved-requires c κs =
+    let s = begun c in
+    let R = feasible s in
+    rw (shifted (s .args .m .index) (low s))
+    (record {
+      giver-in = omega (arith, entries s, R .giver, R .receiver, few s);
+      receiver-in = omega (arith, entries s, R .receiver, few s);
+      gives = R .movable .gives;
+      takes = takes s _ (omega (arith, R .receiver, some s));
+    })
 
 -- the ledger afterwards
 moved-at : (c : tie.After-moved) → let a = begun (c .before) .args in c .moved .result .at ≡ movedBy (a .state .ledger) (a .m)
@@ -146,14 +168,16 @@ returns c =
     let a = s .args in
     let g = M .before .before .before .before .before .before in
     let H = g .hand-over .ensures in
-    λ cap y start T. (
+    λ cap y start T.
+    let rule : Rule = record { len = a .k - a .m .index; value = g .hand-over .result; backend = getD (a .labels .now) (a .m .receiver) nobody } in
+    let adds = adds-rule (at s cap start) y (a .holder .now) (a .low .now) (a .state) T (a .m) (s .pre .1 .1) (g .hand-over .result) (H .is) in (
       stands-moved (at s cap start) y (a .holder .now) (a .low .now) (a .state) T (a .m) (s .pre .1 .1)
           (g .hand-over .result) (g .hand-over .last .0) (g .hand-over .last .1 .0) H
           (M .moved .result) (moved-at M)
           (w .survey-of .result .imbalance) (w .survey-of .ensures .imbalance)
-          (c .decide .result) (next-is c cap y start T)
-          (record { len = a .k - a .m .index; value = g .hand-over .result; backend = getD (a .labels .now) (a .m .receiver) nobody }),
-      adds-rule (at s cap start) y (a .holder .now) (a .low .now) (a .state) T (a .m) (s .pre .1 .1) (g .hand-over .result) (H .is),
+          (c .decide .result) (next-is c cap y start T) rule,
+      adds,
+      kept-go (at s cap start) y (a .holder .now) (a .low .now) (a .state) T (a .m) (s .pre .1 .1) (M .moved .result) (moved-at M) rule adds,
     )
 
 pub advance-spec : {M : Type 1} → statement M

@@ -7,7 +7,8 @@ use lib.ListN.{length, getD}
 use Rattle.numerals.specs.Limits.{mostSuffixes, unit}
 use Rattle.expansion.specs.Steps.{Frame}
 use Rattle.expansion.specs.Imbalance.{backends, label, weight}
-use Rattle.expansion.specs.Inner.Ledger.{Small, errorAt, Keeps}
+use Rattle.expansion.specs.KeptShares.{Keeps}
+use Rattle.expansion.specs.Inner.Ledger.{Small, errorAt}
 use Rattle.expansion.specs.Inner.Terms.{nextOf}
 use Rattle.expansion.specs.Inner.Run.{framed, Fits, Shared}
 use Rattle.expansion.specs.declared.rule.Rule.{Rule}

@@ -1,19 +1,21 @@
 -- `run::go_on` meets its contract. The loop's invariant: in each frame in which state and list stood at the start, they stand after some turns.
 use Prim.Native.Nat.{ℕ, suc, _+_, _-_, _≤_, _<_}
 use mathlib.Core.List.{List}
-use mathlib.Core.Path.{_≡_, sym, _∙_}
+use mathlib.Core.Path.{_≡_, sym, _∙_, subst}
 use native.Mathlib.Omega.{arith}
 use lib.ListN.{length, length-set, length-map}
 use borrow.Author.Needs.{needs}
 use Rattle.numerals.specs.Limits.{mostBackends, mostRules, mostSuffixes}
-use Rattle.expansion.specs.Steps.{Frame}
+use Rattle.expansion.specs.Steps.{Frame, after}
+use Rattle.expansion.specs.KeptShares.{SharesKept}
 use Rattle.expansion.specs.Inner.Lists.{Listed}
 use Rattle.expansion.specs.Inner.Run.{framed, Stands}
 use Rattle.expansion.specs.declared.rule.Rule.{Rule}
 use Rattle.expansion.specs.declared.list.RuleList.{RuleList}
 use Rattle.expansion.specs.declared.run.State.{State}
 use Rattle.expansion.specs.declared.run.Next.the-variants.{Go}
-use Rattle.expansion.proofs.Turning.{listed-more, made-ended, in-budget}
+use Rattle.expansion.proofs.KeptAlong.{kept-none, kept-then}
+use Rattle.expansion.proofs.Turning.{listed-count, listed-more, made-ended, in-budget}
 use Rattle.expansion.proofs.run.go_on.Statement.{statement}
 use Rattle.expansion.proofs.run.go_on.Tie as tie
 
@@ -22,10 +24,15 @@ pub record After (F : Frame) (x : ℕ) (holder low : List ℕ) (st : State) (lis
   pub stands : Stands F x holder low st
   pub listed : Listed F x list
 
+-- the shares kept since the start
+abbrev Kept : Frame → ℕ → RuleList → State → State → Type 0
+Kept F y list₀ state₀ state = SharesKept (F .targets) (after F y) (list₀ .count) (state₀ .ledger) (state .ledger)
+
 abbrev Inv-loop : tie.InvT-loop
 Inv-loop holder₀ low₀ places state₀ labels weights k tolerance budget list₀ holder low state list =
     ((cap x : ℕ) (start : List Rule) → After (framed k cap tolerance labels weights start) x holder₀ low₀ state₀ list₀
-    → (y : ℕ) × After (framed k cap tolerance labels weights start) y holder low state list)
+    → (y : ℕ) × After (framed k cap tolerance labels weights start) y holder low state list
+    × Kept (framed k cap tolerance labels weights start) y list₀ state₀ state)
     × ((list .count ≤ budget) × ((length (list .rules) ≡ mostRules) × (length (list .stairs) ≡ mostRules)))
 
 abbrev μ-loop : tie.MeasureT-loop
@@ -41,7 +48,16 @@ stairs-long c = simp length-map at (c .good .1 .1 .1 .1 .0 .1 .1 .1 .0 .1 .0 .1)
 loop-holds : tie.Need-loop-holds Inv-loop μ-loop
 loop-holds c =
     let s = c .before .before .before .before .before in
-    ((λ cap x start A. (x, A)), (s .pre .1 .0, (rules-long s, stairs-long s)))
+    let a = s .args in (
+      λ cap x start A.
+          let F : Frame = framed (a .k) cap (a .tolerance) (a .labels .now) (a .weights .now) start in (
+            x,
+            A,
+            kept-none (F .targets) (after F x) (a .t5 .count) (a .state .ledger)
+                (listed-count F (A .stands .fits) x (a .t5) (A .listed)) (A .stands .keeps),
+          ),
+      (s .pre .1 .0, (rules-long s, stairs-long s)),
+    )
 
 -- a frame that is known to be there, at the start of a turn
 module _ (c : tie.At-loop Inv-loop μ-loop) where
@@ -51,7 +67,7 @@ module _ (c : tie.At-loop Inv-loop μ-loop) where
   abbrev F : Frame
   F = framed (s .args .k) (s .pre .0 .0) (s .args .tolerance) (s .args .labels .now) (s .args .weights .now) (s .pre .0 .2)
 
-  at : (y : ℕ) × After F y (c .loop .holder) (c .loop .low) (c .loop .state) (c .loop .list)
+  at : (y : ℕ) × After F y (c .loop .holder) (c .loop .low) (c .loop .state) (c .loop .list) × Kept F y (s .args .t5) (s .args .state) (c .loop .state)
   at = c .loop .inv .0 (s .pre .0 .0) (s .pre .0 .1) (s .pre .0 .2) (record { stands = s .pre .0 .3 .0; listed = s .pre .0 .3 .1 })
 
   holders-long : length (c .loop .holder) ≡ length (s .args .holder .now)
@@ -67,20 +83,26 @@ enum-known-next : tie.Need-enum-known-next Inv-loop μ-loop
 enum-known-next c = search needs
 
 same-length : tie.Need-same-length Inv-loop μ-loop
-same-length c = holders-long (c .before .before .before .before)
+same-length c = holders-long (c .before .before .before .before .before)
 
 same-length-2 : tie.Need-same-length-2 Inv-loop μ-loop
-same-length-2 c = lows-long (c .before .before .before .before)
+same-length-2 c = lows-long (c .before .before .before .before .before)
 
 returns : tie.Need-returns Inv-loop μ-loop
 returns c =
-    let b = c .before .before .before in
+    let t = c .before .before in
+    let b = t .before .before in
     let l = b .before .loop in
     let a = s (b .before) .args in
     λ cap x start S L.
+    let F : Frame = framed (a .k) cap (a .tolerance) (a .labels .now) (a .weights .now) start in
     let now = l .inv .0 cap x start (record { stands = S; listed = L }) in
-    made-ended (framed (a .k) cap (a .tolerance) (a .labels .now) (a .weights .now) start) (now .0) (l .holder) (l .low) (l .state) (now .1 .stands)
-    (l .list) (now .1 .listed) (a .budget) (l .inv .1 .0) (c .before .next .given .0 .0) (sym (b .in-budget .ensures) ∙ c .before .next .given .1)
+    let made = made-ended F (now .0) (l .holder) (l .low) (l .state) (now .1 .stands) (l .list) (now .1 .listed) (a .budget) (l .inv .1 .0)
+    (t .next .given .0 .0) (sym (b .in-budget .ensures) ∙ t .next .given .1) in (
+      made,
+      subst (λ (rs : List Rule). SharesKept (F .targets) rs (a .t5 .count) (a .state .ledger) (l .state .ledger))
+          (sym (now .1 .listed .rules) ∙ made .rules) (now .2),
+    )
 
 enum-known-next-2 : tie.Need-enum-known-next-2 Inv-loop μ-loop
 enum-known-next-2 c = search needs
@@ -148,6 +170,8 @@ loop-again c =
                   listed-more E (now .1 .stands .fits) (now .0) (l .list) (r .rule) (r .imbalance) (now .1 .listed)
                   (room c) (l .inv .1 .1 .0) (l .inv .1 .1 .1) (more .1) (more .0 .stair);
             },
+            subst (λ (rs : List Rule). SharesKept (E .targets) rs (a .t5 .count) (a .state .ledger) (r .ledger)) (sym (more .1 .rules))
+                (kept-then (E .targets) (after E (now .0)) (r .rule) (a .t5 .count) (a .state .ledger) (l .state .ledger) (r .ledger) (now .2) (more .2)),
           ),
       (omega (arith, let-through (through c) .1), (simp length-set (l .inv .1 .1 .0), simp length-set (l .inv .1 .1 .1))),
     )

@@ -7,7 +7,8 @@ use lib.ListN.{set, replicate, length-replicate, length-set}
 use borrow.Author.Needs.{needs}
 use Rattle.numerals.specs.Limits.{mostBackends, mostSuffixes, unit}
 use Rattle.expansion.specs.Imbalance.{backends}
-use Rattle.expansion.specs.Steps.{Frame, frame, firstRule}
+use Rattle.expansion.specs.Steps.{Frame, frame, firstRule, listOf}
+use Rattle.expansion.specs.KeptShares.{SharesKept}
 use Rattle.expansion.specs.Inner.Lists.{Listed}
 use Rattle.expansion.specs.Inner.Run.{Fits, Shared, Stands}
 use Rattle.expansion.specs.declared.list.RuleList.{RuleList}
@@ -144,7 +145,14 @@ returns c =
     let g = c .before .before in
     let o = g .before .before .before .before in
     let z = s (h o) in
-    g .go-on .ensures (z .args .k - 1) 0 (firstRule (z .args .labels .now) (z .args .weights .now)) (stands o) (listed o)
+    let r = g .go-on .ensures (z .args .k - 1) 0 (firstRule (z .args .labels .now) (z .args .weights .now)) (stands o) (listed o) in (
+      r .0,
+      (
+        begun o .ledger,
+        subst (λ (c : ℕ). SharesKept (F (h o) .targets) (listOf (F (h o)) (z .args .budget)) c (begun o .ledger) (g .go-on .result .kept))
+            (ap (λ (l : RuleList). l .count) (o .of-one .ensures)) (r .1),
+      ),
+    )
 
 pub make-list-spec : {M : Type 1} → statement M
 make-list-spec =

@@ -9,9 +9,11 @@ use borrow.Author.Needs.{needs}
 use Rattle.numerals.specs.Limits.{mostBackends, unit}
 use Rattle.numerals.specs.Sums.{listTo}
 use Rattle.numerals.proofs.Sums.{list-first, length-list}
-use Rattle.expansion.specs.Steps.{frame}
+use Rattle.expansion.specs.Steps.{Frame, frame, listOf}
+use Rattle.expansion.specs.KeptShares.{SharesKept}
 use Rattle.expansion.specs.Answer.{frameMade}
 use Rattle.expansion.specs.Inner.Run.{Valid, Made}
+use Rattle.expansion.specs.declared.ledger.Ledger.{Ledger}
 use Rattle.expansion.proofs.run.make_numbered.Statement.{statement}
 use Rattle.expansion.proofs.run.make_numbered.Tie as tie
 
@@ -47,8 +49,12 @@ unfolding frameMade
 returns c =
     let n = c .before .before in
     let s = n .before .before in
-    subst (λ (ls : List ℕ). Made (frame (s .args .k) unit (s .args .tolerance) ls (s .args .weights .now)) (s .args .budget) (c .make-list .result))
-    (labels n) (c .make-list .ensures)
+    let run = c .make-list .result in
+    let F : List ℕ → Frame = λ ls. frame (s .args .k) unit (s .args .tolerance) ls (s .args .weights .now) in (
+      subst (λ (ls : List ℕ). Made (F ls) (s .args .budget) run) (labels n) (c .make-list .ensures .0),
+      subst (λ (ls : List ℕ). (L : Ledger) × SharesKept (F ls .targets) (listOf (F ls) (s .args .budget)) 1 L (run .kept)) (labels n)
+          (c .make-list .ensures .1),
+    )
 
 pub make-numbered-spec : {M : Type 1} → statement M
 make-numbered-spec =

@@ -1,0 +1,94 @@
+-- The promise of specs/KeptShares along a list: it holds before the first move, and grows by the rule of each move.
+use Prim.Native.Nat.{ℕ, suc, _≤_, _<_}
+use mathlib.Core.List.{List, _∷_}
+use mathlib.Core.Path.{_≡_, refl, ap, sym, _∙_, subst}
+use native.Mathlib.Decide.{decLt}
+use native.Mathlib.Omega.{arith}
+use lib.Dec.{leb}
+use lib.ListN.{length}
+use borrow.Author.Tests.{le-leb, lt-leb}
+use Rattle.numerals.specs.Pick.{pick}
+use Rattle.expansion.specs.Imbalance.{Targets}
+use Rattle.expansion.specs.Steps.{oldest}
+use Rattle.expansion.specs.KeptShares.{Keeps, OthersStay, SharesKept}
+use Rattle.expansion.specs.declared.rule.Rule.{Rule}
+use Rattle.expansion.specs.declared.ledger.Ledger.{Ledger}
+use Rattle.expansion.proofs.Turns.{oldest-all, oldest-cons}
+
+pub kept-none : (T : Targets) (rs : List Rule) (from : ℕ) (L : Ledger) → from ≡ length rs → Keeps T rs L → SharesKept T rs from L L
+kept-none T rs from L is K =
+    record {
+      begun = omega arith;
+      ledger = λ _. L;
+      start = refl;
+      end = refl;
+      keeps = λ c l m. subst (λ (xs : List Rule). Keeps T xs L) (sym (oldest-all c rs (omega arith))) K;
+      others = λ c l m. absurd (omega arith);
+    }
+
+-- one move more, whose rule is the newest
+module _ (T : Targets) (rs : List Rule) (r : Rule) (from : ℕ) (L M N : Ledger) (S : SharesKept T rs from L M)
+    (K : Keeps T (r ∷ rs) N) (O : OthersStay T rs M N) where
+  abbrev ledger : ℕ → Ledger
+  ledger c = pick (leb c (length rs)) (S .ledger c) N
+
+  before : (c : ℕ) → c ≤ length rs → ledger c ≡ S .ledger c
+  before c l = rw (le-leb c (length rs) l)
+
+  newest : (c : ℕ) → length rs < c → ledger c ≡ N
+  newest c l = rw (lt-leb c (length rs) l)
+
+  keeps : (c : ℕ) → from ≤ c → c ≤ suc (length rs) → Keeps T (oldest c (r ∷ rs)) (ledger c)
+  keeps c l m = go (decLt (length rs) c)
+    where
+      go : Dec (length rs < c) → Keeps T (oldest c (r ∷ rs)) (ledger c)
+      go (yes h) = rw (newest c h, oldest-all c (r ∷ rs) h) K
+      go (no h) = rw (before c (omega arith), oldest-cons c r rs (omega arith)) (S .keeps c l (omega arith))
+
+  others : (c : ℕ) → from ≤ c → c < suc (length rs) → OthersStay T (oldest c (r ∷ rs)) (ledger c) (ledger (suc c))
+  others c l m = go (decLt c (length rs))
+    where
+      go : Dec (c < length rs) → OthersStay T (oldest c (r ∷ rs)) (ledger c) (ledger (suc c))
+      go (yes h) = rw (before c (omega arith), before (suc c) h, oldest-cons c r rs (omega arith)) (S .others c l h)
+      go (no h) =
+          let all : c ≡ length rs = omega arith in
+          let here : ledger c ≡ M = before c (omega arith) ∙ ap (S .ledger) all ∙ S .end in
+          rw (here, newest (suc c) (omega arith), oldest-cons c r rs (omega arith), oldest-all c rs (omega arith)) O
+
+  pub kept-more : SharesKept T (r ∷ rs) from L N
+  kept-more =
+      record {
+        begun = omega (arith, S .begun);
+        ledger = ledger;
+        start = before from (S .begun) ∙ S .start;
+        end = newest (suc (length rs)) (omega arith);
+        keeps = keeps;
+        others = others;
+      }
+
+-- one move by itself
+pub kept-move : (T : Targets) (rs : List Rule) (r : Rule) (L M : Ledger) → Keeps T rs L → Keeps T (r ∷ rs) M → OthersStay T rs L M
+    → SharesKept T (r ∷ rs) (length rs) L M
+kept-move T rs r L M K K′ O = kept-more T rs r (length rs) L L M (kept-none T rs (length rs) L refl K) K′ O
+
+-- the moves so far, and the next one
+pub kept-then : (T : Targets) (rs : List Rule) (r : Rule) (from : ℕ) (L M N : Ledger) → SharesKept T rs from L M
+    → SharesKept T (r ∷ rs) (length rs) M N → SharesKept T (r ∷ rs) from L N
+kept-then T rs r from L M N S R = kept-more T rs r from L M N S newest moved
+  where
+    n : ℕ
+    n = length rs
+
+    newest : Keeps T (r ∷ rs) N
+    newest =
+        subst (λ (xs : List Rule). Keeps T xs N) (oldest-all (suc n) (r ∷ rs) (omega arith))
+        (subst (Keeps T (oldest (suc n) (r ∷ rs))) (R .end) (R .keeps (suc n) (omega arith) (omega arith)))
+
+    before : oldest n (r ∷ rs) ≡ rs
+    before = oldest-cons n r rs (omega arith) ∙ oldest-all n rs (omega arith)
+
+    moved : OthersStay T rs M N
+    moved =
+        subst (λ (xs : List Rule). OthersStay T xs M N) before
+        (subst (λ (K : Ledger). OthersStay T (oldest n (r ∷ rs)) K N) (R .start)
+        (subst (OthersStay T (oldest n (r ∷ rs)) (R .ledger n)) (R .end) (R .others n (omega arith) (omega arith))))
