@@ -8,7 +8,8 @@ use Rattle.numerals.specs.Suffix.{place}
 use Rattle.numerals.specs.Digits.{value, valueFrom, lowest}
 use Rattle.numerals.specs.Sums.{listTo, sumTo, countTo, allTo, firstTo, argmax, lastmax}
 use Rattle.expansion.specs.FirstMatch.{matches, firstMatch, gives, share}
-use Rattle.expansion.specs.Imbalance.{Targets, backends, label, weight, has, wants, excess, shortfall, imbalance, giver, receiver, largestExcess, largestShortfall}
+use Rattle.expansion.specs.Imbalance.{Targets, backends, label, weight, has, wants, excess, shortfall, imbalance, giver, receiver}
+use Rattle.expansion.specs.Imbalance.{largestExcess, largestShortfall}
 use Rattle.expansion.specs.Steps.{firstRule, frame, isWithin, reduction, reductionAt, term, isNoGain, isWhole, termLength, lowestPlace, newRule}
 use Rattle.expansion.specs.Steps.{step, after, endOf, listOf, oldest, stair, stairsTo}
 use Rattle.expansion.specs.KeptShares.{entryOf, Keeps, OthersStay, SharesKept}

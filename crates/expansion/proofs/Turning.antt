@@ -60,6 +60,10 @@ unfolding gives firstMatch
 some-rule [] s b named e = absurd (named (sym (eqb-true nobody b e)))
 some-rule (r ∷ rs) s b named e = omega arith
 
+-- a list has as many rules as it counts
+pub listed-count : (F : Frame) (x : ℕ) (list : RuleList) → Listed F x list → list .count ≡ length (after F x)
+listed-count F x list L = sym (length-newest (list .rules) (list .count)) ∙ ap length (L .rules)
+
 module _ (F : Frame) (fits : Fits F) where
   pub small : (rs : List Rule) (L : Ledger) → Keeps (F .targets) rs L → (b : ℕ) → b < backends (F .targets) → Small (errorAt L b)
   small rs L K = kept-small F rs L K (fits .sound) (fits .millionths) (fits .few-bits)
@@ -101,9 +105,6 @@ module _ (F : Frame) (fits : Fits F) where
         stair = s ∙ kept-imbalance F (F .start) L K;
         next = t;
       }
-
-  pub listed-count : (x : ℕ) (list : RuleList) → Listed F x list → list .count ≡ length (after F x)
-  listed-count x list L = sym (length-newest (list .rules) (list .count)) ∙ ap length (L .rules)
 
   -- the list with one more rule
   pub listed-more : (x : ℕ) (list : RuleList) (r : Rule) (sum : ℕ) → Listed F x list

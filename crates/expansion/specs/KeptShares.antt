@@ -35,7 +35,8 @@ pub record OthersStay (T : Targets) (rs : List Rule) (L M : Ledger) : Type 0 whe
   pub entries : (b : ℕ) → b ≢ giver T rs → b ≢ receiver T rs → entryAt M b ≡ entryAt L b
 
 -- The promise. The `from` oldest rules of the list rs, the newest first, stood at its start, and a move added each later one; L is the ledger after the
--- former, M after all. After each rule the ledger keeps the shares and errors of the rules so far, and at each move the others stay.
+-- former, M after all. After each rule the ledger keeps the shares and errors of the rules so far, and at each move all entries but giver's and
+-- receiver's stay.
 pub record SharesKept (T : Targets) (rs : List Rule) (from : ℕ) (L M : Ledger) : Type 0 where
   pub begun : from ≤ length rs
   pub ledger : ℕ → Ledger

@@ -54,7 +54,7 @@ loop-holds c =
             x,
             A,
             kept-none (F .targets) (after F x) (a .t5 .count) (a .state .ledger)
-                (listed-count F (A .stands .fits) x (a .t5) (A .listed)) (A .stands .keeps),
+                (listed-count F x (a .t5) (A .listed)) (A .stands .keeps),
           ),
       (s .pre .1 .0, (rules-long s, stairs-long s)),
     )
