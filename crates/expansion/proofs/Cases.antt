@@ -1,9 +1,13 @@
 -- The worked cases hold of the definitions.
-use Prim.Native.Nat.{ℕ, zero, suc, _≤_, _<_}
-use mathlib.Core.List.{[], _∷_}
-use mathlib.Core.Path.{_≡_, refl}
+use Prim.Native.Nat.{ℕ, zero, suc, _%_, _≤_, _<_}
+use mathlib.Core.Bool.{Bool, true, false}
+use mathlib.Core.List.{List, [], _∷_}
+use mathlib.Core.Path.{_≡_, refl, _∙_}
+use native.Mathlib.Nat.{mod-one}
 use native.Mathlib.Omega.{arith}
-use lib.Dec.{lit≤}
+use lib.Dec.{eqb, lit<, lit≤}
+use borrow.Author.Tests.{eq-eqb}
+use Rattle.numerals.specs.Limits.{unit}
 use Rattle.numerals.specs.Suffix.{place}
 use Rattle.numerals.specs.Digits.{value, valueFrom, lowest}
 use Rattle.numerals.specs.Sums.{listTo, sumTo, countTo, allTo, firstTo, argmax, lastmax}
@@ -11,10 +15,16 @@ use Rattle.expansion.specs.FirstMatch.{matches, firstMatch, gives, share
 use Rattle.expansion.specs.Imbalance.{Targets, backends, label, weight, has, wants, excess, shortfall, imbalance, giver, receiver}
 use Rattle.expansion.specs.Imbalance.{largestExcess, largestShortfall}
 use Rattle.expansion.specs.Steps.{firstRule, frame, isWithin, reduction, reductionAt, term, isNoGain, isWhole, termLength, lowestPlace, newRule}
-use Rattle.expansion.specs.Steps.{step, after, endOf, listOf, oldest, stair, stairsTo}
+use Rattle.expansion.specs.Steps.{Frame, step, after, endOf, listOf, oldest, stair, stairsTo}
 use Rattle.expansion.specs.KeptShares.{entryOf, Keeps, OthersStay, SharesKept}
 use Rattle.expansion.specs.Cases.{AllShow, p1, p6, worked, p1-ledger}
+use Rattle.expansion.specs.Answer.{checkCall, checkWeights, inLimits}
+use Rattle.expansion.specs.Inner.Sound.{Complete, Lengths}
+use Rattle.expansion.specs.Inner.Run.{framed, Fits}
+use Rattle.expansion.specs.declared.rule.Rule.{Rule}
 use Rattle.expansion.specs.declared.rule.Ended.the-variants.{Budget}
+use Rattle.expansion.proofs.FirstMatch.{gives-matched, gives-passed}
+use Rattle.expansion.proofs.Checks.{call-passed}
 
 pub worked-show : AllShow worked
 unfolding listTo sumTo countTo allTo firstTo argmax lastmax matches firstMatch gives share backends label weight has wants excess shortfall
@@ -83,5 +93,59 @@ p1-others (suc (suc zero)) l m = record { entries = by-three _ (λ g r. absurd (
 p1-others (suc (suc (suc zero))) l m = record { entries = by-three _ (λ g r. absurd (r refl)) (λ g r. absurd (g refl)) (λ g r. refl) (λ b g r. refl) }
 p1-others (suc (suc (suc (suc c)))) l m = absurd (omega arith)
 
-pub p1-kept : SharesKept T (p1 .rules) 1 (p1-ledger 1) (p1-ledger 4)
-p1-kept = record { begun = lit≤ tt; ledger = p1-ledger; start = refl; end = refl; keeps = p1-keeps; others = p1-others }
+pub p1-kept : (from : ℕ) → 1 ≤ from → from ≤ 4 → SharesKept T (p1 .rules) from (p1-ledger from) (p1-ledger 4)
+p1-kept from l m =
+    record {
+      inside = m;
+      ledger = p1-ledger;
+      first = refl;
+      last = refl;
+      keeps = λ c n. p1-keeps c (omega arith);
+      others = λ c n. p1-others c (omega arith);
+    }
+
+-- a start that isn't `*`: P1 taken up after its second rule, with terms of at most 2^3 suffixes, fits and comes to the same list
+abbrev halved : List Rule
+halved = record { len = 1; value = 0; backend = 2 } ∷ record { len = 0; value = 0; backend = 3 } ∷ []
+
+abbrev resumed : Frame
+resumed = framed 5 3 20000 (T .labels) (T .weights) halved
+
+halved-complete : Complete (label T) (backends T) halved
+unfolding listTo matches backends label frame
+halved-complete s = go (eqb (s % 2) 0) refl
+  where
+    go : (t : Bool) → eqb (s % 2) 0 ≡ t → (b : ℕ) × (b < backends T) × (gives halved s (label T b) ≡ true)
+    go true e = (1, lit< tt, gives-matched (record { len = 1; value = 0; backend = 2 }) (record { len = 0; value = 0; backend = 3 } ∷ []) s 2 e)
+    go false e = (
+      2,
+      lit< tt,
+      gives-passed (record { len = 1; value = 0; backend = 2 }) (record { len = 0; value = 0; backend = 3 } ∷ []) s 3 e
+          ∙ gives-matched (record { len = 0; value = 0; backend = 3 }) [] s 3 (eq-eqb (s % 1) 0 (mod-one s)),
+    )
+
+pub p1-resumed : Fits resumed × (listOf resumed 4 ≡ p1 .rules)
+unfolding listTo sumTo countTo allTo firstTo argmax lastmax matches firstMatch gives share backends label weight has wants excess shortfall
+    imbalance giver receiver largestExcess largestShortfall frame isWithin reduction reductionAt term isNoGain isWhole termLength
+    lowestPlace newRule step after listOf place value valueFrom lowest unit checkCall checkWeights inLimits Lengths
+p1-resumed =
+    let valid = call-passed 5 20000 32 (T .weights) refl .0 in (
+      record {
+        millionths = refl;
+        few-bits = valid .few-bits;
+        tolerable = valid .tolerable;
+        few = valid .few;
+        labelled = refl;
+        sound =
+            record {
+              positive = lit< tt;
+              balanced = valid .balanced;
+              distinct = valid .distinct;
+              named = valid .named;
+              below = lit< tt;
+              short = (lit≤ tt, (lit≤ tt, tt));
+              complete = halved-complete;
+            };
+      },
+      refl,
+    )

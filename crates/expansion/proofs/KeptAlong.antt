@@ -18,10 +18,10 @@ use Rattle.expansion.proofs.Turns.{oldest-all, oldest-cons}
 pub kept-none : (T : Targets) (rs : List Rule) (from : ℕ) (L : Ledger) → from ≡ length rs → Keeps T rs L → SharesKept T rs from L L
 kept-none T rs from L is K =
     record {
-      begun = omega arith;
+      inside = omega arith;
       ledger = λ _. L;
-      start = refl;
-      end = refl;
+      first = refl;
+      last = refl;
       keeps = λ c l m. subst (λ (xs : List Rule). Keeps T xs L) (sym (oldest-all c rs (omega arith))) K;
       others = λ c l m. absurd (omega arith);
     }
@@ -52,16 +52,16 @@ module _ (T : Targets) (rs : List Rule) (r : Rule) (from : ℕ) (L M N : Ledger)
       go (yes h) = rw (before c (omega arith), before (suc c) h, oldest-cons c r rs (omega arith)) (S .others c l h)
       go (no h) =
           let all : c ≡ length rs = omega arith in
-          let here : ledger c ≡ M = before c (omega arith) ∙ ap (S .ledger) all ∙ S .end in
+          let here : ledger c ≡ M = before c (omega arith) ∙ ap (S .ledger) all ∙ S .last in
           rw (here, newest (suc c) (omega arith), oldest-cons c r rs (omega arith), oldest-all c rs (omega arith)) O
 
   pub kept-more : SharesKept T (r ∷ rs) from L N
   kept-more =
       record {
-        begun = omega (arith, S .begun);
+        inside = omega (arith, S .inside);
         ledger = ledger;
-        start = before from (S .begun) ∙ S .start;
-        end = newest (suc (length rs)) (omega arith);
+        first = before from (S .inside) ∙ S .first;
+        last = newest (suc (length rs)) (omega arith);
         keeps = keeps;
         others = others;
       }
@@ -82,7 +82,7 @@ kept-then T rs r from L M N S R = kept-more T rs r from L M N S newest moved
     newest : Keeps T (r ∷ rs) N
     newest =
         subst (λ (xs : List Rule). Keeps T xs N) (oldest-all (suc n) (r ∷ rs) (omega arith))
-        (subst (Keeps T (oldest (suc n) (r ∷ rs))) (R .end) (R .keeps (suc n) (omega arith) (omega arith)))
+        (subst (Keeps T (oldest (suc n) (r ∷ rs))) (R .last) (R .keeps (suc n) (omega arith) (omega arith)))
 
     before : oldest n (r ∷ rs) ≡ rs
     before = oldest-cons n r rs (omega arith) ∙ oldest-all n rs (omega arith)
@@ -90,5 +90,5 @@ kept-then T rs r from L M N S R = kept-more T rs r from L M N S newest moved
     moved : OthersStay T rs M N
     moved =
         subst (λ (xs : List Rule). OthersStay T xs M N) before
-        (subst (λ (K : Ledger). OthersStay T (oldest n (r ∷ rs)) K N) (R .start)
-        (subst (OthersStay T (oldest n (r ∷ rs)) (R .ledger n)) (R .end) (R .others n (omega arith) (omega arith))))
+        (subst (λ (K : Ledger). OthersStay T (oldest n (r ∷ rs)) K N) (R .first)
+        (subst (OthersStay T (oldest n (r ∷ rs)) (R .ledger n)) (R .last) (R .others n (omega arith) (omega arith))))

@@ -1,4 +1,5 @@
--- Worked cases of the expansion: P1 to P6 of document 01 ("Figures to try"), and figure 3(b) of the paper.
+-- Worked cases of the expansion: P1 to P6 of document 01 ("Figures to try"), figure 3(b) of the paper, and P1's ledger after each rule (document 02,
+-- request 02).
 use Prim.Native.Nat.{ℕ, suc, _-_}
 use mathlib.Core.List.{List, [], _∷_}
 use mathlib.Core.Path.{_≡_}
@@ -104,11 +105,11 @@ figure3b =
 abbrev pub worked : List Worked
 worked = p1 ∷ p2 ∷ p3 ∷ p4 ∷ p5 ∷ p6 ∷ figure3b ∷ []
 
--- P1's ledger after 1, 2, 3 and 4 rules. The third backend gives `*0` to the second, which gives `*000` and then `*00100` to the first: whoever has
--- neither given nor received keeps its entry.
 abbrev entry : ℕ → ℕ → ℤ → Backend
 entry w a e = record { weight = w; share = a; error = e }
 
+-- P1's ledger after 1, 2, 3 and 4 rules. The third backend gives `*0` to the second, which gives `*000` and then `*00100` to the first: each time the
+-- one that neither gives nor receives keeps its entry.
 abbrev pub p1-entries : List (List Backend)
 p1-entries =
     (entry 166667 0 (negℤ (pos 5333344)) ∷ entry 333333 0 (negℤ (pos 10666656)) ∷ entry 500000 32 (pos 16000000) ∷ [])

@@ -34,13 +34,12 @@ pub record Keeps (T : Targets) (rs : List Rule) (L : Ledger) : Type 0 where
 pub record OthersStay (T : Targets) (rs : List Rule) (L M : Ledger) : Type 0 where
   pub entries : (b : ℕ) → b ≢ giver T rs → b ≢ receiver T rs → entryAt M b ≡ entryAt L b
 
--- The promise. The `from` oldest rules of the list rs, the newest first, stood at its start, and a move added each later one; L is the ledger after the
--- former, M after all. After each rule the ledger keeps the shares and errors of the rules so far, and at each move all entries but giver's and
--- receiver's stay.
+-- The promise, of a list rs, the newest rule first, whose `from` oldest stood at its start: there is a ledger after each rule from then on, L the first
+-- and M the last; each keeps the shares and errors of the rules so far, and at each move all entries but giver's and receiver's stay.
 pub record SharesKept (T : Targets) (rs : List Rule) (from : ℕ) (L M : Ledger) : Type 0 where
-  pub begun : from ≤ length rs
+  pub inside : from ≤ length rs
   pub ledger : ℕ → Ledger
-  pub start : ledger from ≡ L
-  pub end : ledger (length rs) ≡ M
+  pub first : ledger from ≡ L
+  pub last : ledger (length rs) ≡ M
   pub keeps : (c : ℕ) → from ≤ c → c ≤ length rs → Keeps T (oldest c rs) (ledger c)
   pub others : (c : ℕ) → from ≤ c → c < length rs → OthersStay T (oldest c rs) (ledger c) (ledger (suc c))

@@ -86,7 +86,7 @@ fn decide(give: Extreme, take: Extreme, k: usize, tolerance: u64, cap: usize) ->
     })
 }
 
-// Step 6: the move is made, and its rule is the newest.
+// Step 6: the move is made, and its rule is the newest. Of the ledger only the entries of giver and receiver change.
 fn advance(
     holder: &mut [u16],
     low: &mut [u16],

@@ -72,7 +72,7 @@ add-t13 : tie.Need-add-t13
 unfolding unit
 add-t13 c = rw (less-is (begun c), more-is (begun c)) (record { sfits = more-few (begun c) })
 
--- the share is left to arithmetic
+-- the share by arithmetic, so that a wrong one is refused by its number
 returns : tie.Need-returns
 unfolding unit changedBy
 returns c =

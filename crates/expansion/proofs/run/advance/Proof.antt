@@ -57,7 +57,7 @@ module _ (s : tie.Start) where
   low : s .args .m .index ≤ mostBits
   low = omega (arith, feasible .index, fits .sound .below, fits .few-bits)
 
-  -- the entries of the ledger, of which each backend's can rise by the term
+  -- `moved` may be called with any backend as receiver: a wrong one is refused by the ledger that comes out
   entries : length (s .args .state .ledger .at) ≡ mostBackends
   entries = simp length-map at (s .good .1 .1 .1 .0 .1 .1 .0 .1 .1 .0 .1 .0 .1)
 
