@@ -1,6 +1,7 @@
--- The promise of specs/KeptShares along a list: it holds before the first move, and grows by the rule of each move.
-use Prim.Native.Nat.{ℕ, suc, _≤_, _<_}
+-- The promise of specs/KeptShares along a list: it holds before the first move, grows by the rule of each move, and leaves no other ledgers.
+use Prim.Native.Nat.{ℕ, zero, suc, _+_, _-_, _≤_, _<_}
 use mathlib.Core.List.{List, _∷_}
+use mathlib.Core.Logic.{_≢_}
 use mathlib.Core.Path.{_≡_, refl, ap, sym, _∙_, subst}
 use native.Mathlib.Decide.{decLt}
 use native.Mathlib.Omega.{arith}
@@ -8,11 +9,12 @@ use lib.Dec.{leb}
 use lib.ListN.{length}
 use borrow.Author.Tests.{le-leb, lt-leb}
 use Rattle.numerals.specs.Pick.{pick}
-use Rattle.expansion.specs.Imbalance.{Targets}
+use Rattle.expansion.specs.Imbalance.{Targets, backends, excess, shortfall, giver, receiver}
 use Rattle.expansion.specs.Steps.{oldest}
-use Rattle.expansion.specs.KeptShares.{Keeps, OthersStay, SharesKept}
+use Rattle.expansion.specs.KeptShares.{entryAt, Keeps, OthersStay, SharesKept}
 use Rattle.expansion.specs.declared.rule.Rule.{Rule}
 use Rattle.expansion.specs.declared.ledger.Ledger.{Ledger}
+use Rattle.numerals.proofs.Searches.{argmax-is}
 use Rattle.expansion.proofs.Turns.{oldest-all, oldest-cons}
 
 pub kept-none : (T : Targets) (rs : List Rule) (from : ℕ) (L : Ledger) → from ≡ length rs → Keeps T rs L → SharesKept T rs from L L
@@ -92,3 +94,36 @@ kept-then T rs r from L M N S R = kept-more T rs r from L M N S newest moved
         subst (λ (xs : List Rule). OthersStay T xs M N) before
         (subst (λ (K : Ledger). OthersStay T (oldest n (r ∷ rs)) K N) (R .first)
         (subst (OthersStay T (oldest n (r ∷ rs)) (R .ledger n)) (R .last) (R .others n (omega arith) (omega arith))))
+
+-- The promise leaves no choice: of a service with a backend, ledgers that begin alike are alike after each rule. The backends' entries are fixed by the
+-- count, and the others by the first ledger.
+module _ (T : Targets) (some : 0 < backends T) (rs : List Rule) (from : ℕ) (L M N : Ledger) (S : SharesKept T rs from L M)
+    (R : SharesKept T rs from L N) where
+  -- who is neither giver nor receiver, being no backend
+  not-giver : (b : ℕ) → backends T ≤ b → (xs : List Rule) → b ≢ giver T xs
+  unfolding giver
+  not-giver b l xs e = absurd (omega (arith, argmax-is (excess T xs) (backends T) some .inside))
+
+  not-receiver : (b : ℕ) → backends T ≤ b → (xs : List Rule) → b ≢ receiver T xs
+  unfolding receiver
+  not-receiver b l xs e = absurd (omega (arith, argmax-is (shortfall T xs) (backends T) some .inside))
+
+  alike : (d c : ℕ) → c ≡ from + d → c ≤ length rs → (b : ℕ) → entryAt (S .ledger c) b ≡ entryAt (R .ledger c) b
+  alike zero c e l b =
+      let start : c ≡ from = omega arith in
+      ap (λ (X : Ledger). entryAt X b) (ap (S .ledger) start ∙ S .first ∙ sym (ap (R .ledger) start ∙ R .first))
+  alike (suc d) zero e l b = absurd (omega arith)
+  alike (suc d) (suc c) e l b = go (alike d c (omega arith) (omega arith) b) (decLt b (backends T))
+    where
+      xs : List Rule
+      xs = oldest c rs
+
+      go : entryAt (S .ledger c) b ≡ entryAt (R .ledger c) b → Dec (b < backends T) → entryAt (S .ledger (suc c)) b ≡ entryAt (R .ledger (suc c)) b
+      go before (yes h) = S .keeps (suc c) (omega arith) l .entries b h ∙ sym (R .keeps (suc c) (omega arith) l .entries b h)
+      go before (no h) =
+          S .others c (omega arith) (omega arith) .entries b (not-giver b (omega arith) xs) (not-receiver b (omega arith) xs)
+          ∙ before
+          ∙ sym (R .others c (omega arith) (omega arith) .entries b (not-giver b (omega arith) xs) (not-receiver b (omega arith) xs))
+
+  pub kept-alike : (c : ℕ) → from ≤ c → c ≤ length rs → (b : ℕ) → entryAt (S .ledger c) b ≡ entryAt (R .ledger c) b
+  kept-alike c l = alike (c - from) c (omega arith)

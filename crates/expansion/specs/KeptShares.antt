@@ -34,8 +34,8 @@ pub record Keeps (T : Targets) (rs : List Rule) (L : Ledger) : Type 0 where
 pub record OthersStay (T : Targets) (rs : List Rule) (L M : Ledger) : Type 0 where
   pub entries : (b : ℕ) → b ≢ giver T rs → b ≢ receiver T rs → entryAt M b ≡ entryAt L b
 
--- The promise, of a list rs, the newest rule first, whose `from` oldest stood at its start: there is a ledger after each rule from then on, L the first
--- and M the last; each keeps the shares and errors of the rules so far, and at each move all entries but giver's and receiver's stay.
+-- The promise, of a list rs, the newest rule first, whose `from` oldest stood at its start: there is a ledger after c rules for each c from then on, L
+-- the first and M the last; each keeps the shares and errors of the rules so far, and at each move all entries but giver's and receiver's stay.
 pub record SharesKept (T : Targets) (rs : List Rule) (from : ℕ) (L M : Ledger) : Type 0 where
   pub inside : from ≤ length rs
   pub ledger : ℕ → Ledger

@@ -166,7 +166,7 @@ fn in_budget(next: Next, count: usize, budget: usize) -> Next
     }
 }
 
-// The list from where it stands to its end: turn after turn, as long as the budget has room.
+// The list from where it stands to its end: turn after turn, as long as the budget has room, the shares kept as it goes.
 fn go_on(
     holder: &mut [u16],
     low: &mut [u16],
