@@ -56,10 +56,18 @@ unfolding listTo sumTo countTo argmax matches firstMatch gives share backends la
     largestExcess largestShortfall frame
 p6-one-suffix = (refl, refl)
 
+-- the first two rules of P1, `*0` to 2 and `*` to 3
+abbrev half : Rule
+half = record { len = 1; value = 0; backend = 2 }
+
+abbrev star : Rule
+star = record { len = 0; value = 0; backend = 3 }
+
+abbrev halved : List Rule
+halved = half ∷ star ∷ []
+
 -- P1 with a budget of two rules is cut after them
-pub p1-cut :
-    (listOf (p1 .given) 2 ≡ record { len = 1; value = 0; backend = 2 } ∷ record { len = 0; value = 0; backend = 3 } ∷ [])
-    × (endOf (p1 .given) (listOf (p1 .given) 2) ≡ Budget)
+pub p1-cut : (listOf (p1 .given) 2 ≡ halved) × (endOf (p1 .given) (listOf (p1 .given) 2) ≡ Budget)
 unfolding listTo sumTo countTo allTo firstTo argmax lastmax matches firstMatch gives share backends label weight has wants excess shortfall
     imbalance giver receiver largestExcess largestShortfall firstRule frame isWithin reduction reductionAt term isNoGain isWhole termLength
     lowestPlace newRule step after endOf listOf oldest place value valueFrom lowest
@@ -105,9 +113,6 @@ p1-kept from l m =
     }
 
 -- a start that isn't `*`: P1 taken up after its second rule, with terms of at most 2^3 suffixes, fits and comes to the same list
-abbrev halved : List Rule
-halved = record { len = 1; value = 0; backend = 2 } ∷ record { len = 0; value = 0; backend = 3 } ∷ []
-
 abbrev resumed : Frame
 resumed = framed 5 3 20000 (T .labels) (T .weights) halved
 
@@ -116,13 +121,8 @@ unfolding listTo matches backends label frame
 halved-complete s = go (eqb (s % 2) 0) refl
   where
     go : (t : Bool) → eqb (s % 2) 0 ≡ t → (b : ℕ) × (b < backends T) × (gives halved s (label T b) ≡ true)
-    go true e = (1, lit< tt, gives-matched (record { len = 1; value = 0; backend = 2 }) (record { len = 0; value = 0; backend = 3 } ∷ []) s 2 e)
-    go false e = (
-      2,
-      lit< tt,
-      gives-passed (record { len = 1; value = 0; backend = 2 }) (record { len = 0; value = 0; backend = 3 } ∷ []) s 3 e
-          ∙ gives-matched (record { len = 0; value = 0; backend = 3 }) [] s 3 (eq-eqb (s % 1) 0 (mod-one s)),
-    )
+    go true e = (1, lit< tt, gives-matched half (star ∷ []) s 2 e)
+    go false e = (2, lit< tt, gives-passed half (star ∷ []) s 3 e ∙ gives-matched star [] s 3 (eq-eqb (s % 1) 0 (mod-one s)))
 
 pub p1-resumed : Fits resumed × (listOf resumed 4 ≡ p1 .rules)
 unfolding listTo sumTo countTo allTo firstTo argmax lastmax matches firstMatch gives share backends label weight has wants excess shortfall
