@@ -1,5 +1,5 @@
 /* Gulmorzon for C: split a percentage sheet, look an address up, count the churn between two rule sheets, read the gauges
- * of a backend.
+ * of a backend, put new weights on a service's rules.
  *
  * Link target/staticlib/libgulmorzon.a, which `rt staticlib gulmorzon` proves and builds for x86-64 Linux. It needs memcpy
  * and memset and nothing else. What each call answers and writes is proved for every input; the contracts stand in
@@ -13,8 +13,8 @@
  *   - its rounding mode is C's default, to nearest (in another one a gauge of 0 may be -0).
  * The calls keep nothing between them and allocate nothing: threads may call at the same time.
  *
- * Texts are bytes with a length; a zero byte does not end them. Lengths of figures and table are counted in numbers.
- * Services and backends have in every call the numbers that are printed for them, from 1.
+ * Texts are bytes with a length; a zero byte does not end them. Lengths of figures, table and rules are counted in
+ * numbers. Services and backends have in every call the numbers that are printed for them, from 1.
  */
 #ifndef GULMORZON_H
 #define GULMORZON_H
@@ -34,10 +34,11 @@ extern "C" {
 #define GULMORZON_TEXT 65536   /* bytes of a rule sheet */
 #define GULMORZON_FIGURES 192  /* 64 services, three numbers each */
 #define GULMORZON_TABLE 8192   /* 2,048 rules, four numbers each */
+#define GULMORZON_RULES 96     /* 32 rules, three numbers each */
 
 #define GULMORZON_STACK 262144
 
-/* An answer's number: 0, or why the call was refused (document 01, "Turned-back work"). */
+/* An answer's number: 0, or why the call was refused (document 01, "Turned-back work"; 13 is document 02's, Req 03). */
 enum gulmorzon_number {
     GULMORZON_ANSWERED = 0,
     GULMORZON_MALFORMED = 1,       /* LF missing, keyword wrong, or too few or too many fields */
@@ -51,7 +52,8 @@ enum gulmorzon_number {
     GULMORZON_ORDER = 9,           /* a rule line out of order */
     GULMORZON_MISCOUNT = 10,       /* n isn't the number of rule lines */
     GULMORZON_TOO_LONG = 11,       /* a text over 65,536 bytes */
-    GULMORZON_DEPTH = 12           /* churn between sheets of unlike k */
+    GULMORZON_DEPTH = 12,          /* two sheets of unlike k, for churn or an update */
+    GULMORZON_STUCK = 13           /* no kept rules lead to a list within tolerance */
 };
 
 /* Answered: number 0 and the value; line and sheet are 0. Refused: the number, the line from 1 or 0 where no line is the
@@ -106,6 +108,19 @@ struct gulmorzon_reading_answer {
     double value;
 };
 
+/* Answered: number 0, k, how many of the oldest rules were kept, how many rules the new list has, and the churn, how many
+ * of the 2^k suffixes have another backend than in the old list. Refused: the number, the line as above, and the sheet, 1
+ * for the rule sheet and 2 for the percentage sheet, or 0 for neither; the rest is 0. A refused call has written nothing. */
+struct gulmorzon_update_answer {
+    size_t number;
+    size_t line;
+    size_t sheet;
+    size_t k;
+    size_t kept;
+    size_t rules;
+    size_t churn;
+};
+
 /* Splits a percentage sheet: writes its rule sheet from the start of out. The value is its number of bytes; no zero byte
  * is added, and the rest of out stays as it was. */
 struct gulmorzon_answer gulmorzon_split(const char *text, size_t text_len, char *out, size_t out_len);
@@ -133,6 +148,22 @@ struct gulmorzon_reading_answer gulmorzon_reading(const char *text, size_t text_
  * both stays as it was. */
 struct gulmorzon_plan_answer gulmorzon_plan(const char *text, size_t text_len, size_t *figures, size_t figures_len,
                                             size_t *table, size_t table_len);
+
+/* New weights on a loaded table. old_text is a rule sheet: its lines of the service are the old list. sheet_text is a
+ * percentage sheet: it has the tolerance and, in its line of the service, the new weights; k has to be the same in both,
+ * and its capacity, volumes and other services are read and not used. Of the old list the oldest rules, which stand last,
+ * are kept: at least one, and as many as can be so that the steps of a split, going on from them, come to a list that is
+ * within tolerance and has no more rules than the old one.
+ *
+ * The rule sheet is read wholly, then the percentage sheet: their own refusals have their line and sheet. After these
+ * come, with line 0: 8 with the first sheet that lacks the service; and with sheet 0 too, in this order, 12; 2 where a rule
+ * of the old list, kept or not, has a backend beyond the weights; 13 where no number of kept rules leads to such a list; 7
+ * where rules is too short for the new list.
+ *
+ * rules takes three numbers for each rule of the new list, the newest first: length and value of the suffix, backend, as a
+ * rule sheet would have them. The rest of it stays as it was. */
+struct gulmorzon_update_answer gulmorzon_update(const char *old_text, size_t old_len, const char *sheet_text,
+                                                size_t sheet_len, size_t service, size_t *rules, size_t rules_len);
 
 #ifdef __cplusplus
 }

@@ -1,6 +1,6 @@
 /* A tool of an operator's own that calls Gulmorzon. It splits two sheets, looks addresses up, counts the churn between the
- * two tables, plans a third sheet in numbers, reads gauges and shows refusals and short buffers. Each answer is printed and
- * checked: the exit status is 1 if one is wrong. */
+ * two tables, plans a third sheet in numbers, reads gauges, puts new weights on a service's rules and shows refusals and
+ * short buffers. Each answer is printed and checked: the exit status is 1 if one is wrong. */
 #include "gulmorzon.h"
 
 #include <math.h>
@@ -25,6 +25,16 @@
 #define LOADED "TABLE 5 5 0\n1 *00000 1\n1 *000 2\n1 *0 1\n1 * 2\n2 * 1\n"
 #define DEEP \
     "TABLE 12 7 3319680000\n1 *001010101010 1\n1 *0010101010 1\n1 *00101010 1\n1 *001010 1\n1 *0010 1\n1 *00 1\n1 * 2\n"
+
+/* New weights. Service 2 of AGED has the rules of 16.6667 33.3333 50 (document 01, case P1); with the weights of CHANGED its
+ * new list is *01010 2, *0010 1, *00 2, * 3, which keeps one rule. EXACT allows no error, and no list gets there. */
+#define AGED "TABLE 5 5 0\n1 * 1\n2 *00100 1\n2 *000 1\n2 *0 2\n2 * 3\n"
+#define CHANGED "SHEET 5 2 5\nSERVICE 1 100\nSERVICE 1 5 30 65\n"
+#define EXACT "SHEET 5 0 5\nSERVICE 1 100\nSERVICE 1 5 30 65\n"
+#define FEWER "SHEET 5 100 5\nSERVICE 1 100\nSERVICE 1 50 50\n"
+#define DEEPER "SHEET 6 2 5\nSERVICE 1 100\nSERVICE 1 5 30 65\n"
+#define ALONE "SHEET 5 2 5\nSERVICE 1 100\n"
+#define NEW_RULES {5, 10, 2, 4, 2, 1, 2, 0, 2, 0, 0, 3}
 
 #define LEN(text) (sizeof(text) - 1)
 
@@ -215,6 +225,48 @@ static void readings(void)
     reading("reading, gauge 8", LEN(LOADED), 1, 55, 1, GULMORZON_ABSENT, bad);
 }
 
+/* New weights on a service's rules in AGED, of which len bytes are lent, with room for so many numbers: the new list, or
+ * nothing written. */
+static void update(const char *what, size_t len, const char *sheet, size_t sheet_len, size_t service, size_t room,
+                   struct gulmorzon_update_answer want)
+{
+    static const size_t want_rules[] = NEW_RULES;
+    static size_t rules[GULMORZON_RULES];
+    fresh(rules, sizeof rules);
+    struct gulmorzon_update_answer a = gulmorzon_update(AGED, len, sheet, sheet_len, service, rules, room);
+    size_t end = want.number == GULMORZON_ANSWERED ? sizeof want_rules : 0;
+    printf("%s: number %zu, line %zu, sheet %zu, k %zu, kept %zu, rules %zu, churn %zu\n", what, a.number, a.line, a.sheet,
+           a.k, a.kept, a.rules, a.churn);
+    check(what, a.number == want.number && a.line == want.line && a.sheet == want.sheet && a.k == want.k
+                    && a.kept == want.kept && a.rules == want.rules && a.churn == want.churn);
+    check("rules", memcmp(rules, want_rules, end) == 0 && untouched(rules, end, sizeof rules));
+}
+
+static void updates(void)
+{
+    static const struct gulmorzon_update_answer made = {.k = 5, .kept = 1, .rules = 4, .churn = 12};
+    static const struct gulmorzon_update_answer stuck = {.number = GULMORZON_STUCK};
+    static const struct gulmorzon_update_answer short_rules = {.number = GULMORZON_SHORT_LOAN};
+    static const struct gulmorzon_update_answer cut = {.number = GULMORZON_MALFORMED, .line = 6, .sheet = 1};
+    static const struct gulmorzon_update_answer bad = {.number = GULMORZON_BAD_FIELD, .line = 3, .sheet = 2};
+    static const struct gulmorzon_update_answer in_neither = {.number = GULMORZON_UNKNOWN_SERVICE, .sheet = 1};
+    static const struct gulmorzon_update_answer unweighted = {.number = GULMORZON_UNKNOWN_SERVICE, .sheet = 2};
+    static const struct gulmorzon_update_answer unlike = {.number = GULMORZON_DEPTH};
+    static const struct gulmorzon_update_answer beyond = {.number = GULMORZON_BAD_FIELD};
+    size_t len = LEN(AGED), all = GULMORZON_RULES;
+    update("update", len, CHANGED, LEN(CHANGED), 2, all, made);
+    update("update, just enough room", len, CHANGED, LEN(CHANGED), 2, 12, made);
+    update("update, rules too short", len, CHANGED, LEN(CHANGED), 2, 11, short_rules);
+    update("update, stuck", len, EXACT, LEN(EXACT), 2, all, stuck);
+    update("update, stuck, no room", len, EXACT, LEN(EXACT), 2, 0, stuck);
+    update("update, the rule sheet cut, a bad percentage", len - 1, BAD, LEN(BAD), 3, 0, cut);
+    update("update, a bad percentage, no such service", len, BAD, LEN(BAD), 3, 0, bad);
+    update("update, no such service in either", len, CHANGED, LEN(CHANGED), 3, all, in_neither);
+    update("update, no such service in the second", len, ALONE, LEN(ALONE), 2, all, unweighted);
+    update("update, unlike k", len, DEEPER, LEN(DEEPER), 2, all, unlike);
+    update("update, a rule beyond the weights, no room", len, FEWER, LEN(FEWER), 2, 0, beyond);
+}
+
 int main(void)
 {
     splits();
@@ -223,5 +275,6 @@ int main(void)
     plans();
     records();
     readings();
+    updates();
     return wrong;
 }

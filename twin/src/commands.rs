@@ -3,8 +3,11 @@
 
 use crate::calls::{churn, lookup, program};
 use crate::gauges::fractions;
-use crate::limits::MOST_BYTES;
+use crate::limits::{MOST_BYTES, MOST_RULES};
 use crate::numerals::{read_number, read_numeral};
+use crate::rule_sheet::push_line;
+use crate::suffix::Suffix;
+use crate::update::update_sheets;
 use std::ffi::OsStr;
 use std::fmt::Display;
 use std::fs::File;
@@ -15,6 +18,7 @@ use std::os::unix::ffi::OsStrExt;
 pub const USAGE: &str = "usage: twin [split SHEET]
        twin lookup TABLE SERVICE ADDRESS
        twin churn OLD NEW SERVICE
+       twin update OLD SHEET SERVICE
        twin gauge TABLE SERVICE VOLUME BACKEND
 SHEET, TABLE, OLD and NEW are files, - is standard input (once); SERVICE, VOLUME
 and BACKEND are numbers, ADDRESS is a number or a dotted quad.";
@@ -36,6 +40,11 @@ pub enum Command<'a> {
     Churn {
         old: &'a [u8],
         new: &'a [u8],
+        service: u64,
+    },
+    Update {
+        old: &'a [u8],
+        sheet: &'a [u8],
         service: u64,
     },
     Gauge {
@@ -62,6 +71,14 @@ impl<'a> Command<'a> {
                 let service = read_numeral(service)?;
                 Some(Command::Churn { old, new, service })
             }
+            [b"update", old, sheet, service] if old != INPUT || sheet != INPUT => {
+                let service = read_numeral(service)?;
+                Some(Command::Update {
+                    old,
+                    sheet,
+                    service,
+                })
+            }
             [b"gauge", table, service, volume, backend] => Some(Command::Gauge {
                 table,
                 service: read_numeral(service)?,
@@ -85,6 +102,14 @@ impl<'a> Command<'a> {
                 let (old, new) = (read(old)?, read(new)?);
                 line_of(churn(&old, &new, service))
             }
+            Command::Update {
+                old,
+                sheet,
+                service,
+            } => {
+                let (old, sheet) = (read(old)?, read(sheet)?);
+                updated(&old, &sheet, service)
+            }
             Command::Gauge {
                 table,
                 service,
@@ -102,6 +127,24 @@ fn line_of<T: Display, E: Display>(answer: Result<T, E>) -> Vec<u8> {
         Err(refusal) => format!("{refusal}\n"),
     }
     .into_bytes()
+}
+
+/// The measures of an update on a line, then the new list as in a rule sheet; or
+/// the refusal.
+fn updated(old: &[u8], sheet: &[u8], service: u64) -> Vec<u8> {
+    let mut list = [0; 3 * MOST_RULES as usize];
+    let (k, made) = match update_sheets(old, sheet, service, &mut list) {
+        Ok(answer) => answer,
+        Err(refusal) => return format!("{refusal}\n").into_bytes(),
+    };
+    let (keep, rules, churn) = (made.keep, made.rules, made.churn);
+    let mut text = format!("UPDATE {k} {keep} {rules} {churn}\n").into_bytes();
+    let (list, _) = list[..3 * rules].as_chunks::<3>();
+    for &[length, value, backend] in list {
+        let suffix = Suffix::new(length, value).expect("a rule has a suffix");
+        push_line(service, suffix, backend, &mut text);
+    }
+    text
 }
 
 /// An address: a number, or a dotted quad, which begins with the highest byte.
@@ -137,16 +180,19 @@ mod tests {
 
     const RULES: &str = "TABLE 5 5 293333920\n1 *0 2\n1 * 3\n2 *00 2\n2 *0 1\n2 * 3\n";
 
+    const SHEET: &str = "SHEET 5 2 5\nSERVICE 55 16.6667 33.3333 50\nSERVICE 45 25 25 50\n";
+
     fn command(words: &str) -> Option<Command<'_>> {
         let words: Vec<&[u8]> = words.split(' ').map(str::as_bytes).collect();
         Command::of(&words)
     }
 
-    /// What is printed where the file `-` is the sample's rule sheet, `x` has
-    /// nothing in it, and no other file is there.
+    /// What is printed where the file `-` is the sample's rule sheet, `s` its
+    /// percentage sheet, `x` has nothing in it, and no other file is there.
     fn said(words: &str) -> Result<String, String> {
         let read = |name: &[u8]| match name {
             b"-" => Ok(RULES.as_bytes().to_vec()),
+            b"s" => Ok(SHEET.as_bytes().to_vec()),
             b"x" => Ok(Vec::new()),
             _ => Err("no file".to_string()),
         };
@@ -167,6 +213,22 @@ mod tests {
         for service in ["0", "65", "18446744073709551617", &"7".repeat(99)] {
             let words = format!("lookup - {service} 1.2.3.4");
             assert_eq!(said(&words).unwrap(), "REFUSED 8 0\n");
+        }
+    }
+
+    #[test]
+    fn updates_are_printed_with_their_lines() {
+        for (words, expected) in [
+            ("update - s 2", "UPDATE 5 3 3 0\n2 *00 2\n2 *0 1\n2 * 3\n"),
+            ("update - s 1", "REFUSED 13 0 0\n"),
+            ("update - s 3", "REFUSED 8 0 1\n"),
+            ("update - - 2", "usage"),
+            ("update s - 2", "REFUSED 1 1 1\n"),
+            ("update - x 2", "REFUSED 1 1 2\n"),
+            ("update x x 2", "REFUSED 1 1 1\n"),
+        ] {
+            let printed = said(words).unwrap_or_else(|message| message);
+            assert_eq!(printed, expected, "{words}");
         }
     }
 
@@ -203,6 +265,8 @@ mod tests {
         for words in [
             "churn x y 1",
             "churn y x 1",
+            "update x y 1",
+            "update y x 1",
             "lookup y 1 1",
             "split y",
             "gauge y 1 1 1",
@@ -228,6 +292,12 @@ mod tests {
             "churn x x 1 1",
             "churn x x 1.0",
             "churn - - 1",
+            "update",
+            "update x 1",
+            "update x x 1 1",
+            "update x x 01",
+            "update x x +1",
+            "update - - 1",
             "gauge",
             "gauge x 1 1",
             "gauge x 1 1 1 1",

@@ -1,10 +1,9 @@
 //! The expansion of one service (document 01, "Expansion").
 
-use crate::holdings::Holdings;
-use crate::ledger::Ledger;
 use crate::limits::{MOST_BACKENDS, MOST_BITS, MOST_RULES};
 use crate::numerals::WHOLE;
 use crate::refusal::{Reason, Refusal};
+use crate::start::{Limits, Start};
 use crate::suffix::Suffix;
 
 /// A rule sends the addresses of a suffix to a backend, numbered from 1.
@@ -47,14 +46,19 @@ fn check(k: u64, tolerance: u64, budget: u64, weights: &[u64]) -> Result<(), Rea
     if limits
         .iter()
         .any(|&(number, lo, hi)| number < lo || number > hi)
-        || weights.is_empty()
     {
         return Err(Reason::BadField);
     }
-    if weights.len() as u64 > MOST_BACKENDS {
-        return Err(Reason::TooMany);
+    check_backends(weights)
+}
+
+/// The number of backends, then their weights.
+pub fn check_backends(weights: &[u64]) -> Result<(), Reason> {
+    match weights.len() as u64 {
+        0 => Err(Reason::BadField),
+        1..=MOST_BACKENDS => check_weights(weights),
+        _ => Err(Reason::TooMany),
     }
-    check_weights(weights)
 }
 
 /// Each weight is at most 1,000,000, then their sum is just that.
@@ -71,32 +75,19 @@ pub fn check_weights(weights: &[u64]) -> Result<(), Reason> {
 /// Steps 1 to 6 for numbers within their limits.
 pub fn make_list(k: u8, tolerance: u64, budget: usize, weights: &[u64]) -> Expansion {
     let first = largest(weights);
-    let mut ledger = Ledger::new(k, weights, first);
-    let mut holdings = Holdings::new(k, first);
     let mut rules = Vec::with_capacity(budget);
     let mut stairs = Vec::with_capacity(budget);
-    let (mut suffix, mut backend) = (Suffix::STAR, first);
-    let ending = loop {
-        rules.push(Rule {
-            suffix,
-            backend: backend as u8 + 1,
-        });
-        stairs.push(ledger.imbalance());
-        let ends = ledger.extremes();
-        if ends.excess.max(ends.shortfall) <= (tolerance << k) as i64 {
-            break Ending::Within;
-        }
-        let Some(term) = best_term(k, ends.shortfall, ends.excess) else {
-            break Ending::NoGain;
-        };
-        if rules.len() == budget {
-            break Ending::Budget;
-        }
-        let given = holdings.give(ends.giver, ends.receiver, term);
-        suffix = given.expect("terms never grow, so the giver holds a whole suffix");
-        backend = ends.receiver;
-        ledger.give(ends.giver, ends.receiver, 1 << term);
+    rules.push(Rule {
+        suffix: Suffix::STAR,
+        backend: first as u8 + 1,
+    });
+    let limits = Limits {
+        tolerance,
+        budget,
+        terms: k,
     };
+    let mut start = Start::new(k, weights, first);
+    let ending = start.go_on(&limits, &mut rules, |stair| stairs.push(stair));
     Expansion {
         rules,
         stairs,
@@ -113,21 +104,6 @@ fn largest(weights: &[u64]) -> usize {
         }
     }
     largest
-}
-
-/// Step 4: the i of the term 2^i with the greatest reduction, the larger term
-/// if equal; nothing if no reduction is above zero.
-fn best_term(k: u8, shortfall: i64, excess: i64) -> Option<u8> {
-    let mut best = None;
-    let mut greatest = 1;
-    for i in 0..k {
-        let t = (WHOLE << i) as i64;
-        let reduction = 2 * (shortfall.min(t) + excess.min(t) - t);
-        if reduction >= greatest {
-            (best, greatest) = (Some(i), reduction);
-        }
-    }
-    best
 }
 
 #[cfg(test)]

@@ -77,7 +77,7 @@ fn text_length(head: [u64; 3], lines: &[[u64; 4]], rest: &[u64]) -> u128 {
 }
 
 /// One line, if each of its numbers is within its limits.
-fn line_of(k: u64, &[service, length, value, backend]: &[u64; 4]) -> Option<RuleLine> {
+pub(crate) fn line_of(k: u64, &[service, length, value, backend]: &[u64; 4]) -> Option<RuleLine> {
     let within = (1..=MOST_SERVICES).contains(&service)
         && length <= k
         && (1..=MOST_BACKENDS).contains(&backend);

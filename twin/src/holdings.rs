@@ -6,13 +6,14 @@
 use crate::suffix::Suffix;
 
 /// Places from `start` up to the start of the next run, all of one holder.
-#[derive(Clone, Copy)]
+#[derive(Clone, Copy, PartialEq, Eq, Debug)]
 struct Run {
     start: u16,
     holder: u8,
 }
 
 /// The runs of all 2^k places; no two neighbours have the same holder.
+#[derive(Clone, PartialEq, Eq, Debug)]
 pub struct Holdings {
     k: u8,
     runs: Vec<Run>,
@@ -35,6 +36,35 @@ impl Holdings {
         let (run, start) = self.lowest(giver as u8, 1 << term)?;
         self.cut(run, start, start + (1 << term), receiver as u8);
         Some(Suffix::at_place(self.k - term, start >> term))
+    }
+
+    /// Gives a suffix that lies in one run to a holder and returns who had it.
+    pub fn lay(&mut self, suffix: Suffix, holder: usize) -> usize {
+        let size = 1 << (self.k - suffix.length());
+        let start = suffix.place() * size;
+        let run = self.runs.partition_point(|run| run.start <= start) - 1;
+        debug_assert!(start + size <= self.end(run));
+        let before = usize::from(self.runs[run].holder);
+        if before != holder {
+            self.cut(run, start, start + size, holder as u8);
+        }
+        before
+    }
+
+    /// How many places have unlike holders here and there, where k is the same.
+    pub fn unlike(&self, other: &Holdings) -> u64 {
+        let (mut here, mut there, mut place, mut count) = (0, 0, 0, 0);
+        while place < 1 << self.k {
+            let (end, other_end) = (self.end(here), other.end(there));
+            let next = end.min(other_end);
+            if self.runs[here].holder != other.runs[there].holder {
+                count += u64::from(next - place);
+            }
+            here += usize::from(end == next);
+            there += usize::from(other_end == next);
+            place = next;
+        }
+        count
     }
 
     /// The first place that is a multiple of `size` and begins `size` places of

@@ -19,6 +19,7 @@ impl Backend {
 }
 
 /// All backends of a service and their imbalance, the sum of the excesses.
+#[derive(Clone)]
 pub struct Ledger {
     backends: Vec<Backend>,
     imbalance: u64,
@@ -79,6 +80,12 @@ impl Ledger {
             receiver,
             shortfall: -least,
         }
+    }
+
+    /// How many backends have an error of more than this size.
+    pub fn beyond(&self, size: i64) -> usize {
+        let large = |backend: &&Backend| backend.error.abs() > size;
+        self.backends.iter().filter(large).count()
     }
 
     /// Moves a number of suffixes from the giver to the receiver.

@@ -1,5 +1,5 @@
-//! The Rust twin: document 01, and request 01 of document 02, written once more,
-//! to be tried against.
+//! The Rust twin: document 01, and requests 01 and 03 of document 02, written
+//! once more, to be tried against.
 
 pub mod calls;
 pub mod commands;
@@ -12,15 +12,21 @@ pub mod holdings;
 pub mod ledger;
 pub mod limits;
 pub mod lines;
+pub mod lists;
 pub mod numerals;
 pub mod packing;
 pub mod percentage_sheet;
+#[cfg(test)]
+mod plain;
 pub mod plan;
 pub mod random;
 pub mod refusal;
 pub mod rows;
 pub mod rule_sheet;
+pub mod services;
 pub mod sheet_lines;
+pub mod start;
 pub mod suffix;
 pub mod table;
+pub mod update;
 pub mod vectors;

@@ -29,6 +29,8 @@ pub enum Reason {
     TooLong = 11,
     /// Churn between sheets of unlike k.
     Depth = 12,
+    /// No number of kept rules ends within the tolerance.
+    Stuck = 13,
 }
 
 impl Reason {

@@ -61,14 +61,20 @@ pub fn text_of(table: &Table) -> Vec<u8> {
     }
     text.push(b'\n');
     for line in &table.lines {
-        push_number(u64::from(line.service), &mut text);
-        text.push(b' ');
-        line.rule.suffix.push(&mut text);
-        text.push(b' ');
-        push_number(u64::from(line.rule.backend), &mut text);
-        text.push(b'\n');
+        let (service, rule) = (u64::from(line.service), line.rule);
+        push_line(service, rule.suffix, u64::from(rule.backend), &mut text);
     }
     text
+}
+
+/// Appends a rule line to a text that grows.
+pub fn push_line(service: u64, suffix: Suffix, backend: u64, text: &mut Vec<u8>) {
+    push_number(service, text);
+    text.push(b' ');
+    suffix.push(text);
+    text.push(b' ');
+    push_number(backend, text);
+    text.push(b'\n');
 }
 
 /// Copies a text to the front of a lent buffer, or finds the buffer too short.

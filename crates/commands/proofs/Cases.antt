@@ -10,7 +10,7 @@ use Rattle.numerals.specs.Suffix.{suffix}
 use Rattle.numerals.specs.Text.{onto, split}
 use Rattle.numerals.specs.Refusals.{numberOf}
 use Rattle.expansion.specs.Answer.{inLimits}
-use Rattle.expansion.specs.FirstMatch.{matches, firstMatch, gives, share}
+use Rattle.expansion.specs.FirstMatch.{differing, matches, firstMatch, gives, share}
 use Rattle.numerals.specs.Sums.{sumTo, countTo}
 use Rattle.packing.specs.Count.{ownRules}
 use Rattle.sheets.specs.Reading.{then, unless, onField, same}
@@ -105,7 +105,7 @@ pub record Churns : Type 0 where
   pub no-number : churns cut cut "-1" ≡ noNumber 3
 
 pub all-churns : Churns
-unfolding churnSays onNumber numeral churnedText numberText refusedOfText refusal numberOf decimal width widthIn lowest churnAnswer churnOf moved
+unfolding churnSays onNumber numeral churnedText numberText refusedOfText refusal numberOf decimal width widthIn lowest churnAnswer churnOf moved differing
     sumTo countTo hasService firstMatch ownRules matches bytes readTable textLimit tableLine firstLine openingLines openingFields
     wholeTable closed ruleLines ruleFields placed inOrder countOf onSuffix totalLimit same onField unless then number isNumeral
     noLeadingZero allDigits isDigit value valueFrom suffix split onto

@@ -10,5 +10,8 @@ pub mod GaugeTexts
 pub mod GaugeWords
 pub mod Lookups
 pub mod Churns
+pub mod UpdateLines
+pub mod Updates
 pub mod Refusals
 pub mod Cases
+pub mod UpdateCases

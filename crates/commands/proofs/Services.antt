@@ -8,6 +8,7 @@ use borrow.Author.Tests.{ne-eqb}
 use Rattle.numerals.specs.Limits.{mostServices}
 use Rattle.packing.specs.Count.{Line, ownRules}
 use Rattle.sheets.specs.Reading.{Reading, got, refused}
+use Rattle.sheets.specs.PercentageSheet.{Sheet, readSheet}
 use Rattle.sheets.specs.RuleSheet.{Table, countOf, readTable}
 use Rattle.sheets.specs.Calls.{answered, hasService, lookupIn, lookupAnswer, churnOf, churnAnswer}
 use Rattle.sheets.specs.declared.answer.Answer.the-variants.{Refused}
@@ -15,6 +16,10 @@ use Rattle.sheets.proofs.TableChecks.{InOrder, formed}
 use Rattle.sheets.proofs.OrderedLines.{read-proper}
 use Rattle.gauges.specs.Gauges.{gaugesIn, gaugesAnswer}
 use Rattle.gauges.specs.declared.answer.GaugesAnswer.the-variants as gauges
+use Rattle.expansion.specs.declared.rule.Rule.{Rule}
+use Rattle.update.specs.Sheets.{sheetsIn, sheetsAnswer}
+use Rattle.update.specs.declared.answer.SheetUpdated.the-variants as updates
+use Rattle.commands.specs.Update.{updatedText, listRoom, updateText}
 use Rattle.commands.proofs.Numerals.{capped-same}
 
 none-above : (k n : ℕ) (before ls : List Line) → InOrder k before ls → mostServices < n → countOf n ls ≡ 0
@@ -55,3 +60,15 @@ gauges-capped text n volume b = capped-same (λ (m : ℕ). gaugesAnswer text m v
         → answered gauges.Refused 0 r (λ t. gaugesIn t (mostServices + 1) volume b) ≡ answered gauges.Refused 0 r (λ t. gaugesIn t n volume b)
     go h (got t) e = rw (unknown text t e n h, unknown text t e (mostServices + 1) (omega arith))
     go h (refused why line) e = refl
+
+-- the text: a list is only made for a service that the table has
+pub update-capped : (old sheet : List ℕ) (n : ℕ) → updateText old sheet (min n (mostServices + 1)) ≡ updateText old sheet n
+unfolding updateText updatedText sheetsAnswer sheetsIn
+update-capped old sheet n = capped-same (λ (m : ℕ). updateText old sheet m) mostServices n (λ h. go h _ _ (readTable old) (readSheet sheet) refl)
+  where
+    go : mostServices < n → (a b : List Rule) (r : Reading Table) (s : Reading Sheet) → readTable old ≡ r
+        → updatedText (answered updates.Refused 1 r (λ t. answered updates.Refused 2 s (λ S. sheetsIn t S (mostServices + 1) listRoom))) (mostServices + 1) a
+        ≡ updatedText (answered updates.Refused 1 r (λ t. answered updates.Refused 2 s (λ S. sheetsIn t S n listRoom))) n b
+    go h a b (refused why line) s e = refl
+    go h a b (got t) (refused why line) e = refl
+    go h a b (got t) (got S) e = rw (unknown old t e n h, unknown old t e (mostServices + 1) (omega arith))

@@ -6,16 +6,17 @@ use Rattle.numerals.specs.Pick.{pick}
 use Rattle.sheets.specs.Cases.{bytes}
 use Rattle.sheets.specs.Reading.{same}
 use Rattle.commands.specs.declared.answer.Command.{Command}
-use Rattle.commands.specs.declared.answer.Command.the-variants.{Split, Lookup, Churn, Gauge, Help, Unknown}
+use Rattle.commands.specs.declared.answer.Command.the-variants.{Split, Lookup, Churn, Update, Gauge, Help, Unknown}
 
 unfoldable pub commandOf : List ℕ → Command
 commandOf word =
     pick (same word (bytes "split")) Split
     (pick (same word (bytes "lookup")) Lookup
     (pick (same word (bytes "churn")) Churn
+    (pick (same word (bytes "update")) Update
     (pick (same word (bytes "gauge")) Gauge
     (pick (same word (bytes "help")) Help
-    Unknown))))
+    Unknown)))))
 
 -- lines, each with its end
 unfoldable pub lines : List String → List ℕ
@@ -34,18 +35,21 @@ helpText =
     ∷ "    splitter lookup old.table 1 10.0.0.1"
     ∷ "splitter churn OLD NEW SERVICE               how many suffixes moved"
     ∷ "    splitter churn old.table new.table 1"
+    ∷ "splitter update OLD SHEET SERVICE            new weights on a loaded table"
+    ∷ "    splitter update old.table new.sheet 1"
     ∷ "splitter gauge TABLE SERVICE VOLUME BACKEND  the share and the load of a backend"
     ∷ "    splitter gauge old.table 1 55 2"
     ∷ "splitter help                                this text"
     ∷ "    splitter help | less"
     ∷ "A file named - is standard input (once in a call)."
-    ∷ "What isn't proper prints REFUSED number line (churn: number line sheet)."
+    ∷ "What isn't proper prints REFUSED number line (churn, update: number line sheet)."
     ∷ [])
 
 unfoldable pub usageText : Command → List ℕ
 usageText Split = lines ("usage: splitter split SHEET" ∷ [])
 usageText Lookup = lines ("usage: splitter lookup TABLE SERVICE ADDRESS" ∷ [])
 usageText Churn = lines ("usage: splitter churn OLD NEW SERVICE" ∷ [])
+usageText Update = lines ("usage: splitter update OLD SHEET SERVICE" ∷ [])
 usageText Gauge = lines ("usage: splitter gauge TABLE SERVICE VOLUME BACKEND" ∷ [])
 usageText Help = lines ("usage: splitter help" ∷ [])
 usageText Unknown =
@@ -54,6 +58,7 @@ usageText Unknown =
     ∷ "       splitter split SHEET"
     ∷ "       splitter lookup TABLE SERVICE ADDRESS"
     ∷ "       splitter churn OLD NEW SERVICE"
+    ∷ "       splitter update OLD SHEET SERVICE"
     ∷ "       splitter gauge TABLE SERVICE VOLUME BACKEND"
     ∷ "       splitter help"
     ∷ [])

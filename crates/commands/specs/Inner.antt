@@ -1,3 +1,4 @@
 -- The contracts of inner functions.
 pub mod Gauge
 pub mod Numeral
+pub mod Update

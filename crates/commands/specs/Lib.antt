@@ -7,6 +7,7 @@ pub mod Dyadic
 pub mod Split
 pub mod Lookup
 pub mod Churn
+pub mod Update
 pub mod Gauge
 pub mod Help
 pub mod Inner

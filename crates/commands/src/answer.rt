@@ -4,6 +4,7 @@ pub enum Command {
     Split,
     Lookup,
     Churn,
+    Update,
     Gauge,
     Help,
     Unknown,

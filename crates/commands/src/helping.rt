@@ -37,6 +37,9 @@ pub fn command(word: &[u8]) -> Command
     if same(word, b"churn") {
         return Command::Churn;
     }
+    if same(word, b"update") {
+        return Command::Update;
+    }
     if same(word, b"gauge") {
         return Command::Gauge;
     }
@@ -58,10 +61,11 @@ pub fn help(out: &mut [u8; crate::ROOM]) -> usize
 splitter split SHEET                         the same for a file\n    splitter split figure-9.sheet\n\
 splitter lookup TABLE SERVICE ADDRESS        the backend of an address\n    splitter lookup old.table 1 10.0.0.1\n\
 splitter churn OLD NEW SERVICE               how many suffixes moved\n    splitter churn old.table new.table 1\n\
+splitter update OLD SHEET SERVICE            new weights on a loaded table\n    splitter update old.table new.sheet 1\n\
 splitter gauge TABLE SERVICE VOLUME BACKEND  the share and the load of a backend\n    splitter gauge old.table 1 55 2\n\
 splitter help                                this text\n    splitter help | less\n\
 A file named - is standard input (once in a call).\n\
-What isn't proper prints REFUSED number line (churn: number line sheet).\n",
+What isn't proper prints REFUSED number line (churn, update: number line sheet).\n",
     )
 }
 
@@ -74,6 +78,7 @@ pub fn usage(command: Command, out: &mut [u8; crate::ROOM]) -> usize
         Command::Split => put_bytes(out, 0, b"usage: splitter split SHEET\n"),
         Command::Lookup => put_bytes(out, 0, b"usage: splitter lookup TABLE SERVICE ADDRESS\n"),
         Command::Churn => put_bytes(out, 0, b"usage: splitter churn OLD NEW SERVICE\n"),
+        Command::Update => put_bytes(out, 0, b"usage: splitter update OLD SHEET SERVICE\n"),
         Command::Gauge => put_bytes(
             out,
             0,
@@ -84,7 +89,7 @@ pub fn usage(command: Command, out: &mut [u8; crate::ROOM]) -> usize
             out,
             0,
             b"usage: splitter\n       splitter split SHEET\n       splitter lookup TABLE SERVICE ADDRESS\n       \
-splitter churn OLD NEW SERVICE\n       splitter gauge TABLE SERVICE VOLUME BACKEND\n       splitter help\n",
+splitter churn OLD NEW SERVICE\n       splitter update OLD SHEET SERVICE\n       splitter gauge TABLE SERVICE VOLUME BACKEND\n       splitter help\n",
         ),
     }
 }

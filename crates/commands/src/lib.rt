@@ -8,6 +8,7 @@ mod helping;
 mod looking;
 mod numeral;
 mod splitting;
+mod updating;
 mod writing;
 
 pub use answer::Command;
@@ -19,6 +20,7 @@ pub use helping::help;
 pub use helping::usage;
 pub use looking::lookup;
 pub use splitting::split;
+pub use updating::update;
 
 // The bytes of a lent buffer, and the limit of a text: no answer is longer.
 pub const ROOM: usize = numerals::TEXT_LIMIT;

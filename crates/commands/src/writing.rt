@@ -45,7 +45,7 @@ pub fn put_answer(out: &mut [u8], n: usize) -> usize
 }
 
 // Two numbers, a space between them and a separator behind them; the position after them.
-fn put_pair(out: &mut [u8], at: usize, first: u64, second: u64, separator: u8) -> usize
+pub fn put_pair(out: &mut [u8], at: usize, first: u64, second: u64, separator: u8) -> usize
     requires { ⌜ at + 42 ≤ length (now out) ⌝ }
     ensures text { λ r. ⌜ Wrote (now (out .entry)) (now (out .exit)) at r ((decimal first ++ 32 ∷ []) ++ (decimal second ++ separator ∷ [])) ⌝ }
     ensures end { λ r. ⌜ r ≤ at + 42 ⌝ }

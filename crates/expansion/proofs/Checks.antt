@@ -133,7 +133,7 @@ call-passed k tolerance budget ws e =
       w .each,
     )
 
-some-unit : 0 < unit
+pub some-unit : 0 < unit
 unfolding unit
 some-unit = lit< tt
 

@@ -9,7 +9,7 @@ use native.Mathlib.Decide.{decLt, ℕ-discrete}
 use native.Mathlib.Nat.{suc-mul, mul-le-mul-right, mod-one, div-add-mod', div-lt-iff-lt-mul}
 use native.Mathlib.Omega.{arith}
 use lib.Dec.{eqb}
-use lib.ListN.{length, getD, set, replicate, getD-replicate, length-replicate, length-set}
+use lib.ListN.{length, getD, set, replicate, getD-replicate, length-set}
 use lib.Seq.{getD-set-same, getD-set-other}
 use lib.Pow.{pow-pos}
 use borrow.Author.Tests.{eqb-true, eq-eqb, ne-eqb}
@@ -116,24 +116,12 @@ module _ (T : Targets) (distinct : Distinct (label T) (backends T)) (l : ℕ) (h
       (H .lows b (j * size + 0) (inside j 0 m (pow-pos (k - l)))
       (omega (arith, mul-le-mul-right size n, suc-mul j size, div-add-mod' (getD low b 0) size, pow-pos (k - l))))
 
-  -- a node goes from the giver to another, the lowest that the giver holds
-  module _ (short : Lengths l rs) (p : ℕ) (small : p < 2 ^ l) (giver b : ℕ) (apart : giver ≢ b) (b-known : b < backends T)
-      (first : (j : ℕ) → j < p → isWhole k rs l (place l j) (label T giver) ≡ false) (giver-in : giver < length low) (b-in : b < length low)
-      (holder′ low′ : List ℕ) (G : Given (p * size) size b holder holder′) (L : low′ ≡ lowered low giver b (p * size) (p * size + size)) where
-    -- no rule is longer, so before that node the giver holds nothing at all
-    none-before : (q : ℕ) → q < 2 ^ k → q < p * size → getD holder q 0 ≢ giver
-    none-before q m n e =
-        let whole : isWhole k rs l (place k q % 2 ^ l) (label T giver) ≡ true =
-        whole-of-one k l rs (label T giver) (place k q) short (ap (λ (x : ℕ). gives rs (place k q) (label T x)) (sym e) ∙ H .holders q m) in
-        clash (isWhole k rs l (place l (q / size)) (label T giver))
-        (ap (λ (v : ℕ). isWhole k rs l v (label T giver)) (sym (bits-at k l h q m)) ∙ whole)
-        (first (q / size) (div-lt-iff-lt-mul (pow-pos (k - l)) .1 n))
-
-    new : Rule
+  -- a node goes to a backend
+  module _ (p : ℕ) (small : p < 2 ^ l) (b : ℕ) (b-known : b < backends T) (holder′ : List ℕ) (G : Given (p * size) size b holder holder′) where
+    abbrev new : Rule
     new = record { len = l; value = place l p; backend = label T b }
 
-    holders-given : (q : ℕ) → q < 2 ^ k → gives (new ∷ rs) (place k q) (label T (getD holder′ q 0)) ≡ true
-    unfolding new
+    pub holders-given : (q : ℕ) → q < 2 ^ k → gives (new ∷ rs) (place k q) (label T (getD holder′ q 0)) ≡ true
     holders-given q m = go (decLt q (p * size)) (decLt q (p * size + size))
       where
         out : (p * size ≤ q → p * size + size ≤ q) → gives (new ∷ rs) (place k q) (label T (getD holder′ q 0)) ≡ true
@@ -149,13 +137,26 @@ module _ (T : Targets) (distinct : Distinct (label T) (backends T)) (l : ℕ) (h
             ∙ eq-eqb (label T b) (label T (getD holder′ q 0)) (ap (label T) (sym (G .taken q (omega arith) o)))
         go (no n) (no o) = out (λ x. omega arith)
 
-    known-given : (q : ℕ) → q < 2 ^ k → getD holder′ q 0 < backends T
+    pub known-given : (q : ℕ) → q < 2 ^ k → getD holder′ q 0 < backends T
     known-given q m = go (decLt q (p * size)) (decLt q (p * size + size))
       where
         go : Dec (q < p * size) → Dec (q < p * size + size) → getD holder′ q 0 < backends T
         go (yes n) d = omega (arith, G .other q (λ o. absurd (omega arith)), H .known q m)
         go (no n) (yes o) = omega (arith, G .taken q (omega arith) o)
         go (no n) (no o) = omega (arith, G .other q (λ x. omega arith), H .known q m)
+
+  -- a node goes from the giver to another, the lowest that the giver holds
+  module _ (short : Lengths l rs) (p : ℕ) (small : p < 2 ^ l) (giver b : ℕ) (apart : giver ≢ b) (b-known : b < backends T)
+      (first : (j : ℕ) → j < p → isWhole k rs l (place l j) (label T giver) ≡ false) (giver-in : giver < length low) (b-in : b < length low)
+      (holder′ low′ : List ℕ) (G : Given (p * size) size b holder holder′) (L : low′ ≡ lowered low giver b (p * size) (p * size + size)) where
+    -- no rule is longer, so before that node the giver holds nothing at all
+    none-before : (q : ℕ) → q < 2 ^ k → q < p * size → getD holder q 0 ≢ giver
+    none-before q m n e =
+        let whole : isWhole k rs l (place k q % 2 ^ l) (label T giver) ≡ true =
+        whole-of-one k l rs (label T giver) (place k q) short (ap (λ (x : ℕ). gives rs (place k q) (label T x)) (sym e) ∙ H .holders q m) in
+        clash (isWhole k rs l (place l (q / size)) (label T giver))
+        (ap (λ (v : ℕ). isWhole k rs l v (label T giver)) (sym (bits-at k l h q m)) ∙ whole)
+        (first (q / size) (div-lt-iff-lt-mul (pow-pos (k - l)) .1 n))
 
     -- the lows of receiver, giver and the others
     low-receiver : getD low′ b 0 ≡ min (getD low b 0) (p * size)
@@ -196,12 +197,12 @@ module _ (T : Targets) (distinct : Distinct (label T) (backends T)) (l : ℕ) (h
         go (no d) (no f) (no y) (no z) = H .lows c q m (omega (arith, low-other c f d)) (still (λ o. omega arith))
 
     pub holds-given : Holds T (record { len = l; value = place l p; backend = label T b } ∷ rs) holder′ low′
-    unfolding new
-    holds-given = record { known = known-given; holders = holders-given; lows = lows-given }
+    holds-given =
+        record { known = known-given p small b b-known holder′ G; holders = holders-given p small b b-known holder′ G; lows = lows-given }
 
 -- the rule `*` gives everything to one backend, and the others hold nothing
 -- a listing of one value, also past its end
-alike : (n b a : ℕ) → getD (replicate n a) b a ≡ a
+pub alike : (n b a : ℕ) → getD (replicate n a) b a ≡ a
 alike zero b a = refl
 alike (suc n) zero a = refl
 alike (suc n) (suc b) a = alike n b a

@@ -17,6 +17,7 @@ pub mod KeptAlong
 pub mod Surveys
 pub mod Nodes
 pub mod Holdings
+pub mod LaidRules
 pub mod Found
 pub mod Walk
 pub mod Entries
@@ -24,7 +25,15 @@ pub mod Changes
 pub mod Lending
 pub mod Listing
 pub mod Checks
+pub mod OldNumbers
+pub mod OldChecks
 pub mod NextMove
 pub mod Turning
+pub mod KeptStart
 pub mod Answers
+pub mod Largest
+pub mod KeptLists
+pub mod HopelessStarts
+pub mod KeptSearch
+pub mod ResumeAnswers
 pub mod Cases

@@ -7,6 +7,7 @@ use lib.ListN.{length, getD}
 use Rattle.numerals.specs.Pick.{pick, both}
 use Rattle.numerals.specs.Limits.{mostBits, mostBackends, mostRules, unit}
 use Rattle.numerals.specs.Sums.{sumTo, listTo, allTo}
+use Rattle.expansion.specs.Imbalance.{Targets}
 use Rattle.expansion.specs.Steps.{Frame, frame, listOf, endOf, stairsTo}
 use Rattle.expansion.specs.declared.rule.Rule.{Rule}
 use Rattle.expansion.specs.declared.rule.Record.{Record}
@@ -23,9 +24,9 @@ andThen Passed next = next
 andThen (Failed why) next = Failed why
 
 -- what is answered where all checks passed
-abbrev pub onChecked : Checked → Expanded → Expanded
-onChecked Passed made = made
-onChecked (Failed why) made = Refused why
+abbrev pub onChecked : {A : Type 0} → (Refusal → A) → Checked → A → A
+onChecked refuse Passed made = made
+onChecked refuse (Failed why) made = refuse why
 
 -- refused, unless the test passes
 abbrev pub orElse : Bool → Refusal → Checked
@@ -52,7 +53,11 @@ checkCall k tolerance budget ws =
     (andThen (orElse (inLimits 1 mostRules budget) no2)
     (checkWeights ws)))
 
--- the expansion of a call: backends are labelled by their number from 1
+-- what the shares of a call are measured against: backends are labelled by their number from 1
+unfoldable pub targetsMade : ℕ → List ℕ → Targets
+targetsMade k ws = record { k = k; unit = unit; labels = listTo (length ws) suc; weights = ws }
+
+-- the expansion of a call
 unfoldable pub frameMade : ℕ → ℕ → List ℕ → Frame
 frameMade k tolerance ws = frame k unit tolerance (listTo (length ws) suc) ws
 
@@ -75,7 +80,7 @@ recordMade k tolerance budget ws =
 -- the answer, where the shortest lent buffer has `room` places and is filled from position `at` on
 unfoldable pub answer : ℕ → ℕ → ℕ → List ℕ → ℕ → ℕ → Expanded
 answer k tolerance budget ws at room =
-    onChecked (checkCall k tolerance budget ws)
+    onChecked Refused (checkCall k tolerance budget ws)
     (pick (leb (at + length (listMade k tolerance budget ws)) room) (Made (recordMade k tolerance budget ws)) (Refused no7))
 
 -- a list was made; only then are the lent buffers filled

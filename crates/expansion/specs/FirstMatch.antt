@@ -1,6 +1,6 @@
 -- The count by first match (document 01, under that heading), over rules in their order, the first match first: one definition, whoever counts.
 use Prim.Native.Nat.{ℕ, _%_, _^_}
-use mathlib.Core.Bool.{Bool}
+use mathlib.Core.Bool.{Bool, not}
 use mathlib.Core.List.{List, [], _∷_}
 use lib.Dec.{eqb}
 use Rattle.numerals.specs.Pick.{pick}
@@ -32,3 +32,7 @@ gives rs s b = eqb (firstMatch rs s) b
 -- the share of the backend with label b: the number of k-bit suffixes that it is given
 unfoldable pub share : ℕ → List Rule → ℕ → ℕ
 share k rs b = countTo (2 ^ k) (λ s. gives rs s b)
+
+-- churn: of the suffixes below `all`, the number of those that two lists give to unlike backends
+unfoldable pub differing : ℕ → List Rule → List Rule → ℕ
+differing all old new = countTo all (λ s. not (eqb (firstMatch old s) (firstMatch new s)))

@@ -5,3 +5,7 @@ pub mod Terms
 pub mod Holders
 pub mod Lists
 pub mod Run
+pub mod OldList
+pub mod Laying
+pub mod Hopeless
+pub mod Resume

@@ -1,9 +1,11 @@
--- What document 01 says of the expansion of one service and of the count by first match, and document 02 (request 02) of the shares kept meanwhile:
--- this is what a reader has to believe. Inner has the contracts of inner functions.
+-- What document 01 says of the expansion of one service and of the count by first match, and document 02 of the shares kept meanwhile (request 02) and
+-- of new weights on kept rules (request 03): this is what a reader has to believe. Inner has the contracts of inner functions.
 pub mod FirstMatch
 pub mod Imbalance
 pub mod Steps
 pub mod KeptShares
 pub mod Cases
 pub mod Answer
+pub mod OldList
+pub mod Resume
 pub mod Inner

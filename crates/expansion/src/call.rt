@@ -56,7 +56,7 @@ pub fn check_weights(weights: &[u64]) -> Checked
 }
 
 // Whether least ≤ x ≤ most.
-fn in_limits(least: usize, most: usize, x: usize) -> bool
+pub fn in_limits(least: usize, most: usize, x: usize) -> bool
     ensures { λ r. ⌜ r ≡ inLimits least most x ⌝ }
 {
     if x < least {

@@ -64,7 +64,7 @@ fn note_lows(low: &mut [u16], giver: usize, receiver: usize, at: usize, end: usi
 }
 
 // The suffix of k bits that has a tree place, read from the listing of all twelve-bit ones.
-fn suffix_at(places: &[u16], k: usize, at: usize) -> usize
+pub fn suffix_at(places: &[u16], k: usize, at: usize) -> usize
     requires { ⌜ (k ≤ mostBits) × ((at < 2 ^ k) × Places mostBits (now places)) ⌝ }
     ensures { λ r. ⌜ r ≡ place k at ⌝ }
 {

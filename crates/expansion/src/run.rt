@@ -126,7 +126,7 @@ fn advance(
 }
 
 // The state at a start: rules, the newest of them `newest`, after which each backend holds its share.
-fn begin(
+pub fn begin(
     weights: &[u64],
     shares: &[u64],
     k: usize,
@@ -167,7 +167,7 @@ fn in_budget(next: Next, count: usize, budget: usize) -> Next
 }
 
 // The list from where it stands to its end: turn after turn, as long as the budget has room, the shares kept as it goes.
-fn go_on(
+pub fn go_on(
     holder: &mut [u16],
     low: &mut [u16],
     places: &[u16],
@@ -241,7 +241,7 @@ fn make_list(k: usize, tolerance: u64, budget: usize, labels: &[usize], weights:
 }
 
 // The labels 1, 2, ..
-fn numbers() -> [usize; MOST_BACKENDS]
+pub fn numbers() -> [usize; MOST_BACKENDS]
     ensures { λ r. ⌜ r ≡ listTo mostBackends suc ⌝ }
 {
     NUMBERS

@@ -1,16 +1,18 @@
--- No refusal has number 0, so an answer with number 0 is one that was printed: demand 3 holds of it.
+-- No refusal has number 0, so an answer with number 0 is one that was printed: demand 3 holds of it. And request 03's promise, by equal answers.
 use Prim.Native.Nat.{ℕ, zero, suc}
-use mathlib.Core.Path.{_≡_, sym, ap, _∙_, subst⁻¹}
+use mathlib.Core.Path.{_≡_, sym, ap, _∙_, subst, subst⁻¹}
 use mathlib.Core.List.{List}
 use native.Mathlib.Omega.{arith}
 use lib.ListN.{take}
 use Rattle.numerals.specs.Refusals.{numberOf}
 use Rattle.numerals.specs.declared.refusal.Refusal.{Refusal}
 use Rattle.numerals.specs.declared.refusal.Refusal.the-variants.{Malformed, BadField, Unbalanced, TooMany, NoService, TableShort, ShortLoan}
-use Rattle.numerals.specs.declared.refusal.Refusal.the-variants.{UnknownService, Order, Miscount, TooLong, Depth}
+use Rattle.numerals.specs.declared.refusal.Refusal.the-variants.{UnknownService, Order, Miscount, TooLong, Depth, Stuck}
 use Rattle.sheets.specs.Demand.{Demand3, Demand3Of}
 use Rattle.sheets.specs.declared.answer.Answer as outcome
 use Rattle.sheets.specs.declared.answer.Answer.the-variants.{Value, Refused}
+use Rattle.update.specs.Sheets.{PromisedBoth}
+use Rattle.update.specs.declared.answer.SheetUpdated.{SheetUpdated}
 use Rattle.gulmorzon.specs.Answers.{ofAnswer}
 use Rattle.gulmorzon.specs.declared.answer.Answer.{Answer}
 
@@ -28,9 +30,15 @@ not-zero Order e = omega arith
 not-zero Miscount e = omega arith
 not-zero TooLong e = omega arith
 not-zero Depth e = omega arith
+not-zero Stuck e = omega arith
 
 pub promised :
     (p : outcome.Answer) (a : Answer) (text out : List ℕ) → a ≡ ofAnswer p → Demand3Of p text out → a .number ≡ 0
     → Demand3 text (take (a .value) out)
 promised (Value n) a text out e d z = subst⁻¹ (λ (x : Answer). Demand3 text (take (x .value) out)) e d
 promised (Refused r) a text out e d z = absurd (not-zero (r .why) (sym (ap (λ (x : Answer). x .number) e) ∙ z))
+
+pub promised-both :
+    {x y : SheetUpdated} (old sheet : List ℕ) (n : ℕ) (numbers : List ℕ) → x ≡ y → PromisedBoth old sheet n x numbers
+    → PromisedBoth old sheet n y numbers
+promised-both old sheet n numbers e h = subst (λ (z : SheetUpdated). PromisedBoth old sheet n z numbers) e h

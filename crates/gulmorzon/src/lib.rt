@@ -1,7 +1,8 @@
-// The calls for C: each hands on the answer of a call of crate `sheets` or `gauges` in plain numbers. `include/gulmorzon.h`
-// declares them.
+// The calls for C: each hands on the answer of a call of crate `sheets`, `gauges` or `update` in plain numbers.
+// `include/gulmorzon.h` declares them.
 mod answer;
 mod gauge_answer;
+mod update_answer;
 
 pub use answer::Answer;
 pub use answer::PlanAnswer;
@@ -10,16 +11,20 @@ use gauge_answer::LOAD;
 pub use gauge_answer::ReadingAnswer;
 use gauge_answer::SHARE;
 use gauges::Gauge;
+pub use update_answer::UpdateAnswer;
 ghost use mathlib.Core.Path.{_≡_};
 ghost use lib.ListN.{length, take};
+ghost use Rattle.numerals.specs.Buffer.{filled};
 ghost use Rattle.sheets.specs.PercentageSheet.{readSheet};
 ghost use Rattle.sheets.specs.Calls as calls;
 ghost use Rattle.sheets.specs.Demand.{Demand3};
 ghost use Rattle.sheets.specs.Reading.{got};
 ghost use Rattle.sheets.specs.RuleSheet.{Table, readTable};
 ghost use Rattle.gauges.specs.Gauges.{gaugesAnswer, ExactGauges};
+ghost use Rattle.update.specs.Sheets as texts;
 ghost use Rattle.gulmorzon.specs.Answers as answers;
 ghost use Rattle.gulmorzon.specs.Gauges.{ofRecord, readingCalled, ExactMarked};
+ghost use Rattle.gulmorzon.specs.Update.{ofUpdate};
 
 // The one call: the table and the figures of a percentage sheet.
 #[no_mangle]
@@ -102,4 +107,24 @@ pub extern "C" fn gulmorzon_reading(
     }
     // No gauge has this number: whichever is read, its value is refused.
     gauge_answer::of_unnamed(gauges::gauge_reading(text, service, volume, backend, Gauge::Share))
+}
+
+// A service's new weights, from a percentage sheet, on its rules in a rule sheet. The new list in numbers, the newest rule
+// first, into a lent buffer.
+#[no_mangle]
+pub extern "C" fn gulmorzon_update(
+    old: &[u8],
+    sheet: &[u8],
+    service: usize,
+    rules: &mut [usize],
+) -> UpdateAnswer
+    ensures answer { λ r. ⌜ r ≡ ofUpdate
+        (texts.sheetsAnswer (now (old .entry)) (now (sheet .entry)) service (length (now (rules .entry)))) ⌝ }
+    ensures rules { λ _. ⌜ now (rules .exit) ≡ filled
+        (texts.isMade (texts.sheetsAnswer (now (old .entry)) (now (sheet .entry)) service (length (now (rules .entry)))))
+        (now (rules .entry)) 0 (texts.sheetsNumbers (now (old .entry)) (now (sheet .entry)) service) ⌝ }
+    ensures promise { λ _. ⌜ texts.PromisedBoth (now (old .entry)) (now (sheet .entry)) service
+        (texts.sheetsAnswer (now (old .entry)) (now (sheet .entry)) service (length (now (rules .entry)))) (now (rules .exit)) ⌝ }
+{
+    update_answer::of_update(update::update_sheets(old, sheet, service, rules))
 }

@@ -2,7 +2,7 @@
 use Prim.Native.Nat.{ℕ}
 use Rattle.numerals.specs.declared.refusal.Refusal.{Refusal}
 use Rattle.numerals.specs.declared.refusal.Refusal.the-variants.{Malformed, BadField, Unbalanced, TooMany, NoService, TableShort, ShortLoan}
-use Rattle.numerals.specs.declared.refusal.Refusal.the-variants.{UnknownService, Order, Miscount, TooLong, Depth}
+use Rattle.numerals.specs.declared.refusal.Refusal.the-variants.{UnknownService, Order, Miscount, TooLong, Depth, Stuck}
 
 unfoldable pub numberOf : Refusal → ℕ
 numberOf Malformed = 1
@@ -17,6 +17,7 @@ numberOf Order = 9
 numberOf Miscount = 10
 numberOf TooLong = 11
 numberOf Depth = 12
+numberOf Stuck = 13
 
 -- each by its number there, the column "no."
 abbrev pub no1 : Refusal
@@ -54,3 +55,7 @@ no11 = TooLong
 
 abbrev pub no12 : Refusal
 no12 = Depth
+
+-- document 02, Req 03
+abbrev pub no13 : Refusal
+no13 = Stuck

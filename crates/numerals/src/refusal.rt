@@ -1,4 +1,4 @@
-// Why a sheet, a call or a buffer is turned back (document 01, "Turned-back work").
+// Why a sheet, a call or a buffer is turned back (document 01, "Turned-back work"; document 02).
 ghost use mathlib.Core.Path.{_≡_};
 ghost use Rattle.numerals.specs.Refusals.{numberOf};
 
@@ -15,6 +15,7 @@ pub enum Refusal {
     Miscount,
     TooLong,
     Depth,
+    Stuck,
 }
 
 // Its number there.
@@ -34,5 +35,6 @@ pub fn refusal_number(why: Refusal) -> u64
         Refusal::Miscount => 10,
         Refusal::TooLong => 11,
         Refusal::Depth => 12,
+        Refusal::Stuck => 13,
     }
 }

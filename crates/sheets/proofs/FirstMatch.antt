@@ -27,7 +27,7 @@ use Rattle.sheets.proofs.Following.{count-same, count-other, by-service
 
 -- the rules of a service, with one line more
 module _ (n : ℕ) (l : Line) (ls : List Line) where
-  own-here : l .service ≡ n → ownRules n (l ∷ ls) ≡ l .rule ∷ ownRules n ls
+  pub own-here : l .service ≡ n → ownRules n (l ∷ ls) ≡ l .rule ∷ ownRules n ls
   unfolding ownRules
   own-here e = rw (eq-eqb (l .service) n e)
 

@@ -29,6 +29,10 @@ pub mod Sharing
 pub mod Memory
 pub mod NeverEight
 pub mod Packable
+pub mod OwnNumbers
+pub mod Chunks
+pub mod Judging
+pub mod UpdateLimits
 pub mod Cases
 pub mod TwelveCases
 pub mod CallRoundTrip

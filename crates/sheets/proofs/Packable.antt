@@ -32,7 +32,7 @@ use Rattle.sheets.proofs.TableChecks.{is-within}
 use Rattle.sheets.proofs.SheetLimits.{Row, Limits, sum-places, limits}
 
 -- a row of weights is taken apart by the sizes that it was made with
-chunks-row : (wss : List (List ℕ)) → chunks (sizesOf wss) (rowOf wss) ≡ wss
+pub chunks-row : (wss : List (List ℕ)) → chunks (sizesOf wss) (rowOf wss) ≡ wss
 unfolding chunks sizesOf rowOf
 chunks-row [] = refl
 chunks-row (ws ∷ wss) =

@@ -13,7 +13,7 @@ use Rattle.numerals.specs.Suffix.{isSuffix, suffix, suffixText}
 use Rattle.numerals.specs.Text.{onto, split}
 use Rattle.numerals.specs.Limits.{unit, textLimit, totalLimit}
 use Rattle.numerals.specs.Refusals.{no1, no2, no4, no5, no8, no9, no10, no11, no12}
-use Rattle.expansion.specs.FirstMatch.{isRule, matches, firstMatch}
+use Rattle.expansion.specs.FirstMatch.{differing, isRule, matches, firstMatch}
 use Rattle.numerals.specs.Sums.{sumTo, countTo}
 use Rattle.packing.specs.Cases.{line}
 use Rattle.packing.specs.Count.{ownRules}
@@ -129,7 +129,7 @@ pub record Churns : Type 0 where
   pub new : churns "TABLE 1 1 0\n2 * 1\n" "TABLE 1 1 0" 1 ≡ Refused (about 2 no1 1)
 
 pub all-churns : Churns
-unfolding churnAnswer churnOf moved sumTo countTo hasService firstMatch matches bytes readTable textLimit tableLine firstLine openingLines
+unfolding churnAnswer churnOf moved differing sumTo countTo hasService firstMatch matches bytes readTable textLimit tableLine firstLine openingLines
     openingFields wholeTable closed ruleLines ruleFields placed inOrder countOf ownRules onSuffix totalLimit same onField unless then
     number isNumeral noLeadingZero allDigits isDigit value valueFrom suffix split onto
 all-churns = record { all = refl; half = refl; first = refl; second = refl; neither = refl; old = refl; new = refl }

@@ -1,17 +1,16 @@
 -- What the public calls answer, and what they write, for every input.
 use Prim.Native.Nat.{ℕ, _+_, _*_, _^_}
-use mathlib.Core.Bool.{Bool, true, false, not}
+use mathlib.Core.Bool.{Bool, true, false}
 use mathlib.Core.List.{List, [], _∷_, _++_}
 use lib.Dec.{leb, ltb, eqb}
 use lib.ListN.{length}
 use Rattle.numerals.specs.Buffer.{filled}
 use Rattle.numerals.specs.Pick.{pick}
 use Rattle.numerals.specs.Decimal.{decimal}
-use Rattle.numerals.specs.Sums.{countTo}
 use Rattle.numerals.specs.Limits.{textLimit}
 use Rattle.numerals.specs.declared.refusal.Refusal.{Refusal}
 use Rattle.numerals.specs.Refusals.{no7, no8, no11, no12}
-use Rattle.expansion.specs.FirstMatch.{firstMatch}
+use Rattle.expansion.specs.FirstMatch.{firstMatch, differing}
 use Rattle.packing.specs.Grants.{total}
 use Rattle.packing.specs.Count.{Line, Services, ownRules}
 use Rattle.packing.specs.Table.{problem, granted, oneEach}
@@ -160,7 +159,7 @@ lookupAnswer text n address = answered Refused 0 (readTable text) (λ t. lookupI
 
 -- of the suffixes below `all`, the number for which service n has another backend in the new lines than in the old
 unfoldable pub moved : ℕ → List Line → List Line → ℕ → ℕ
-moved all old new n = countTo all (λ v. not (eqb (firstMatch (ownRules n old) v) (firstMatch (ownRules n new) v)))
+moved all old new n = differing all (ownRules n old) (ownRules n new)
 
 -- churn: 8 is about the first sheet that lacks the service, 12 about neither
 unfoldable pub churnOf : Table → Table → ℕ → Answer

@@ -7,4 +7,5 @@ pub mod TableNumbers
 pub mod TableReader
 pub mod Writing
 pub mod Planning
+pub mod Update
 pub mod Premises

@@ -43,6 +43,19 @@ pub enum TableRead {
     Refused(Refused),
 }
 
+// The measures of what an update reads: the rules of the old list and the new weights.
+pub struct UpdateRecord {
+    pub k: usize,
+    pub tolerance: u64,
+    pub rules: usize,
+    pub backends: usize,
+}
+
+pub enum UpdateRead {
+    Made(UpdateRecord),
+    Refused(Refused),
+}
+
 // A refusal that is about neither of two.
 pub fn refused_at(why: Refusal, line: usize) -> Refused
     ensures { λ r. ⌜ r ≡ refusedAt why line ⌝ }

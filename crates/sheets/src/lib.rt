@@ -1,4 +1,4 @@
-// The percentage sheet, the rule sheet, the one call, lookup, churn and the count of shares.
+// The percentage sheet, the rule sheet, the one call, lookup, churn, the count of shares and what an update reads.
 mod answer;
 mod fields;
 mod first_line;
@@ -9,6 +9,7 @@ mod printing;
 mod rule_sheet;
 mod shares;
 mod tables;
+mod update_read;
 
 pub use answer::Answer;
 pub use answer::Plan;
@@ -16,6 +17,8 @@ pub use answer::Planned;
 pub use answer::Refused;
 pub use answer::TableRead;
 pub use answer::TableRecord;
+pub use answer::UpdateRead;
+pub use answer::UpdateRecord;
 pub use planning::plan;
 pub use planning::split_sheet;
 pub use printing::write_table;
@@ -23,3 +26,4 @@ pub use shares::count_shares;
 pub use tables::churn;
 pub use tables::lookup;
 pub use tables::read_table;
+pub use update_read::read_update;

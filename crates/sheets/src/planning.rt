@@ -14,7 +14,7 @@ ghost use Rattle.sheets.specs.Demand.{Demand3Of};
 ghost use Rattle.sheets.specs.Inner.Planning.{planFrom};
 
 // The weights of all services, and their figures.
-const WEIGHTS: usize = numerals::MOST_SERVICES * numerals::MOST_BACKENDS;
+pub const WEIGHTS: usize = numerals::MOST_SERVICES * numerals::MOST_BACKENDS;
 
 const FIGURES: usize = 3 * numerals::MOST_SERVICES;
 

@@ -163,7 +163,7 @@ pub fn churn(old: &[u8], new: &[u8], service: usize) -> Answer
 }
 
 // A refusal, about one of two sheets.
-fn about(w: Refused, of: usize) -> Refused
+pub fn about(w: Refused, of: usize) -> Refused
     ensures { λ r. ⌜ r ≡ calls.about of (w .why) (w .line) ⌝ }
 {
     let why = w.why;

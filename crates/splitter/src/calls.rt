@@ -67,43 +67,55 @@ pub fn lookup() {
     }
 }
 
-// The service is the fourth argument.
-fn compare(old: &[u8], new: &[u8]) {
-    let mut service = [0u8; arguments::ROOM];
-    let s = os::arg(4, &mut service);
+// The service is the fourth argument. Names and service take turns in one space.
+fn answer_two(old: &[u8], new: &[u8], space: &mut [u8], command: Command) {
+    let n = os::arg(4, space);
+    let service = start(space, n);
     let mut out = [0u8; commands::ROOM];
-    let outcome = commands::churn(old, new, start(&service, s), &mut out);
-    print_outcome(outcome, &out, Command::Churn);
+    let outcome = if let Command::Update = command {
+        commands::update(old, new, service, &mut out)
+    } else {
+        commands::churn(old, new, service, &mut out)
+    };
+    print_outcome(outcome, &out, command);
 }
 
-// The new table is the third argument.
-fn compare_to(old: &[u8]) {
+// The second text is the third argument.
+fn read_second(old: &[u8], space: &mut [u8], command: Command) {
     let mut new = [0u8; TEXT];
-    let read = input::read_file(3, &mut new);
+    let read = input::read_named(3, space, &mut new);
     match read {
-        Read::Bytes(n) => compare(old, start(&new, n)),
-        Read::Failed => output::usage(Command::Churn),
+        Read::Bytes(n) => answer_two(old, start(&new, n), space, command),
+        Read::Failed => output::usage(command),
+    }
+}
+
+// A command of two texts and a service: standard input can only be one of the texts.
+fn read_two(command: Command) {
+    if !arguments::are(3, command) {
+        return;
+    }
+    if arguments::is_input(2) && arguments::is_input(3) {
+        output::complain(b"splitter: standard input is read only once\n", command);
+        return;
+    }
+    let mut space = [0u8; arguments::ROOM];
+    let mut old = [0u8; TEXT];
+    let read = input::read_named(2, &mut space, &mut old);
+    match read {
+        Read::Bytes(n) => read_second(start(&old, n), &mut space, command),
+        Read::Failed => output::usage(command),
     }
 }
 
 // splitter churn OLD NEW SERVICE
 pub fn churn() {
-    if !arguments::are(3, Command::Churn) {
-        return;
-    }
-    if arguments::is_input(2) && arguments::is_input(3) {
-        output::complain(
-            b"splitter: standard input is read only once\n",
-            Command::Churn,
-        );
-        return;
-    }
-    let mut old = [0u8; TEXT];
-    let read = input::read_file(2, &mut old);
-    match read {
-        Read::Bytes(n) => compare_to(start(&old, n)),
-        Read::Failed => output::usage(Command::Churn),
-    }
+    read_two(Command::Churn);
+}
+
+// splitter update OLD SHEET SERVICE
+pub fn update() {
+    read_two(Command::Update);
 }
 
 // The service, the volume and the backend are the third to the fifth argument.

@@ -95,16 +95,16 @@ pub fn read_input(text: &mut [u8]) -> Read
     read_open(STDIN_FILENO, b"standard input", text)
 }
 
-// Reads the file that an argument names, or standard input for `-`; where that can't be, says so on standard error.
-pub fn read_file(i: usize, text: &mut [u8]) -> Read
+// Reads the file that an argument names, or standard input for `-`, into a buffer; the name goes into a space of its own. Where
+// that can't be, says so on standard error.
+pub fn read_named(i: usize, space: &mut [u8], text: &mut [u8]) -> Read
     ensures { λ r. ⌜ bytes r ≤ length (now (text .exit)) ⌝ }
 {
     if arguments::is_input(i) {
         return read_input(text);
     }
-    let mut space = [0u8; arguments::ROOM];
-    let n = os::arg(i, &mut space);
-    let name = start(&space, n);
+    let n = os::arg(i, space);
+    let name = start(space, n);
     let file = os::open_read(name);
     if file < 0 {
         os::fail(name);
@@ -113,4 +113,12 @@ pub fn read_file(i: usize, text: &mut [u8]) -> Read
     let read = read_open(file, name, text);
     libc::close(file);
     read
+}
+
+// The same with a space for the name.
+pub fn read_file(i: usize, text: &mut [u8]) -> Read
+    ensures { λ r. ⌜ bytes r ≤ length (now (text .exit)) ⌝ }
+{
+    let mut space = [0u8; arguments::ROOM];
+    read_named(i, &mut space, text)
 }

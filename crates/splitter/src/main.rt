@@ -17,6 +17,7 @@ fn main() {
         Command::Split => calls::split(),
         Command::Lookup => calls::lookup(),
         Command::Churn => calls::churn(),
+        Command::Update => calls::update(),
         Command::Gauge => calls::gauge(),
         Command::Help => calls::help(),
         Command::Unknown => output::complain(b"splitter: no such command\n", Command::Unknown),

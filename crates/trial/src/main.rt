@@ -5,6 +5,7 @@ mod of_gauges;
 mod of_numerals;
 mod of_packing;
 mod of_sheets;
+mod of_update;
 mod plans;
 mod shown;
 mod writes;
@@ -25,6 +26,7 @@ fn answer(vector: &[u8]) {
         b'p' => of_packing::answer(h, text),
         b's' => of_sheets::answer(h, text),
         b'g' => of_gauges::answer(h, text),
+        b'u' => of_update::answer(h, text),
         _ => print::bytes(b"unknown layer"),
     }
     print::bytes(b"\n");

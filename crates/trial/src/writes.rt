@@ -14,7 +14,7 @@ fn read_cell(text: &[u8], from: usize, cells: &mut [usize; 8200], i: usize) -> u
 }
 
 // The numbers in the n fields of a text.
-fn read_cells(text: &[u8], n: usize, cells: &mut [usize; 8200]) {
+pub fn read_cells(text: &[u8], n: usize, cells: &mut [usize; 8200]) {
     let mut from = 0;
     for i in 0..n {
         from = read_cell(text, from, cells, i);

@@ -1,6 +1,7 @@
 //! Calls of the program with words and files that are damaged at random: for
 //! each call a folder with its files, standard input and words.
 
+use super::loaded::two_sheets;
 use super::percentage_sheets::small;
 use super::rule_sheets::{some_service, table};
 use super::shapes::{rule_table, sheet_text};
@@ -48,10 +49,11 @@ pub fn write(seed: u64, count: usize, folder: &Path) -> io::Result<()> {
 
 /// A call of one of the commands; one in eight has spoilt words.
 fn case(random: &mut Random) -> Case {
-    let mut case = match random.below(12) {
+    let mut case = match random.below(16) {
         0 => split(random),
         1..=3 => lookup(random),
         4..=7 => churn(random),
+        8..=11 => update(random),
         _ => gauge(random),
     };
     if random.once_in(8) {
@@ -139,6 +141,29 @@ fn churn(random: &mut Random) -> Case {
         words,
         first: damaged(random, text_of(&old)),
         second: damaged(random, text_of(&new)),
+        ..Case::default()
+    };
+    rename(random, &mut case);
+    case
+}
+
+/// A rule sheet and new weights for its services; now and then one file or
+/// standard input twice.
+fn update(random: &mut Random) -> Case {
+    let (old, new) = two_sheets(random);
+    let mut words = vec![b"update".to_vec(), b"first".to_vec(), b"second".to_vec()];
+    words.push(service_word(random, &old));
+    match random.below(40) {
+        0 => words[1..3].fill(b"-".to_vec()),
+        1 => words[2] = b"first".to_vec(),
+        2 => words[1..3].reverse(),
+        _ => (),
+    }
+    let sheet = sheet_text(random, &new);
+    let mut case = Case {
+        words,
+        first: damaged(random, text_of(&old)),
+        second: damaged(random, sheet),
         ..Case::default()
     };
     rename(random, &mut case);
@@ -312,7 +337,7 @@ fn spoil_words(random: &mut Random, words: &mut Vec<Vec<u8>>) {
         4 => words.truncate(at),
         _ => {
             let names = [
-                "", "1", "-", "first", "split", "lookup", "churn", "gauge", "Split",
+                "", "1", "-", "first", "split", "lookup", "churn", "update", "gauge", "Split",
             ];
             words.insert(at, random.pick(&names).as_bytes().to_vec());
         }
@@ -363,6 +388,31 @@ mod tests {
     }
 
     #[test]
+    fn updates_of_every_kind() {
+        let mut random = Random::new(59);
+        let mut refusals = BTreeSet::new();
+        let (mut silent, mut answers) = (0, 0);
+        for _ in 0..3_000 {
+            match printed(&update(&mut random)) {
+                None => silent += 1,
+                Some(text) if text.starts_with("REFUSED ") => drop(refusals.insert(text)),
+                Some(text) => {
+                    assert!(text.starts_with("UPDATE "));
+                    answers += 1;
+                }
+            }
+        }
+        assert!(silent > 300 && answers > 350, "{silent} {answers}");
+        for refusal in [
+            "1 1 1", "1 1 2", "2 0 0", "2 2 1", "2 2 2", "3 2 2", "5 1 2", "6 1 2", "8 0 1",
+            "8 0 2", "10 1 1", "11 0 1", "11 0 2", "12 0 0", "13 0 0",
+        ] {
+            let line = format!("REFUSED {refusal}\n");
+            assert!(refusals.contains(&line), "{refusal}");
+        }
+    }
+
+    #[test]
     fn cases_of_every_kind() {
         let mut random = Random::new(41);
         let mut refusals = BTreeSet::new();
@@ -381,7 +431,7 @@ mod tests {
         let seen: Vec<&str> = refusals.iter().map(String::as_str).collect();
         assert_eq!(
             seen,
-            ["1", "10", "11", "12", "2", "3", "4", "5", "6", "8", "9"]
+            ["1", "10", "11", "12", "13", "2", "3", "4", "5", "6", "8", "9"]
         );
         assert!(silent > 500 && answers > 600, "{silent} {answers}");
     }

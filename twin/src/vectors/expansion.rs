@@ -6,6 +6,7 @@ use crate::count;
 use crate::expansion::{expand, Ending, Expansion};
 use crate::numerals::WHOLE;
 use crate::random::Random;
+use crate::refusal::Refusal;
 use crate::suffix::Suffix;
 
 /// What the twin says to one record; nothing if the record is of no kind.
@@ -14,10 +15,13 @@ pub fn answer(record: &Record) -> Option<String> {
         return None;
     };
     let weights = numbers(std::str::from_utf8(record.payload).ok()?)?;
-    Some(match expand(k, tolerance, budget, &weights) {
-        Ok(list) => list_text(&list),
-        Err(refusal) => format!("refused {}", refusal.number()),
-    })
+    let list = expand(k, tolerance, budget, &weights);
+    Some(list.map_or_else(refused_text, |list| list_text(&list)))
+}
+
+/// A refusal of a call without a text.
+pub(super) fn refused_text(refusal: Refusal) -> String {
+    format!("refused {}", refusal.number())
 }
 
 /// Numbers between single spaces; an empty text has none.

@@ -1,9 +1,11 @@
 //! Test vectors: the files `stdin` (the vectors) and `stdout` (the answers).
 
+mod asks;
 pub mod cases;
 mod counts;
 pub mod expansion;
 mod gauges;
+pub mod loaded;
 pub mod numerals;
 pub mod packing;
 pub mod percentage_sheets;
@@ -14,6 +16,7 @@ mod rule_sheets;
 pub mod shapes;
 pub mod sheets;
 pub mod spoil;
+mod updates;
 mod writes;
 
 use records::{take_record, Record, Records};
@@ -26,7 +29,7 @@ struct Layer {
     answer: fn(&Record) -> Option<String>,
 }
 
-const LAYERS: [Layer; 5] = [
+const LAYERS: [Layer; 6] = [
     Layer {
         name: "numerals",
         add_all: numerals::add_all,
@@ -51,6 +54,11 @@ const LAYERS: [Layer; 5] = [
         name: "gauges",
         add_all: gauges::add_all,
         answer: gauges::answer,
+    },
+    Layer {
+        name: "update",
+        add_all: updates::add_all,
+        answer: updates::answer,
     },
 ];
 
@@ -153,6 +161,99 @@ mod tests {
         assert_eq!(said("Q 1 0 9", "7 8\n2 1\n500000 500000 1000000\n"), packed);
         assert_eq!(said("Q 1 0 9", "\n\n\n"), "refused 5\n");
         assert_eq!(said("Q 1 0 9", "\n\n1\n"), "refused 1\n");
+    }
+
+    #[test]
+    fn new_weights_show_their_whole_buffer() {
+        let behind = " 9999".repeat(4);
+        let half = "1 0 2 0 0 1\n750000 250000\n";
+        let updated = |header, payload| said("update", header, payload);
+        assert_eq!(
+            updated("L 2 0 7", half),
+            format!("made 1 2 1 rules 2 0 2 0 0 1 9999{behind}\n")
+        );
+        let nothing = updated("L 2 0 1", "\n\n");
+        assert_eq!(nothing, format!("refused 2 rules 9999{behind}\n"));
+        assert_eq!(
+            updated("L 2 0 6", half),
+            format!("made 1 2 1 rules 2 0 2 0 0 1{behind}\n")
+        );
+        assert_eq!(
+            updated(
+                "T 1 24 3",
+                "TABLE 2 1 0\n1 * 1\nSHEET 2 0 1\nSERVICE 1 100\n"
+            ),
+            format!("REFUSED 1 3 1 rules 9999 9999 9999{behind}\n")
+        );
+        assert_eq!(
+            updated(
+                "T 1 18 3",
+                "TABLE 2 1 0\n1 * 1\nSHEET 2 0 1\nSERVICE 1 100\n"
+            ),
+            format!("made 2 1 1 0 rules 0 0 1{behind}\n")
+        );
+    }
+
+    /// The words before the buffer in the answers of one kind, with headers.
+    fn answers_of(kind: &str) -> Vec<(Vec<u64>, String)> {
+        let records = records();
+        let answers = answer(records.bytes()).unwrap();
+        let mut file = records.bytes();
+        let mut found = Vec::new();
+        for line in answers.lines() {
+            let record = take_record(&mut file).unwrap();
+            if format!("{} {}", record.layer, record.kind) == kind {
+                let words = line.split(" rules ").next().unwrap();
+                found.push((record.numbers, words.to_string()));
+            }
+        }
+        found
+    }
+
+    #[test]
+    fn vectors_of_new_weights_have_every_answer() {
+        let updates = answers_of("update L");
+        for keep in 1..=32 {
+            let made = format!("made {keep} ");
+            assert!(updates.iter().any(|(_, words)| words.starts_with(&made)));
+            let whole = format!("made {keep} {keep} 0");
+            assert!(updates.iter().any(|(_, words)| *words == whole));
+        }
+        for k in 1..=12 {
+            for start in ["made ", "refused 13"] {
+                let found =
+                    |(head, words): &(Vec<u64>, String)| head[0] == k && words.starts_with(start);
+                assert!(updates.iter().any(found), "{k} {start}");
+            }
+        }
+        for number in [1, 2, 3, 4, 7, 9, 13] {
+            let refused = format!("refused {number}");
+            assert!(
+                updates.iter().any(|(_, words)| *words == refused),
+                "{number}"
+            );
+        }
+        assert!(updates.iter().all(|(head, _)| *head.last().unwrap() <= 100));
+    }
+
+    #[test]
+    fn vectors_of_two_sheets_tell_each_refusal_of_each_sheet() {
+        let sheets = (1..=12).flat_map(|number| [(number, 0), (number, 1), (number, 2)]);
+        let told = answers_of("update T");
+        for (number, which) in sheets {
+            let (start, end) = (format!("REFUSED {number} "), format!(" {which}"));
+            let found = told
+                .iter()
+                .any(|(_, words)| words.starts_with(&start) && words.ends_with(&end));
+            let about = match number {
+                1 | 4 | 5 | 8 | 11 => which > 0,
+                2 => true,
+                3 | 6 => which == 2,
+                9 | 10 => which == 1,
+                _ => which == 0,
+            };
+            assert_eq!(found, about, "{number} {which}");
+        }
     }
 
     #[test]

@@ -88,10 +88,17 @@ returns-5 c =
       sym (c .before .same5 .ensures) ∙ c .if5 .taken,
     )
 
+slice-aggregate-same-6 : tie.Need-slice-aggregate-same-6
+slice-aggregate-same-6 c = search needs
+
+same-requires-6 : tie.Need-same-requires-6
+same-requires-6 c κs = search needs
+
 returns-6 : tie.Need-returns-6
 unfolding commandOf bytes
 returns-6 c =
-    let fourth = c .before .before .before in
+    let fifth = c .before .before .before in
+    let fourth = fifth .before .before .before in
     let third = fourth .before .before .before in
     let second = third .before .before .before in
     let first = second .before .before .before in
@@ -100,7 +107,25 @@ returns-6 c =
       sym (second .before .same2 .ensures) ∙ second .if2 .left,
       sym (third .before .same3 .ensures) ∙ third .if3 .left,
       sym (fourth .before .same4 .ensures) ∙ fourth .if4 .left,
-      sym (c .before .same5 .ensures) ∙ c .if5 .left,
+      sym (fifth .before .same5 .ensures) ∙ fifth .if5 .left,
+      sym (c .before .same6 .ensures) ∙ c .if6 .taken,
+    )
+
+returns-7 : tie.Need-returns-7
+unfolding commandOf bytes
+returns-7 c =
+    let fifth = c .before .before .before in
+    let fourth = fifth .before .before .before in
+    let third = fourth .before .before .before in
+    let second = third .before .before .before in
+    let first = second .before .before .before in
+    rw (
+      sym (first .before .same .ensures) ∙ first .if1 .left,
+      sym (second .before .same2 .ensures) ∙ second .if2 .left,
+      sym (third .before .same3 .ensures) ∙ third .if3 .left,
+      sym (fourth .before .same4 .ensures) ∙ fourth .if4 .left,
+      sym (fifth .before .same5 .ensures) ∙ fifth .if5 .left,
+      sym (c .before .same6 .ensures) ∙ c .if6 .left,
     )
 
 pub command-spec : {M : Type 1} → statement M
@@ -122,4 +147,7 @@ command-spec =
     slice-aggregate-same-5
     same-requires-5
     returns-5
-    returns-6)
+    slice-aggregate-same-6
+    same-requires-6
+    returns-6
+    returns-7)

@@ -60,6 +60,15 @@ slice-aggregate-put-bytes-6 c = search needs
 put-bytes-requires-6 : tie.Need-put-bytes-requires-6
 put-bytes-requires-6 c κs = search needs
 
+enum-told-7 : tie.Need-enum-told-7
+enum-told-7 c = search needs
+
+slice-aggregate-put-bytes-7 : tie.Need-slice-aggregate-put-bytes-7
+slice-aggregate-put-bytes-7 c = search needs
+
+put-bytes-requires-7 : tie.Need-put-bytes-requires-7
+put-bytes-requires-7 c κs = search needs
+
 returns : tie.Need-returns
 unfolding usageText lines bytes
 returns c = rw (c .before .before .before .enum-told .given .1) (whole (c .put-bytes .ensures))
@@ -84,6 +93,10 @@ returns-6 : tie.Need-returns-6
 unfolding usageText lines bytes
 returns-6 c = rw (c .before .before .before .enum-told6 .given .1) (whole (c .put-bytes6 .ensures))
 
+returns-7 : tie.Need-returns-7
+unfolding usageText lines bytes
+returns-7 c = rw (c .before .before .before .enum-told7 .given .1) (whole (c .put-bytes7 .ensures))
+
 pub usage-spec : {M : Type 1} → statement M
 usage-spec =
     tie.close
@@ -106,9 +119,13 @@ usage-spec =
     enum-told-6
     slice-aggregate-put-bytes-6
     put-bytes-requires-6
+    enum-told-7
+    slice-aggregate-put-bytes-7
+    put-bytes-requires-7
     returns
     returns-2
     returns-3
     returns-4
     returns-5
-    returns-6)
+    returns-6
+    returns-7)

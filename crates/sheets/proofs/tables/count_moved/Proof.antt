@@ -9,7 +9,7 @@ use native.Mathlib.Omega.{arith}
 use lib.Dec.{eqb}
 use borrow.Author.Tests.{eq-eqb, ne-eqb}
 use Rattle.numerals.specs.Sums.{countTo}
-use Rattle.expansion.specs.FirstMatch.{firstMatch}
+use Rattle.expansion.specs.FirstMatch.{differing, firstMatch}
 use Rattle.packing.specs.Count.{ownRules}
 use Rattle.numerals.proofs.Sums.{sum-none, count-suc, count-le}
 use Rattle.sheets.specs.Inner.TableNumbers.{linesIn}
@@ -68,7 +68,7 @@ loop-again c =
     )
 
 returns : tie.Need-returns Inv-loop μ-loop
-unfolding moved
+unfolding moved differing
 returns c =
     let end : c .before .loop .s ≡ c .before .before .before .before .args .all = omega arith in
     c .before .loop .inv .1 ∙ rw end

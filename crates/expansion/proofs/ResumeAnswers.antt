@@ -1,0 +1,86 @@
+-- What the call answers, by what its checks and its search found.
+use Prim.Native.Nat.{ℕ, _*_, _≤_, _<_}
+use mathlib.Core.Bool.{Bool}
+use mathlib.Core.List.{List}
+use mathlib.Core.Path.{_≡_, ap, sym, _∙_}
+use native.Mathlib.Omega.{arith}
+use lib.Dec.{leb, eqb}
+use lib.ListN.{length}
+use borrow.Author.Tests.{eq-eqb, ne-eqb, le-leb, lt-leb}
+use Rattle.numerals.specs.Pick.{pick}
+use Rattle.numerals.specs.declared.refusal.Refusal.{Refusal}
+use Rattle.numerals.specs.declared.refusal.Refusal.the-variants.{ShortLoan, Stuck}
+use Rattle.expansion.specs.Imbalance.{Targets}
+use Rattle.expansion.specs.Answer.{onChecked, targetsMade}
+use Rattle.expansion.specs.OldList.{rulesFrom, numbersOf}
+use Rattle.expansion.specs.Resume.{keptOf, listKept, listResumed, numbersResumed, checkOld, resumeOf, resumeAnswer}
+use Rattle.expansion.specs.Inner.Lists.{newestFirst}
+use Rattle.expansion.specs.Inner.Resume.{Found}
+use Rattle.expansion.specs.declared.rule.Rule.{Rule}
+use Rattle.expansion.specs.declared.call.Checked.{Checked}
+use Rattle.expansion.specs.declared.call.Checked.the-variants.{Sound as Passed, Refused as Failed}
+use Rattle.expansion.specs.declared.resuming.Best.{Best}
+use Rattle.expansion.specs.declared.resuming.Resumed.{Resumed}
+use Rattle.expansion.specs.declared.resuming.Resumed.the-variants.{Made, Refused}
+use Rattle.expansion.proofs.Listing.{length-newest}
+use Rattle.expansion.proofs.OldNumbers.{numbers-count}
+
+module _ (k tolerance : ℕ) (ws cs : List ℕ) (room : ℕ) where
+  abbrev R : List Rule
+  R = rulesFrom cs
+
+  abbrev T : Targets
+  T = targetsMade k ws
+
+  pub resume-refused : (why : Refusal) → checkOld k tolerance cs ws ≡ Failed why → resumeAnswer k tolerance ws cs room ≡ Refused why
+  unfolding resumeAnswer
+  resume-refused why e = ap (λ (c : Checked). onChecked Refused c (resumeOf T tolerance R room)) e
+
+  passed-on : checkOld k tolerance cs ws ≡ Passed → resumeAnswer k tolerance ws cs room ≡ resumeOf T tolerance R room
+  unfolding resumeAnswer
+  passed-on e = ap (λ (c : Checked). onChecked Refused c (resumeOf T tolerance R room)) e
+
+  module _ (passed : checkOld k tolerance cs ws ≡ Passed) (best : Best) (F : Found T tolerance R (length R) best) where
+    kept-is : best .kept ≡ keptOf T tolerance R
+    unfolding keptOf
+    kept-is = F .kept
+
+    pub resume-stuck : best .kept ≡ 0 → resumeAnswer k tolerance ws cs room ≡ Refused Stuck
+    unfolding resumeOf
+    resume-stuck e =
+        passed-on passed
+        ∙ simp (eq-eqb (keptOf T tolerance R) 0 (sym kept-is ∙ e))
+
+    module _ (some : 0 < best .kept) where
+      list-is : newestFirst (best .list .rules) (best .list .count) ≡ listResumed T tolerance R
+      unfolding listResumed
+      list-is = F .rules some ∙ ap (λ (r : ℕ). listKept T tolerance R r) kept-is
+
+      pub numbers-are : numbersOf (newestFirst (best .list .rules) (best .list .count)) ≡ numbersResumed k tolerance ws cs
+      unfolding numbersResumed
+      numbers-are = ap numbersOf list-is
+
+      count-is : best .list .count ≡ length (listResumed T tolerance R)
+      count-is = sym (length-newest (best .list .rules) (best .list .count)) ∙ ap length list-is
+
+      size-is : length (numbersOf (listResumed T tolerance R)) ≡ 3 * best .list .count
+      size-is = omega (arith, numbers-count (listResumed T tolerance R), count-is)
+
+      found-one : resumeAnswer k tolerance ws cs room
+          ≡ pick (leb (length (numbersOf (listResumed T tolerance R))) room)
+          (Made (record { kept = keptOf T tolerance R; rules = length (listResumed T tolerance R) })) (Refused ShortLoan)
+      unfolding resumeOf
+      found-one =
+          passed-on passed
+          ∙ simp (ne-eqb (keptOf T tolerance R) 0 (λ e. omega (arith, kept-is)))
+
+      pub resume-short : room < 3 * best .list .count → resumeAnswer k tolerance ws cs room ≡ Refused ShortLoan
+      resume-short l = found-one ∙ simp (lt-leb (length (numbersOf (listResumed T tolerance R))) room (omega (arith, size-is)))
+
+      pub resume-made : 3 * best .list .count ≤ room
+          → resumeAnswer k tolerance ws cs room ≡ Made (record { kept = best .kept; rules = best .list .count })
+      resume-made l =
+          found-one
+          ∙ ap (λ (t : Bool). pick t (Made (record { kept = keptOf T tolerance R; rules = length (listResumed T tolerance R) })) (Refused ShortLoan))
+          (le-leb (length (numbersOf (listResumed T tolerance R))) room (omega (arith, size-is)))
+          ∙ rw (kept-is, count-is)

@@ -1,0 +1,58 @@
+-- What an update reads (document 02, Req 03): of a rule sheet the rules of a service, which are its old list, and of a percentage sheet its new weights
+-- and the tolerance. The first sheet is read wholly, then the second; then the first that lacks the service, then unlike k.
+use Prim.Native.Nat.{ℕ, _-_}
+use mathlib.Core.Bool.{Bool, true, false}
+use mathlib.Core.List.{List, []}
+use lib.Dec.{leb, eqb}
+use lib.ListN.{length, getD}
+use Rattle.numerals.specs.Pick.{pick, both}
+use Rattle.numerals.specs.Refusals.{no7, no8, no12}
+use Rattle.expansion.specs.Answer.{inLimits}
+use Rattle.expansion.specs.OldList.{numbersOf}
+use Rattle.expansion.specs.declared.rule.Rule.{Rule}
+use Rattle.packing.specs.Count.{ownRules}
+use Rattle.sheets.specs.PercentageSheet.{Sheet, readSheet}
+use Rattle.sheets.specs.RuleSheet.{Table, readTable}
+use Rattle.sheets.specs.Calls.{about, refusedAt, answered, hasService}
+use Rattle.sheets.specs.declared.answer.Refused.{Refused as Why}
+use Rattle.sheets.specs.declared.answer.UpdateRead.{UpdateRead}
+use Rattle.sheets.specs.declared.answer.UpdateRead.the-variants.{Made, Refused}
+
+-- the old list of service n: its lines, the newest rule first
+unfoldable pub oldRules : Table → ℕ → List Rule
+oldRules t n = ownRules n (t .lines)
+
+-- services are numbered from 1 by place
+unfoldable pub hasWeights : Sheet → ℕ → Bool
+hasWeights S n = inLimits 1 (length (S .weights)) n
+
+-- the new weights of service n
+unfoldable pub newWeights : Sheet → ℕ → List ℕ
+newWeights S n = getD (S .weights) (n - 1) []
+
+-- what is answered of a service that both sheets have, under one k: 8 is about the first that lacks it, 12 about neither
+abbrev pub ofService : {A : Type 0} → (Why → A) → Table → Sheet → ℕ → A → A
+ofService refuse t S n a =
+    pick (hasService t n)
+    (pick (hasWeights S n)
+    (pick (eqb (t .k) (S .k)) a
+    (refuse (refusedAt no12 0)))
+    (refuse (about 2 no8 0)))
+    (refuse (about 1 no8 0))
+
+-- the answer, where the lent buffers have so many places
+unfoldable pub updateIn : Table → Sheet → ℕ → ℕ → ℕ → UpdateRead
+updateIn t S n rulesRoom weightsRoom =
+    ofService Refused t S n
+    (pick (both (leb (length (numbersOf (oldRules t n))) rulesRoom) (leb (length (newWeights S n)) weightsRoom))
+    (Made (record { k = t .k; tolerance = S .tolerance; rules = length (oldRules t n); backends = length (newWeights S n) }))
+    (Refused (refusedAt no7 0)))
+
+unfoldable pub updateReadAnswer : List ℕ → List ℕ → ℕ → ℕ → ℕ → UpdateRead
+updateReadAnswer old sheet n rulesRoom weightsRoom =
+    answered Refused 1 (readTable old) (λ t. answered Refused 2 (readSheet sheet) (λ S. updateIn t S n rulesRoom weightsRoom))
+
+-- both were read; only then are the lent buffers filled
+abbrev pub isRead : UpdateRead → Bool
+isRead (Made r) = true
+isRead (Refused r) = false

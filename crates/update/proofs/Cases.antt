@@ -1,0 +1,36 @@
+-- The worked cases, by computation.
+use mathlib.Core.Path.{refl}
+use Rattle.numerals.specs.Limits.{unit}
+use Rattle.numerals.specs.Suffix.{place, isSuffix}
+use Rattle.numerals.specs.Digits.{value, valueFrom, lowest}
+use Rattle.numerals.specs.Sums.{listTo, sumTo, countTo, allTo, firstTo, argmax, lastmax}
+use Rattle.expansion.specs.FirstMatch.{isRule, matches, firstMatch, gives, share, differing}
+use Rattle.expansion.specs.Imbalance.{backends, label, weight, has, wants, excess, shortfall, imbalance, giver, receiver}
+use Rattle.expansion.specs.Imbalance.{largestExcess, largestShortfall}
+use Rattle.expansion.specs.Steps.{isWithin, reduction, reductionAt, term, isNoGain, isWhole, termLength, lowestPlace, newRule, step, after, listOf, oldest}
+use Rattle.expansion.specs.Answer.{inLimits, checkWeights, targetsMade}
+use Rattle.expansion.specs.OldList.{rulesFrom, numbersOf, isProper, checkRules, checkList}
+use Rattle.expansion.specs.Resume.{longest, capFrom, frameFrom, frameKept, listKept, endsWithin, largestTo, keptOf, listResumed, allKnown, checkOld}
+use Rattle.expansion.specs.Resume.{numbersResumed, resumeOf, resumeAnswer}
+use Rattle.update.specs.Update.{churn, recordUpdated, updateAnswer}
+use Rattle.update.specs.Cases.{Shows, unchanged, quarter, afresh, hidden, Halted}
+
+pub cases-show : Shows unchanged × Shows quarter × Shows afresh × Shows hidden
+unfolding listTo sumTo countTo allTo firstTo argmax lastmax isRule isSuffix matches firstMatch gives share differing backends label weight has wants
+    excess shortfall imbalance giver receiver largestExcess largestShortfall isWithin reduction reductionAt term isNoGain isWhole termLength lowestPlace
+    newRule step after listOf oldest place value valueFrom lowest unit inLimits checkWeights targetsMade rulesFrom numbersOf isProper checkRules
+    checkList longest capFrom frameFrom frameKept listKept endsWithin largestTo keptOf listResumed allKnown checkOld numbersResumed churn recordUpdated
+    resumeOf resumeAnswer updateAnswer
+cases-show = (
+  record { answer = refl; new = refl },
+  record { answer = refl; new = refl },
+  record { answer = refl; new = refl },
+  record { answer = refl; new = refl },
+)
+
+pub halted : Halted
+unfolding listTo sumTo countTo allTo firstTo argmax lastmax isRule isSuffix matches firstMatch gives share backends label weight has wants excess
+    shortfall giver receiver largestExcess largestShortfall isWithin reduction reductionAt term isNoGain isWhole termLength lowestPlace newRule step after
+    listOf oldest place value valueFrom lowest unit inLimits checkWeights targetsMade rulesFrom isProper checkRules checkList longest capFrom frameFrom
+    frameKept listKept endsWithin largestTo keptOf allKnown checkOld resumeOf resumeAnswer updateAnswer
+halted = refl

@@ -1,0 +1,2 @@
+-- The contracts of inner functions.
+pub mod Spread

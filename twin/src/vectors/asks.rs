@@ -1,0 +1,342 @@
+//! What vectors `L` ask: an old list and new weights in numbers.
+
+use super::loaded::{any_list, changed, loaded, near_shares, spoil_list, Loaded};
+use crate::expansion::{Ending, Rule};
+use crate::lists::{list_of, numbers_of};
+use crate::numerals::WHOLE;
+use crate::random::Random;
+use crate::update::{run, update};
+
+/// All numbers of a call but those of its buffer.
+#[derive(Clone, Debug)]
+pub struct Ask {
+    pub k: u64,
+    pub tolerance: u64,
+    pub old: Vec<u64>,
+    pub weights: Vec<u64>,
+}
+
+impl Ask {
+    /// The payload: two lines, the old list and the weights.
+    pub fn payload(&self) -> Vec<u8> {
+        let mut text = String::new();
+        for row in [&self.old, &self.weights] {
+            let row: Vec<String> = row.iter().map(u64::to_string).collect();
+            text += &(row.join(" ") + "\n");
+        }
+        text.into_bytes()
+    }
+}
+
+fn ask_of(case: &Loaded) -> Ask {
+    Ask {
+        k: u64::from(case.k),
+        tolerance: case.tolerance,
+        old: numbers_of(case.old.iter()),
+        weights: case.weights.clone(),
+    }
+}
+
+/// P1's list, newest rule first.
+const P1: [u64; 12] = [5, 4, 1, 3, 0, 1, 1, 0, 2, 0, 0, 3];
+const SIXTHS: [u64; 3] = [166_667, 333_333, 500_000];
+const QUARTERS: [u64; 3] = [250_000, 250_000, 500_000];
+
+fn ask(k: u64, tolerance: u64, old: &[u64], weights: &[u64]) -> Ask {
+    Ask {
+        k,
+        tolerance,
+        old: old.to_vec(),
+        weights: weights.to_vec(),
+    }
+}
+
+/// P1's list with its own weights and others, for some tolerances.
+pub fn p1_cases() -> Vec<Ask> {
+    let mut asks = Vec::new();
+    for weights in [
+        SIXTHS,
+        QUARTERS,
+        [333_333, 166_667, 500_000],
+        [0, 0, WHOLE],
+        [WHOLE, 0, 0],
+        [0, 500_000, 500_000],
+    ] {
+        for tolerance in [0, 10_416, 10_417, 20_000, WHOLE] {
+            asks.push(ask(5, tolerance, &P1, &weights));
+        }
+    }
+    asks
+}
+
+/// Lists of few rules: equal suffixes, rules that newer ones hide, backends left
+/// with nothing, and the halves of the tree.
+const SHAPES: [&[u64]; 9] = [
+    &[0, 0, 1],
+    &[1, 0, 1, 0, 0, 2],
+    &[1, 0, 1, 1, 1, 2, 0, 0, 3],
+    &[1, 0, 1, 1, 0, 2, 1, 0, 3, 0, 0, 3],
+    &[2, 0, 1, 2, 2, 1, 1, 0, 2, 0, 0, 3],
+    &[3, 0, 1, 3, 0, 2, 3, 0, 1, 0, 0, 2],
+    &[3, 5, 2, 0, 0, 1],
+    &[3, 0, 3, 1, 0, 3, 1, 1, 3, 0, 0, 3],
+    &[3, 7, 1, 3, 3, 2, 3, 1, 1, 1, 1, 2, 0, 0, 3],
+];
+
+/// Each of these with some k, weights and tolerances.
+pub fn shaped() -> Vec<Ask> {
+    let mut asks = Vec::new();
+    for (number, old) in SHAPES.iter().enumerate() {
+        for (turn, weights) in [
+            QUARTERS,
+            [500_000, 500_000, 0],
+            [125_000, 0, 875_000],
+            [0, WHOLE, 0],
+        ]
+        .iter()
+        .enumerate()
+        {
+            let least = old.iter().step_by(3).max().map_or(1, |&most| most.max(1));
+            let k = (least + (3 * turn + number) as u64 % 6).min(12);
+            for tolerance in [0, 62_500] {
+                asks.push(ask(k, tolerance, old, weights));
+            }
+        }
+    }
+    asks
+}
+
+/// For each r a list whose r oldest rules alone are within: the whole list, or
+/// all but its newest rule.
+pub fn every_keep(random: &mut Random) -> Vec<Ask> {
+    let mut asks = Vec::new();
+    for keep in 1..=32u64 {
+        for more in [0, 1] {
+            if keep + more > 32 {
+                continue;
+            }
+            let k = (1 + (keep + more) % 12).max(5) as u8;
+            let old = any_list(random, k, keep + more, 4);
+            let weights = near_shares(k, &old[more as usize..], 4);
+            let case = Loaded {
+                k,
+                tolerance: 100,
+                old,
+                weights,
+            };
+            asks.push(ask_of(&case));
+        }
+    }
+    asks
+}
+
+/// Lists of 32 rules, with weights near those of their shares.
+pub fn longest(random: &mut Random, count: u64) -> Vec<Ask> {
+    let mut asks = Vec::new();
+    for turn in 0..count {
+        let k = (5 + turn % 8) as u8;
+        let backends = *random.pick(&[3, 8, 32]);
+        let old = any_list(random, k, 32, backends);
+        let from = random.within(1, 24) as usize;
+        let near = near_shares(k, &old[from..], 32);
+        let weights = changed(random, &near);
+        let case = Loaded {
+            k,
+            tolerance: *random.pick(&[100, 2_000, 20_000]),
+            old,
+            weights,
+        };
+        asks.push(ask_of(&case));
+    }
+    asks
+}
+
+/// Cases of every k at random.
+pub fn at_random(random: &mut Random, count: u64) -> Vec<Ask> {
+    let case = |turn: u64| ask_of(&loaded(random, (1 + turn % 12) as u8));
+    (0..count).map(case).collect()
+}
+
+/// The lowest tolerance with which the oldest `keep` rules lead to a list that
+/// ends within it. The rules of a run are the same for each tolerance, but that
+/// it ends sooner.
+fn tightest(ask: &Ask, old: &[Rule], keep: usize) -> u64 {
+    let (mut low, mut high) = (0, WHOLE);
+    while low < high {
+        let middle = (low + high) / 2;
+        match run(ask.k as u8, middle, old, keep, &ask.weights).0 {
+            Ending::Within => high = middle,
+            _ => low = middle + 1,
+        }
+    }
+    low
+}
+
+/// A case with the tightest tolerance of each r that a greater r doesn't reach
+/// too, so that each of these is the answer once, after its longest run; and
+/// with one that none reaches.
+pub fn tight(ask: &Ask) -> Vec<Ask> {
+    let old = list_of(ask.k, &ask.old).unwrap_or_default();
+    let mut asks = Vec::new();
+    let mut lowest = WHOLE + 1;
+    for keep in (1..=old.len()).rev() {
+        let tolerance = tightest(ask, &old, keep);
+        if tolerance < lowest {
+            lowest = tolerance;
+            asks.push(Ask {
+                tolerance,
+                ..ask.clone()
+            });
+        }
+    }
+    if let Some(tolerance) = lowest.checked_sub(1) {
+        asks.push(Ask {
+            tolerance,
+            ..ask.clone()
+        });
+    }
+    asks
+}
+
+/// Cases that would drop rules, but one of these goes to a backend beyond the
+/// weights.
+pub fn dropped_beyond(random: &mut Random, asks: &[Ask]) -> Vec<Ask> {
+    let mut beyond = Vec::new();
+    for ask in asks {
+        let made = update(ask.k, ask.tolerance, &ask.old, &ask.weights, &mut [0; 96]);
+        let keep = made.map_or(0, |made| made.keep);
+        let (rules, backends) = (ask.old.len() / 3, ask.weights.len() as u64);
+        if keep == 0 || keep == rules || backends == 32 {
+            continue;
+        }
+        let mut ask = ask.clone();
+        let dropped = random.below((rules - keep) as u64) as usize;
+        ask.old[3 * dropped + 2] = *random.pick(&[backends + 1, 32]);
+        beyond.push(ask);
+    }
+    beyond
+}
+
+/// Cases with something wrong in the numbers, most of them.
+pub fn spoilt(random: &mut Random, count: u64) -> Vec<Ask> {
+    let mut asks = at_random(random, count);
+    for ask in &mut asks {
+        let at = random.below(ask.weights.len() as u64) as usize;
+        match random.below(8) {
+            0 => ask.k = random.within(0, 14),
+            1 => ask.tolerance = random.any_size(),
+            2 => ask.weights[at] = random.any_size(),
+            3 => ask.weights.truncate(at),
+            4 => ask.weights[at] += 1,
+            _ => spoil_list(random, &mut ask.old),
+        }
+    }
+    asks
+}
+
+/// One thing that is wrong, in the order in which it is looked for.
+const FAULTS: [fn(&mut Ask); 15] = [
+    |ask| ask.k = 13,
+    |ask| ask.tolerance = WHOLE + 1,
+    |ask| ask.old.clear(),
+    |ask| set(&mut ask.old, 2, 33),
+    |ask| set(&mut ask.old, 1, 32),
+    |ask| ask.old = [[5, 4, 1].repeat(30), ask.old.clone()].concat(),
+    |ask| set(&mut ask.old, 3, 6),
+    |ask| ask.old.extend([0, 0, 1]),
+    |ask| ask.old.push(0),
+    |ask| ask.old.truncate(9),
+    |ask| ask.weights.clear(),
+    |ask| ask.weights.resize(33, 0),
+    |ask| set(&mut ask.weights, 1, WHOLE + 1),
+    |ask| set(&mut ask.weights, 0, 7),
+    |ask| set(&mut ask.old, 5, 4),
+];
+
+fn set(numbers: &mut [u64], at: usize, number: u64) {
+    if let Some(old) = numbers.get_mut(at) {
+        *old = number;
+    }
+}
+
+/// P1's list with each fault alone, and with each of so many that come next. It
+/// would be made otherwise, or be stuck.
+pub fn faulty(stuck: bool, next: usize) -> Vec<Ask> {
+    let good = match stuck {
+        true => ask(5, 0, &P1, &SIXTHS),
+        false => ask(5, 20_000, &P1, &QUARTERS),
+    };
+    let mut asks = Vec::new();
+    for (number, first) in FAULTS.iter().enumerate() {
+        let mut one = good.clone();
+        first(&mut one);
+        for second in FAULTS[number + 1..].iter().take(next) {
+            let mut both = one.clone();
+            second(&mut both);
+            asks.push(both);
+        }
+        asks.push(one);
+    }
+    asks
+}
+
+/// Lists refused for their numbers, rule by rule, and a few that aren't.
+pub fn lists() -> Vec<Ask> {
+    let many = |rules: usize, last: &[u64]| [&[1, 0, 1].repeat(rules)[..], last].concat();
+    let mut lists: Vec<Vec<u64>> = vec![
+        vec![6],
+        vec![0, 1],
+        vec![0, 0, 1, 0],
+        vec![0, 0, 1, 0, 0],
+        vec![1, 0, 1],
+        vec![1, 0, 1, 0],
+        vec![0, 0, 1, 0, 0, 1],
+        vec![0, 0, 1, 1, 0, 1],
+        vec![1, 0, 1, 2, 0, 1, 0, 0, 33],
+        vec![1, 0, 1, 2, 0, 33, 0, 0, 1],
+        vec![1, 0, 1, 2, 0, 1, 0],
+        vec![2, 0, 1, 1, 0, 1],
+        vec![2, 0, 1, 1, 0, 1, 0, 0, 3],
+        vec![2, 3, 1, 2, 3, 1, 0, 0, 3],
+    ];
+    for number in [0, 1, 2, 5, 6, 12, 13, 32, 33, 64, 256, 1 << 32, u64::MAX] {
+        lists.push(vec![number, 0, 1, 0, 0, 1]);
+        lists.push(vec![1, number, 1, 0, 0, 1]);
+        lists.push(vec![0, number, 1]);
+        lists.push(vec![0, 0, number]);
+    }
+    for rules in [31, 32, 33, 39] {
+        for last in [&[0, 0, 2][..], &[2, 0, 1], &[6, 0, 1], &[0, 0], &[]] {
+            lists.push(many(rules, last));
+        }
+    }
+    let asks = lists.iter().map(|list| ask(5, 20_000, list, &QUARTERS));
+    asks.collect()
+}
+
+/// Weights by their number, each of some size.
+pub fn weight_counts() -> Vec<Ask> {
+    let mut asks = Vec::new();
+    for count in [0, 1, 2, 31, 32, 33, 34, 40] {
+        for weight in [0, 31_250, WHOLE, WHOLE + 1, u64::MAX] {
+            asks.push(ask(5, WHOLE, &[1, 0, 1, 0, 0, 1], &vec![weight; count]));
+        }
+    }
+    for backend in [1, 2, 3, 31, 32] {
+        asks.push(ask(5, WHOLE, &[1, 0, 1, 0, 0, backend], &[31_250; 32]));
+        asks.push(ask(5, WHOLE, &[1, 0, backend, 0, 0, 1], &[500_000; 2]));
+    }
+    asks
+}
+
+/// k and tolerance at their limits and beyond.
+pub fn heads() -> Vec<Ask> {
+    let mut asks = Vec::new();
+    for k in [0, 1, 12, 13, 64, 256, 257, 1 << 32, u64::MAX] {
+        asks.push(ask(k, WHOLE, &[1, 0, 1, 0, 0, 1], &[WHOLE]));
+    }
+    for tolerance in [0, WHOLE, WHOLE + 1, 1 << 32, u64::MAX] {
+        asks.push(ask(1, tolerance, &[1, 0, 2, 0, 0, 1], &[500_000; 2]));
+    }
+    asks
+}

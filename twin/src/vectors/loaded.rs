@@ -1,0 +1,240 @@
+//! Old lists of every shape with new weights, made at random.
+
+use super::shapes::{order, rule_table, service, weights, OrderShape};
+use crate::expansion::{make_list, Rule};
+use crate::numerals::WHOLE;
+use crate::packing::{pack_checked, Order};
+use crate::random::Random;
+use crate::suffix::Suffix;
+use crate::table::Table;
+
+/// An old list, newest rule first, and what is asked of it.
+#[derive(Clone, Debug)]
+pub struct Loaded {
+    pub k: u8,
+    pub tolerance: u64,
+    pub old: Vec<Rule>,
+    pub weights: Vec<u64>,
+}
+
+/// A case that isn't refused before it is found stuck.
+pub fn loaded(random: &mut Random, k: u8) -> Loaded {
+    let (old, weights) = match random.below(3) {
+        0 => by_hand(random, k),
+        _ => expanded(random, k),
+    };
+    let tolerance = tolerance(random, k);
+    Loaded {
+        k,
+        tolerance,
+        old,
+        weights,
+    }
+}
+
+/// Tolerances that lists of this k can meet, and all others.
+fn tolerance(random: &mut Random, k: u8) -> u64 {
+    let suffix = WHOLE >> k;
+    match random.below(12) {
+        0 | 1 => 0,
+        2 => WHOLE,
+        3 => random.below(WHOLE + 1),
+        4..=6 => suffix / 2 + random.below(suffix / 2 + 1),
+        7 => suffix,
+        _ => random.below(30_000),
+    }
+}
+
+/// The list of an expansion, often cut, with weights near its own.
+fn expanded(random: &mut Random, k: u8) -> (Vec<Rule>, Vec<u64>) {
+    let most = *random.pick(&[3, 5, 8, 32]);
+    let count = random.within(1, most) as usize;
+    let before = weights(random, count);
+    let budget = match random.below(3) {
+        0 => random.within(1, 32) as usize,
+        _ => 32,
+    };
+    let list = make_list(k, 0, budget, &before);
+    let old: Vec<Rule> = list.rules.iter().rev().copied().collect();
+    let after = changed(random, &before);
+    (old, after)
+}
+
+/// Other weights of at least as many backends.
+pub fn changed(random: &mut Random, before: &[u64]) -> Vec<u64> {
+    let mut after = before.to_vec();
+    for _ in 0..random.below(4) {
+        let from = random.below(after.len() as u64) as usize;
+        let to = random.below(after.len() as u64) as usize;
+        let moved = match random.below(6) {
+            0 => after[from],
+            1 => after[from] / 2,
+            2 => 10_000 * random.below(30),
+            _ => random.below(40_000),
+        };
+        let moved = moved.min(after[from]);
+        after[from] -= moved;
+        after[to] += moved;
+    }
+    match random.below(10) {
+        0 if after.len() < 32 => after.push(0),
+        1 => after.rotate_left(1),
+        2 => after = weights(random, before.len()),
+        _ => (),
+    }
+    after
+}
+
+/// Suffixes with lengths that don't grow, to few backends, then `*`; the new
+/// weights are near the shares, or any.
+fn by_hand(random: &mut Random, k: u8) -> (Vec<Rule>, Vec<u64>) {
+    let (most_rules, most_backends) = (*random.pick(&[2, 5, 9, 32]), *random.pick(&[2, 3, 6, 32]));
+    let rules = random.within(1, most_rules);
+    let backends = random.within(1, most_backends);
+    let old = any_list(random, k, rules, backends);
+    let count = backends as usize;
+    let weights = match random.below(3) {
+        0 => weights(random, count),
+        1 => {
+            let near = near_shares(k, &old, count);
+            changed(random, &near)
+        }
+        _ => near_shares(k, &old[(rules / 2) as usize..], count),
+    };
+    (old, weights)
+}
+
+/// The weights that a list's shares make, cut to whole millionths.
+pub fn near_shares(k: u8, rules: &[Rule], count: usize) -> Vec<u64> {
+    let shares = crate::count::shares(k, count, rules.iter());
+    let mut weights: Vec<u64> = shares.iter().map(|share| (share * WHOLE) >> k).collect();
+    weights[0] += WHOLE - weights.iter().sum::<u64>();
+    weights
+}
+
+/// A list of so many rules: any lengths, equal ones, all of k bits, few
+/// suffixes again and again.
+pub fn any_list(random: &mut Random, k: u8, rules: u64, backends: u64) -> Vec<Rule> {
+    let bits = u64::from(k);
+    let (least, places) = match random.below(5) {
+        0 => (bits, 1 << 12),
+        1 => (random.within(1, bits), 3),
+        2 => (1, 2),
+        _ => (1, 1 << 12),
+    };
+    let most = random.within(least, bits);
+    let mut lengths: Vec<u64> = (1..rules).map(|_| random.within(least, most)).collect();
+    lengths.sort_unstable_by(|a, b| b.cmp(a));
+    lengths.push(0);
+    let rule = |length: u64| {
+        let place = random.below((1 << length).min(places)) as u16;
+        Rule {
+            suffix: Suffix::at_place(length as u8, place),
+            backend: random.within(1, backends) as u8,
+        }
+    };
+    lengths.into_iter().map(rule).collect()
+}
+
+/// A rule sheet, and a percentage sheet with new weights for its services; now
+/// and then of another k, without its last service or with fewer backends.
+pub fn two_sheets(random: &mut Random) -> (Table, Order) {
+    let (table, mut order) = match random.below(3) {
+        0 => any_sheets(random),
+        _ => packed_sheets(random),
+    };
+    order.tolerance = tolerance(random, table.k);
+    match random.below(24) {
+        0 | 1 => order.k = random.within(1, 12),
+        2 if order.services.len() > 1 => drop(order.services.pop()),
+        3 => order.services[0].weights = vec![WHOLE],
+        _ => (),
+    }
+    (table, order)
+}
+
+/// Services of any suffixes, and weights near their shares or any.
+fn any_sheets(random: &mut Random) -> (Table, Order) {
+    let k = random.within(1, 12);
+    let table = rule_table(random, k, 3);
+    let last = table.lines.last().map_or(1, |line| line.service);
+    let mut services = Vec::new();
+    for number in 1..=u64::from(last) {
+        let rules: Vec<Rule> = table
+            .lines_of(number)
+            .iter()
+            .map(|line| line.rule)
+            .collect();
+        let most = rules.iter().map(|rule| rule.backend).max();
+        let weights = match most {
+            Some(most) => {
+                let near = near_shares(table.k, &rules, most.into());
+                changed(random, &near)
+            }
+            None => vec![WHOLE],
+        };
+        services.push(service(1, &weights));
+    }
+    let order = Order {
+        k,
+        tolerance: 0,
+        capacity: 64,
+        services,
+    };
+    (table, order)
+}
+
+/// A packed order, and the order with other weights.
+fn packed_sheets(random: &mut Random) -> (Table, Order) {
+    let shape = OrderShape {
+        services: random.within(1, 3),
+        backends: 5,
+        bits: 12,
+    };
+    let mut order = order(random, &shape);
+    if random.once_in(2) {
+        order.capacity = 64;
+    }
+    let table = pack_checked(&order).table;
+    for service in &mut order.services {
+        service.weights = changed(random, &service.weights);
+    }
+    (table, order)
+}
+
+/// Numbers at the limits of a list's numbers, and far beyond them.
+const NUMBERS: [u64; 14] = [
+    0,
+    1,
+    2,
+    11,
+    12,
+    13,
+    31,
+    32,
+    33,
+    4_095,
+    4_096,
+    1 << 32,
+    1 << 63,
+    u64::MAX,
+];
+
+/// Now and then one thing wrong in a list's numbers, or two.
+pub fn spoil_list(random: &mut Random, numbers: &mut Vec<u64>) {
+    for _ in 0..*random.pick(&[0, 1, 1, 1, 2]) {
+        if numbers.len() < 3 {
+            return;
+        }
+        let at = random.below(numbers.len() as u64) as usize;
+        let rule = at / 3 * 3;
+        match random.below(8) {
+            0..=2 => numbers[at] = *random.pick(&NUMBERS),
+            3 => drop(numbers.remove(at)),
+            4 => numbers.truncate(at),
+            5 if rule + 3 <= numbers.len() => drop(numbers.drain(rule..rule + 3)),
+            6 => numbers.splice(rule..rule, [0, 0, 1]).for_each(drop),
+            _ => numbers[rule] = random.below(4),
+        }
+    }
+}

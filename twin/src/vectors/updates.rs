@@ -1,0 +1,275 @@
+//! Vectors for new weights on a loaded table: `L` in numbers, `T` on two sheets,
+//! each with a lent buffer of so many numbers.
+
+use super::asks::{self, Ask};
+use super::expansion::{numbers, refused_text};
+use super::loaded::two_sheets;
+use super::plans::{row_text, BEHIND, MARK};
+use super::records::{Record, Records};
+use super::rule_sheets::{some_service, LINES};
+use super::shapes::sheet_text;
+use super::sheets::shown;
+use super::spoil::spoil;
+use super::{percentage_sheets, rule_sheets};
+use crate::calls::split;
+use crate::random::Random;
+use crate::rule_sheet::text_of;
+use crate::update::{update, update_sheets, Updated};
+
+/// What the twin says to one record, and all of the buffer afterwards; nothing
+/// if the record is of no kind.
+pub fn answer(record: &Record) -> Option<String> {
+    let room = usize::try_from(*record.numbers.last()?).ok()?;
+    let mut list = vec![MARK; room + BEHIND];
+    let lent = &mut list[..room];
+    let answer = match (record.kind, record.numbers.as_slice()) {
+        ("L", &[k, tolerance, _]) => {
+            let [old, weights] = two_rows(std::str::from_utf8(record.payload).ok()?)?;
+            let made = update(k, tolerance, &old, &weights, lent);
+            made.map_or_else(refused_text, |made| format!("made {}", made_text(made)))
+        }
+        ("T", &[service, length, _]) => {
+            let length = usize::try_from(length).ok()?;
+            let (old, sheet) = record.payload.split_at_checked(length)?;
+            let made = update_sheets(old, sheet, service, lent);
+            shown(made.map(|(k, made)| format!("made {k} {}", made_text(made))))
+        }
+        _ => return None,
+    };
+    Some(format!("{answer} rules{}", row_text(&list)))
+}
+
+/// Two lines of numbers.
+fn two_rows(text: &str) -> Option<[Vec<u64>; 2]> {
+    let rows: Option<Vec<Vec<u64>>> = text.strip_suffix('\n')?.split('\n').map(numbers).collect();
+    rows?.try_into().ok()
+}
+
+fn made_text(made: Updated) -> String {
+    format!("{} {} {}", made.keep, made.rules, made.churn)
+}
+
+/// Adds all of them.
+pub fn add_all(records: &mut Records) {
+    let mut random = Random::new(12);
+    in_numbers(records, &mut random);
+    refused_numbers(records, &mut random);
+    tight_numbers(records);
+    sheets_listed(records);
+    sheets_in_lines(records);
+    sheets_at_limits(records);
+    sheets_with_rooms(records);
+    sheets_at_random(records, &mut random);
+}
+
+fn add(records: &mut Records, ask: &Ask, room: usize) {
+    let Ask { k, tolerance, .. } = ask;
+    records.add(&format!("L {k} {tolerance} {room}"), &ask.payload());
+}
+
+/// The room that the answer needs; a little if it is refused.
+fn needed(ask: &Ask) -> usize {
+    let made = update(ask.k, ask.tolerance, &ask.old, &ask.weights, &mut [0; 96]);
+    made.map_or(3, |made| 3 * made.rules)
+}
+
+/// Most often the room needed; else one less, one more, three less or none.
+fn some_room(turn: usize, needed: usize) -> usize {
+    match turn % 12 {
+        2 => needed.saturating_sub(1),
+        5 => needed + 1,
+        8 => 0,
+        10 => needed.saturating_sub(3),
+        _ => needed,
+    }
+}
+
+/// Lists and weights within their limits.
+fn in_numbers(records: &mut Records, random: &mut Random) {
+    for ask in [asks::p1_cases(), asks::every_keep(random)].concat() {
+        add(records, &ask, needed(&ask));
+    }
+    let others = [
+        asks::shaped(),
+        asks::longest(random, 28),
+        asks::at_random(random, 300),
+    ];
+    for (turn, ask) in others.concat().iter().enumerate() {
+        add(records, ask, some_room(turn, needed(ask)));
+    }
+    for room in [0, 1, 3, 9, 11, 12, 13, 100] {
+        for ask in asks::p1_cases().iter().skip(2).take(4) {
+            add(records, ask, room);
+        }
+    }
+}
+
+/// Numbers that are refused, with room and without.
+fn refused_numbers(records: &mut Records, random: &mut Random) {
+    let (faulty, lists) = (asks::faulty(false, 15), asks::lists());
+    let asks = [faulty, lists, asks::weight_counts()];
+    for (turn, ask) in asks.concat().iter().enumerate() {
+        add(records, ask, 6 * (turn % 2));
+    }
+    for ask in [asks::faulty(true, 2), asks::heads()].concat() {
+        add(records, &ask, 0);
+    }
+    for ask in asks::spoilt(random, 60) {
+        let room = needed(&ask).min(12);
+        add(records, &ask, room);
+    }
+}
+
+/// The lowest tolerances of lists, and dropped rules that are refused.
+fn tight_numbers(records: &mut Records) {
+    let mut random = Random::new(11);
+    let mut loose: Vec<Ask> = asks::shaped().into_iter().step_by(2).collect();
+    loose.extend(asks::longest(&mut random, 5));
+    loose.extend(asks::at_random(&mut random, 60));
+    let tight: Vec<Ask> = loose.iter().flat_map(asks::tight).collect();
+    for ask in &tight {
+        add(records, ask, needed(ask));
+    }
+    for ask in asks::dropped_beyond(&mut random, &tight).iter().step_by(6) {
+        add(records, ask, 3);
+    }
+}
+
+fn add_sheets(records: &mut Records, service: u64, old: &[u8], sheet: &[u8], room: usize) {
+    let header = format!("T {service} {} {room}", old.len());
+    records.add(&header, &[old, sheet].concat());
+}
+
+/// Rule sheets, the refused ones too.
+const OLD: [&str; 10] = [
+    "TABLE 5 3 0\n1 *0 2\n1 * 1\n2 * 3\n",
+    "TABLE 5 2 0\n2 * 1\n3 * 2\n",
+    "TABLE 4 2 0\n1 *1 1\n1 * 2\n",
+    rule_sheets::SAMPLE,
+    "",
+    "TABLE 5 1 0\n",
+    "TABLE 5 2 0\n1 * 1\n",
+    "TABLE 5 1 0\n1 *0 1\n",
+    "TABLE 5 1 0\n1 * 33\n",
+    "TABLE 5 1 0\n1 * 1",
+];
+
+/// Percentage sheets, the refused ones too.
+const SHEETS: [&str; 10] = [
+    percentage_sheets::SAMPLE,
+    "SHEET 5 0 9\nSERVICE 1 75 25\n",
+    "SHEET 4 100 9\nSERVICE 1 50 50\nSERVICE 1 100\n",
+    "SHEET 5 100 9\nSERVICE 1 50 50\nSERVICE 1 100\nSERVICE 0 0 100\n",
+    "",
+    "SHEET 5 2 5\n",
+    "SHEET 5 2 1\nSERVICE 1 100\nSERVICE 1 100\n",
+    "SHEET 5 2 9\nSERVICE 1 50 49\n",
+    "SHEET 5 2 9\nSERVICE 1 50 018.4\n",
+    "SHEET 5 2 9\nSERVICES 1 100\n",
+];
+
+/// Each two of these for a service or two, and texts over their limit.
+fn sheets_listed(records: &mut Records) {
+    for (number, old) in OLD.iter().enumerate() {
+        for (other, sheet) in SHEETS.iter().enumerate() {
+            for service in [1, 2, 3] {
+                if number + other > 9 || service == 3 && number * other > 3 {
+                    continue;
+                }
+                add_sheets(records, service, old.as_bytes(), sheet.as_bytes(), 9);
+            }
+        }
+    }
+    let long = [b'\n'; 65_537];
+    add_sheets(records, 1, &long, b"", 3);
+    add_sheets(records, 1, OLD[1].as_bytes(), &long, 3);
+    let many = "1 *0 1\n".repeat(32);
+    let many = format!("TABLE 5 33 0\n{many}1 * 1\n");
+    add_sheets(records, 1, many.as_bytes(), b"", 3);
+    let many = format!("SHEET 5 0 9\nSERVICE 1{}\n", " 0".repeat(33));
+    add_sheets(records, 3, OLD[0].as_bytes(), many.as_bytes(), 3);
+}
+
+/// Lines in and out of order, and the tables of the P cases with the weights of
+/// each.
+fn sheets_in_lines(records: &mut Records) {
+    let sheet = b"SHEET 5 50 9\nSERVICE 1 50 50\nSERVICE 1 100\nSERVICE 1 25 75\n";
+    for lines in LINES {
+        let (n, text) = (lines.split(',').count(), lines.replace(',', "\n"));
+        let old = format!("TABLE 5 {n} 12\n{text}\n");
+        add_sheets(records, 1, old.as_bytes(), sheet, 9);
+    }
+    let cases = percentage_sheets::cases();
+    for packing in cases.iter().flat_map(|case| split(case.as_bytes())) {
+        let old = text_of(&packing.table);
+        for sheet in &cases {
+            add_sheets(records, 1, &old, sheet.as_bytes(), 12);
+        }
+    }
+}
+
+/// 64 services, 32 rules and 32 backends, and one more of each.
+fn sheets_at_limits(records: &mut Records) {
+    let mut lines: String = (1..64).map(|service| format!("{service} * 1\n")).collect();
+    lines += &"64 *101010101010 32\n".repeat(31);
+    let old = format!("TABLE 12 95 0\n{lines}64 * 32\n");
+    let (most, weights) = ("SERVICE 1 100\n".repeat(63), " 3.125".repeat(32));
+    let sheet = format!("SHEET 12 100 64\n{most}SERVICE 1{weights}\n");
+    for (service, room) in [(64, 96), (64, 95), (65, 96)] {
+        add_sheets(records, service, old.as_bytes(), sheet.as_bytes(), room);
+    }
+    for sheet in [
+        sheet.replace("12 100", "12 0"),
+        sheet.clone() + "SERVICE 1 100\n",
+        sheet.replace(" 3.125\n", " 3 0.125\n"),
+        sheet.replace(" 3.125\n", "\n"),
+    ] {
+        add_sheets(records, 64, old.as_bytes(), sheet.as_bytes(), 96);
+    }
+    let sheet = b"SHEET 12 100 64\nSERVICE 1 100\n";
+    for more in ["64 * 32\n64 * 32\n", "64 *0 1\n64 * 32\n", "65 * 1\n"] {
+        let old = format!("TABLE 12 96 0\n{lines}{more}");
+        add_sheets(records, 1, old.as_bytes(), sheet, 3);
+    }
+}
+
+/// Rooms around what is needed, services that aren't there, and a depth, a
+/// backend or a list that comes before the room.
+fn sheets_with_rooms(records: &mut Records) {
+    let (old, sheet) = (OLD[3].as_bytes(), SHEETS[0].as_bytes());
+    for room in [0, 1, 8, 9, 10, 100] {
+        add_sheets(records, 2, old, sheet, room);
+        add_sheets(records, 1, old, sheet, room);
+    }
+    for service in [0, 3, 64, 65, 256, 258, 1 << 32, (1 << 32) + 2, u64::MAX] {
+        add_sheets(records, service, old, sheet, 9);
+    }
+    for sheet in [
+        "SHEET 4 100 9\nSERVICE 1 100\nSERVICE 1 100\n",
+        "SHEET 5 100 9\nSERVICE 1 100\nSERVICE 1 50 50\n",
+        "SHEET 5 0 9\nSERVICE 1 50 50\nSERVICE 1 10 20 70\n",
+        "SHEET 5 0 9\nSERVICE 1 100\nSERVICE 1 50 25 25\n",
+        "SHEET 5 100 9\nSERVICE 1 100\nSERVICE 1 0 0 100\n",
+    ] {
+        for room in [0, 8, 9] {
+            add_sheets(records, 2, old, sheet.as_bytes(), room);
+        }
+    }
+}
+
+/// Sheets of every shape; one of ten is spoilt.
+fn sheets_at_random(records: &mut Records, random: &mut Random) {
+    for turn in 0..200 {
+        let (table, order) = two_sheets(random);
+        let service = some_service(random, &table);
+        let (mut old, mut sheet) = (text_of(&table), sheet_text(random, &order));
+        match turn % 20 {
+            0 => old = spoil(random, &old),
+            10 => sheet = spoil(random, &sheet),
+            _ => (),
+        }
+        let made = update_sheets(&old, &sheet, service, &mut [0; 96]);
+        let needed = made.map_or(3, |(_, made)| 3 * made.rules);
+        add_sheets(records, service, &old, &sheet, some_room(turn, needed));
+    }
+}
