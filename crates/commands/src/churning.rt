@@ -23,7 +23,7 @@ fn compare(old: &[u8], new: &[u8], service: u64, out: &mut [u8]) -> usize
 }
 
 // How many suffixes of a service have another backend in the new rule sheet than in the old.
-pub fn churn(old: &[u8], new: &[u8], service: &[u8], out: &mut [u8; crate::ROOM]) -> Outcome
+pub fn churn(old: &[u8], new: &[u8], service: &[u8], out: &mut [u8; crate::LINES_ROOM]) -> Outcome
     ensures answer { λ r. ⌜ r ≡ outcome (churnSays (now (old .entry)) (now (new .entry)) (now (service .entry))) ⌝ }
     ensures buffer { λ _. ⌜ now (out .exit) ≡ filled (churnSays (now (old .entry)) (now (new .entry)) (now (service .entry))) (now (out .entry)) ⌝ }
 {

@@ -43,7 +43,7 @@ pub fn gauge(
     service: &[u8],
     volume: &[u8],
     backend: &[u8],
-    out: &mut [u8; crate::ROOM],
+    out: &mut [u8; crate::LINES_ROOM],
 ) -> Outcome
     ensures answer { λ r. ⌜ r ≡ outcome (gaugeSays (now (table .entry)) (now (service .entry)) (now (volume .entry)) (now (backend .entry))) ⌝ }
     ensures buffer { λ _. ⌜ now (out .exit)

@@ -22,5 +22,7 @@ pub use looking::lookup;
 pub use splitting::split;
 pub use updating::update;
 
-// The bytes of a lent buffer, and the limit of a text: no answer is longer.
+// The bytes of a buffer that is lent for a text, and the limit of a text: no answer is longer.
 pub const ROOM: usize = numerals::TEXT_LIMIT;
+// The bytes of a buffer that is lent for a few lines: a first line and 32 rule lines are the most.
+pub const LINES_ROOM: usize = 2048;

@@ -38,7 +38,12 @@ fn look(table: &[u8], service: u64, address: u64, out: &mut [u8]) -> usize
 }
 
 // The backend that a rule sheet gives a service's address to.
-pub fn lookup(table: &[u8], service: &[u8], address: &[u8], out: &mut [u8; crate::ROOM]) -> Outcome
+pub fn lookup(
+    table: &[u8],
+    service: &[u8],
+    address: &[u8],
+    out: &mut [u8; crate::LINES_ROOM],
+) -> Outcome
     ensures answer { λ r. ⌜ r ≡ outcome (lookupSays (now (table .entry)) (now (service .entry)) (now (address .entry))) ⌝ }
     ensures buffer { λ _. ⌜ now (out .exit) ≡ filled (lookupSays (now (table .entry)) (now (service .entry)) (now (address .entry))) (now (out .entry)) ⌝ }
 {

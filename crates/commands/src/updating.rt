@@ -104,7 +104,12 @@ fn renew(old: &[u8], sheet: &[u8], service: u64, out: &mut [u8]) -> usize
 }
 
 // New weights for a service of a rule sheet, by a percentage sheet: the rules that are kept and added, and what they move.
-pub fn update(old: &[u8], sheet: &[u8], service: &[u8], out: &mut [u8; crate::ROOM]) -> Outcome
+pub fn update(
+    old: &[u8],
+    sheet: &[u8],
+    service: &[u8],
+    out: &mut [u8; crate::LINES_ROOM],
+) -> Outcome
     ensures answer { λ r. ⌜ r ≡ outcome (updateSays (now (old .entry)) (now (sheet .entry)) (now (service .entry))) ⌝ }
     ensures buffer { λ _. ⌜ now (out .exit) ≡ filled (updateSays (now (old .entry)) (now (sheet .entry)) (now (service .entry))) (now (out .entry)) ⌝ }
 {

@@ -4,7 +4,7 @@ use Prim.Native.Nat.{ℕ, zero, suc, _+_, _-_, _*_, _/_, _%_, _^_, _≤_, _<_, m
 use mathlib.Core.Bool.{Bool, true, false}
 use mathlib.Core.List.{List, [], _∷_}
 use mathlib.Core.Logic.{_≢_}
-use mathlib.Core.Path.{_≡_, refl, ap, sym, _∙_}
+use mathlib.Core.Path.{_≡_, refl, ap, sym, _∙_, subst}
 use native.Mathlib.Decide.{decLt, ℕ-discrete}
 use native.Mathlib.Nat.{suc-mul, mul-le-mul-right, mod-one, div-add-mod', div-lt-iff-lt-mul}
 use native.Mathlib.Omega.{arith}
@@ -14,6 +14,7 @@ use lib.Seq.{getD-set-same, getD-set-other}
 use lib.Pow.{pow-pos}
 use borrow.Author.Tests.{eqb-true, eq-eqb, ne-eqb}
 use Rattle.numerals.specs.Limits.{mostBits, mostSuffixes, mostBackends}
+use Rattle.numerals.specs.Pick.{pick}
 use Rattle.numerals.specs.Suffix.{place}
 use Rattle.numerals.specs.Sums.{firstTo, argmax}
 use Rattle.expansion.specs.FirstMatch.{nobody, matches, gives}
@@ -23,9 +24,10 @@ use Rattle.expansion.specs.Inner.Sound.{Lengths, Distinct}
 use Rattle.expansion.specs.Inner.Holders.{heldBy, lowestHeld, Holds, Given, lowered}
 use Rattle.expansion.specs.declared.rule.Rule.{Rule}
 use Rattle.numerals.proofs.Searches.{clash, same-test, all-true, true-all, all-false, IsFirst, first-unique, first-is}
-use Rattle.expansion.proofs.FirstMatch.{gives-matched, gives-passed, gives-one}
+use Rattle.expansion.proofs.FirstMatch.{is-rule, gives-matched, gives-passed, gives-one}
 use Rattle.expansion.proofs.Count.{whole-of-one}
-use Rattle.expansion.proofs.Nodes.{all-nodes, bits-at, whole-node, node-held, match-inside, match-outside}
+use Rattle.expansion.proofs.Nodes.{inside-node, bits-at, whole-node, node-held, given-at}
+use Rattle.numerals.proofs.Place.{place-lt, place-involution}
 use Rattle.numerals.proofs.Powers.{pow-few}
 
 -- one suffix of a node that is another's
@@ -92,7 +94,7 @@ module _ (T : Targets) (distinct : Distinct (label T) (backends T)) (l : ℕ) (h
   size = 2 ^ (k - l)
 
   inside : (j i : ℕ) → j < 2 ^ l → i < size → j * size + i < 2 ^ k
-  inside j i m o = omega (arith, mul-le-mul-right size m, suc-mul j size, all-nodes k l h)
+  inside j i m o = inside-node k l j i h m o
 
   -- a node is held wholly just where its suffix is
   pub held-whole : (b j : ℕ) → b < backends T → j < 2 ^ l → heldBy holder size b j ≡ isWhole k rs l (place l j) (label T b)
@@ -121,29 +123,29 @@ module _ (T : Targets) (distinct : Distinct (label T) (backends T)) (l : ℕ) (h
     abbrev new : Rule
     new = record { len = l; value = place l p; backend = label T b }
 
-    pub holders-given : (q : ℕ) → q < 2 ^ k → gives (new ∷ rs) (place k q) (label T (getD holder′ q 0)) ≡ true
-    holders-given q m = go (decLt q (p * size)) (decLt q (p * size + size))
+    after : (q : ℕ) → q < 2 ^ k → getD holder′ q 0 ≡ pick (matches new (place k q)) b (getD holder q 0)
+    after q m =
+        given-at k new (is-rule k new h (place-lt l p)) b holder holder′
+        (subst (λ (x : ℕ). Given (x * size) size b holder holder′) (sym (place-involution l p small)) G) q m
+
+    holders-given : (q : ℕ) → q < 2 ^ k → gives (new ∷ rs) (place k q) (label T (getD holder′ q 0)) ≡ true
+    holders-given q m = go (matches new (place k q)) refl
       where
-        out : (p * size ≤ q → p * size + size ≤ q) → gives (new ∷ rs) (place k q) (label T (getD holder′ q 0)) ≡ true
-        out o =
-            gives-passed new rs (place k q) (label T (getD holder′ q 0)) (match-outside k l h p small (label T b) q m o)
-            ∙ ap (λ (x : ℕ). gives rs (place k q) (label T x)) (G .other q o)
+        go : (t : Bool) → matches new (place k q) ≡ t → gives (new ∷ rs) (place k q) (label T (getD holder′ q 0)) ≡ true
+        go true e =
+            gives-matched new rs (place k q) (label T (getD holder′ q 0)) e
+            ∙ eq-eqb (label T b) (label T (getD holder′ q 0)) (ap (label T) (sym (after q m ∙ ap (λ (t : Bool). pick t b (getD holder q 0)) e)))
+        go false e =
+            gives-passed new rs (place k q) (label T (getD holder′ q 0)) e
+            ∙ ap (λ (x : ℕ). gives rs (place k q) (label T x)) (after q m ∙ ap (λ (t : Bool). pick t b (getD holder q 0)) e)
             ∙ H .holders q m
 
-        go : Dec (q < p * size) → Dec (q < p * size + size) → gives (new ∷ rs) (place k q) (label T (getD holder′ q 0)) ≡ true
-        go (yes n) d = out (λ o. absurd (omega arith))
-        go (no n) (yes o) =
-            gives-matched new rs (place k q) (label T (getD holder′ q 0)) (match-inside k l h p small (label T b) q m (omega arith) o)
-            ∙ eq-eqb (label T b) (label T (getD holder′ q 0)) (ap (label T) (sym (G .taken q (omega arith) o)))
-        go (no n) (no o) = out (λ x. omega arith)
-
-    pub known-given : (q : ℕ) → q < 2 ^ k → getD holder′ q 0 < backends T
-    known-given q m = go (decLt q (p * size)) (decLt q (p * size + size))
+    known-given : (q : ℕ) → q < 2 ^ k → getD holder′ q 0 < backends T
+    known-given q m = rw (after q m) (go (matches new (place k q)))
       where
-        go : Dec (q < p * size) → Dec (q < p * size + size) → getD holder′ q 0 < backends T
-        go (yes n) d = omega (arith, G .other q (λ o. absurd (omega arith)), H .known q m)
-        go (no n) (yes o) = omega (arith, G .taken q (omega arith) o)
-        go (no n) (no o) = omega (arith, G .other q (λ x. omega arith), H .known q m)
+        go : (t : Bool) → pick t b (getD holder q 0) < backends T
+        go true = b-known
+        go false = H .known q m
 
   -- a node goes from the giver to another, the lowest that the giver holds
   module _ (short : Lengths l rs) (p : ℕ) (small : p < 2 ^ l) (giver b : ℕ) (apart : giver ≢ b) (b-known : b < backends T)

@@ -7,7 +7,7 @@ use native.Mathlib.Omega.{arith}
 use lib.Dec.{leb, ltb}
 use lib.ListN.{length, getD}
 use borrow.Author.Tests.{leb-true, le-ltb, ltb-true}
-use Rattle.numerals.specs.Limits.{mostSuffixes, unit}
+use Rattle.numerals.specs.Limits.{mostRules, mostSuffixes, unit}
 use Rattle.numerals.specs.Pick.{pick, both}
 use Rattle.numerals.specs.Sums.{countTo}
 use Rattle.numerals.proofs.Powers.{pow-few}
@@ -21,20 +21,19 @@ use Rattle.expansion.specs.Resume.{frameFrom}
 use Rattle.expansion.specs.Inner.Hopeless.{isApart, beyondTo}
 use Rattle.expansion.specs.Inner.Laying.{Starts}
 use Rattle.expansion.specs.Inner.Lists.{newestFirst}
-use Rattle.expansion.specs.Inner.Resume.{OneMore, betterOf}
+use Rattle.expansion.specs.Inner.Resume.{foundOf, Tried}
 use Rattle.expansion.specs.Inner.Run.{Made}
 use Rattle.expansion.specs.Inner.Sound.{Sound}
 use Rattle.expansion.specs.declared.rule.Rule.{Rule}
 use Rattle.expansion.specs.declared.rule.Ended.{Ended}
 use Rattle.expansion.specs.declared.rule.Ended.the-variants.{Within, NoGain, Budget}
 use Rattle.expansion.specs.declared.list.RuleList.{RuleList}
-use Rattle.expansion.specs.declared.resuming.Best.{Best}
 use Rattle.expansion.specs.declared.run.Run.{Run}
 use Rattle.expansion.proofs.Balance.{giver-lt, receiver-lt}
 use Rattle.expansion.proofs.Bounds.{share-le, weight-le}
 use Rattle.expansion.proofs.KeptLists.{sound-kept, within-ended}
 use Rattle.expansion.proofs.KeptStart.{count-is}
-use Rattle.expansion.proofs.LaidRules.{counted-share}
+use Rattle.expansion.proofs.LaidRules.{label-made}
 use Rattle.expansion.proofs.Moves.{apart, has-other}
 use Rattle.expansion.proofs.Turns.{Turn, turn, after-suc, good-after, ended-within}
 
@@ -105,7 +104,7 @@ module _ (k tolerance : ℕ) (ws : List ℕ) (list : RuleList) (holder shares : 
   sound = sound-kept k tolerance ws kept (S .valid) (S .proper)
 
   share-is : (b : ℕ) → b < length ws → getD shares b 0 ≡ share k kept (label (targetsMade k ws) b)
-  share-is = counted-share k ws kept holder shares (S .valid .few) (S .holds) (S .counted)
+  share-is b l = S .held .each b (omega (arith, S .valid .few)) ∙ ap (share k kept) (sym (label-made k ws b l))
 
   beyond-is : beyondTo k tolerance ws shares (length ws) ≡ beyond F (F .start)
   unfolding frameFrom targetsMade backends has wants weight
@@ -126,31 +125,35 @@ module _ (k tolerance : ℕ) (ws : List ℕ) (list : RuleList) (holder shares : 
   starts-enough w =
       omega (arith, beyond-is, enough-turns F sound budget w, count-is k tolerance ws list holder shares budget S)
 
-  -- the best so far stays
-  pub more-hopeless : (best : Best) → ltb (2 * (budget - list .count)) (beyondTo k tolerance ws shares (length ws)) ≡ true
-      → OneMore F budget (list .count) best best
-  more-hopeless best e =
+  few-kept : list .count ≤ mostRules
+  few-kept = omega (arith, S .within, S .few)
+
+  -- a hopeless start
+  pub tried-hopeless : ltb (2 * (budget - list .count)) (beyondTo k tolerance ws shares (length ws)) ≡ true
+      → Tried F budget (list .count) (record { kept = 0; list = list })
+  tried-hopeless e =
       let no′ : isWithin F (listOf F budget) ≡ true → ⊥ = λ w.
       omega (arith, starts-enough w, ltb-true (2 * (budget - list .count)) (beyondTo k tolerance ws shares (length ws)) e) in
-      record { number = λ w. absurd (no′ w); few = λ w. absurd (no′ w); rules = λ w. absurd (no′ w); other = λ _. refl }
+      record { few = few-kept; number = λ w. absurd (no′ w); rules = λ w. absurd (no′ w); other = λ _. refl }
 
--- a run that was made
-pub more-run : (F : Frame) (budget kept : ℕ) (best : Best) (run : Run) → Made F budget run
-    → OneMore F budget kept best (betterOf (run .ended) (record { kept = kept; list = run .list }) best)
-more-run F budget kept best run M = go (run .ended) refl
-  where
-    stays : (run .ended ≡ Within → ⊥) → OneMore F budget kept best best
-    stays d =
-        let no′ : isWithin F (listOf F budget) ≡ true → ⊥ = λ w. d (M .ended ∙ ended-within F (listOf F budget) w) in
-        record { number = λ w. absurd (no′ w); few = λ w. absurd (no′ w); rules = λ w. absurd (no′ w); other = λ _. refl }
+  -- a run that was made
+  pub tried-run : (run : Run) → Made F budget run
+      → Tried F budget (list .count) (foundOf (run .ended) (record { kept = list .count; list = run .list }) (record { kept = 0; list = list }))
+  tried-run run M = go (run .ended) refl
+    where
+      ends : (run .ended ≡ Within → ⊥) → Tried F budget (list .count) (record { kept = 0; list = list })
+      ends d =
+          let no′ : isWithin F (listOf F budget) ≡ true → ⊥ = λ w. d (M .ended ∙ ended-within F (listOf F budget) w) in
+          record { few = few-kept; number = λ w. absurd (no′ w); rules = λ w. absurd (no′ w); other = λ _. refl }
 
-    go : (e : Ended) → run .ended ≡ e → OneMore F budget kept best (betterOf e (record { kept = kept; list = run .list }) best)
-    go Within e =
-        record {
-          number = λ w. refl;
-          few = λ w. M .few-rules;
-          rules = λ w. M .rules;
-          other = λ w. absurd (clash (isWithin F (listOf F budget)) (within-ended F (listOf F budget) (sym (M .ended) ∙ e)) w);
-        }
-    go NoGain e = stays (λ w. absurd (let z : _≡_ {A = ℕ} 0 1 = cc in omega arith))
-    go Budget e = stays (λ w. absurd (let z : _≡_ {A = ℕ} 0 1 = cc in omega arith))
+      go : (e : Ended) → run .ended ≡ e
+          → Tried F budget (list .count) (foundOf e (record { kept = list .count; list = run .list }) (record { kept = 0; list = list }))
+      go Within e =
+          record {
+            few = M .few-rules;
+            number = λ w. refl;
+            rules = λ w. M .rules;
+            other = λ w. absurd (clash (isWithin F (listOf F budget)) (within-ended F (listOf F budget) (sym (M .ended) ∙ e)) w);
+          }
+      go NoGain e = ends (λ w. absurd (let z : _≡_ {A = ℕ} 0 1 = cc in omega arith))
+      go Budget e = ends (λ w. absurd (let z : _≡_ {A = ℕ} 0 1 = cc in omega arith))

@@ -1,10 +1,9 @@
 -- The lists that come of kept rules: how they end, that the checks of an old list never refuse as they may, and what their rules are.
-use Prim.Native.Nat.{ℕ, zero, suc, _-_, _%_, _^_, _≤_, _<_, min}
+use Prim.Native.Nat.{ℕ, zero, suc, _-_, _^_, _≤_, _<_, min}
 use mathlib.Core.Bool.{Bool, true, false, not}
 use mathlib.Core.List.{List, [], _∷_}
 use mathlib.Core.Logic.{_≢_}
 use mathlib.Core.Path.{_≡_, refl, ap, sym, _∙_, subst}
-use native.Mathlib.Nat.{mod-one}
 use native.Mathlib.Omega.{arith}
 use lib.Dec.{leb, ltb, eqb}
 use lib.ListN.{length, getD}
@@ -15,7 +14,7 @@ use Rattle.numerals.specs.Refusals.{numberOf, no2, no3, no4, no7, no9, no13}
 use Rattle.numerals.specs.Sums.{sumTo, listTo, allTo}
 use Rattle.numerals.specs.declared.refusal.Refusal.{Refusal}
 use Rattle.numerals.proofs.Searches.{clash}
-use Rattle.expansion.specs.FirstMatch.{isRule, matches, firstMatch, gives}
+use Rattle.expansion.specs.FirstMatch.{firstMatch, gives}
 use Rattle.expansion.specs.Imbalance.{backends, label, weight}
 use Rattle.expansion.specs.Steps.{Frame, isWithin, isNoGain, endOf, listOf, oldest}
 use Rattle.expansion.specs.Answer.{andThen, orElse, inLimits, checkWeights, targetsMade}
@@ -30,8 +29,8 @@ use Rattle.expansion.specs.declared.rule.Ended.the-variants.{Within, NoG
 use Rattle.expansion.specs.declared.call.Checked.{Checked}
 use Rattle.expansion.specs.declared.call.Checked.the-variants.{Sound as Passed, Refused as Failed}
 use Rattle.expansion.proofs.Checks.{some-unit}
-use Rattle.expansion.proofs.FirstMatch.{rule-short, rule-bits, lengths-mono}
-use Rattle.expansion.proofs.KeptStart.{lengths-of, longest-le, lengths-longest}
+use Rattle.expansion.proofs.FirstMatch.{rule-short, lengths-mono}
+use Rattle.expansion.proofs.KeptStart.{lengths-of, longest-le, lengths-longest, first-known}
 use Rattle.expansion.proofs.LaidRules.{label-made}
 use Rattle.expansion.proofs.OldChecks.{old-passed, oldest-proper}
 use Rattle.expansion.proofs.OldNumbers.{oldest-length}
@@ -112,39 +111,6 @@ unfolding numberOf
 early k tolerance cs ws why e =
     let h : mild why ≡ true = subst Early e (early-old k tolerance cs ws) in
     (λ z. clash (mild why) h (ap mild z), λ z. clash (mild why) h (ap mild z))
-
--- the first match of rules for the backends 1 to n, the last a `*`
-
-star-matches : (k : ℕ) (r : Rule) → isRule k r ≡ true → r .len ≡ 0 → (s : ℕ) → matches r s ≡ true
-unfolding matches
-star-matches k r e star s =
-    let one : 2 ^ (r .len) ≡ 1 = ap (λ (i : ℕ). 2 ^ i) star in
-    let bits = rule-bits k r e in
-    let none : r .value ≡ 0 = omega arith in
-    eq-eqb (s % 2 ^ (r .len)) (r .value) (rw one (mod-one s) ∙ sym none)
-
-first-among :
-    (k n : ℕ) (rs : List Rule) → ((i : ℕ) → i < length rs → Known k n (getD rs i noRule)) → 0 < length rs → getD rs (length rs - 1) noRule .len ≡ 0
-    → (s : ℕ) → (1 ≤ firstMatch rs s) × (firstMatch rs s ≤ n)
-unfolding firstMatch
-first-among k n [] each some star s = absurd (omega arith)
-first-among k n (r ∷ []) each some star s =
-    let K = each 0 some in
-    let e : pick (matches r s) (r .backend) 0 ≡ r .backend = ap (λ (m : Bool). pick m (r .backend) 0) (star-matches k r (K .rule) star s) in
-    (omega (arith, K .least, e), omega (arith, K .most, e))
-first-among k n (r ∷ q ∷ rs) each some star s =
-    let last : length (r ∷ q ∷ rs) - 1 ≡ suc (length rs) = omega arith in
-    let last′ : length (q ∷ rs) - 1 ≡ length rs = omega arith in
-    let star′ : getD (q ∷ rs) (length (q ∷ rs) - 1) noRule .len ≡ 0 =
-    ap (λ (i : ℕ). getD (q ∷ rs) i noRule .len) last′ ∙ ap (λ (i : ℕ). getD (r ∷ q ∷ rs) i noRule .len) (sym last) ∙ star in
-    go (matches r s) (each 0 some) (first-among k n (q ∷ rs) (λ i l. each (suc i) (omega arith)) (omega arith) star′ s)
-  where
-    go : (m : Bool) → Known k n r → {f : ℕ} → (1 ≤ f) × (f ≤ n) → (1 ≤ pick m (r .backend) f) × (pick m (r .backend) f ≤ n)
-    go true K h = (K .least, K .most)
-    go false K h = h
-
-pub first-known : (k n : ℕ) (rs : List Rule) → Proper k n rs → (s : ℕ) → (1 ≤ firstMatch rs s) × (firstMatch rs s ≤ n)
-first-known k n rs P = first-among k n rs (P .each) (P .some) (P .star)
 
 -- the frame that starts from proper rules
 

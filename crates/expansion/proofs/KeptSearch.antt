@@ -1,190 +1,235 @@
--- The search over the numbers of kept rules: rule after rule is laid, and of those that ended within the last one stays.
-use Prim.Native.Nat.{ℕ, zero, suc, _+_, _-_, _*_, _/_, _^_, _≤_, _<_}
+-- The search over the numbers of kept rules: all rules are laid, and taken back one after the other until a list ends within.
+use Prim.Native.Nat.{ℕ, suc, _+_, _-_, _*_, _/_, _^_, _≤_, _<_}
 use mathlib.Core.Bool.{Bool, true, false}
 use mathlib.Core.List.{List, [], _∷_}
 use mathlib.Core.Path.{_≡_, refl, ap, sym, _∙_, subst}
+use native.Mathlib.Decide.{ℕ-discrete}
 use native.Mathlib.Omega.{arith}
-use lib.ListN.{length, getD, drop, set, replicate, length-replicate, length-set}
-use lib.Seq.{drop-length}
-use Rattle.numerals.specs.Limits.{mostBackends, mostRules, mostSuffixes}
-use Rattle.numerals.specs.Pick.{pick}
+use lib.ListN.{length, getD, drop, set, replicate, length-set}
+use lib.Seq.{getD-set-same, getD-set-other, drop-length}
+use Rattle.numerals.specs.Limits.{mostBits, mostBackends, mostRules, mostSuffixes}
 use Rattle.numerals.specs.Sums.{listTo}
 use Rattle.expansion.specs.Imbalance.{Targets}
 use Rattle.expansion.specs.Steps.{oldest}
 use Rattle.expansion.specs.Answer.{targetsMade}
 use Rattle.expansion.specs.OldList.{rulesFrom}
 use Rattle.expansion.specs.Resume.{frameFrom, frameKept, listKept, endsWithin, largestTo}
+use Rattle.expansion.specs.Inner.Laying.{Held, Had, LaidTo, Starts}
 use Rattle.expansion.specs.Inner.Lists.{noRule, newestFirst}
-use Rattle.expansion.specs.Inner.Holders.{Holds}
 use Rattle.expansion.specs.Inner.OldList.{ruleAt, Known, Proper}
+use Rattle.expansion.specs.Inner.Resume.{Found, Tried}
 use Rattle.expansion.specs.Inner.Run.{Valid}
-use Rattle.expansion.specs.Inner.Laying.{Counted, Laid, noLows, Starts}
-use Rattle.expansion.specs.Inner.Resume.{Found, OneMore}
+use Rattle.expansion.specs.Inner.Sound.{Lengths, Falling}
 use Rattle.expansion.specs.declared.rule.Rule.{Rule}
 use Rattle.expansion.specs.declared.list.RuleList.{RuleList}
-use Rattle.expansion.specs.declared.resuming.Best.{Best}
-use Rattle.expansion.proofs.LaidRules.{holds-star, holds-laid, counted-none}
+use Rattle.expansion.specs.declared.resuming.Attempt.{Attempt}
+use Rattle.expansion.proofs.LaidRules.{held-star}
+use Rattle.expansion.proofs.Largest.{largest-yes, largest-no}
 use Rattle.expansion.proofs.Listing.{newest-more}
 use Rattle.expansion.proofs.OldChecks.{oldest-proper}
 use Rattle.expansion.proofs.OldNumbers.{rules-count, rules-more, oldest-rules}
 
--- the search has come to the i oldest rules of an old list
-pub record Tried (k tolerance : ℕ) (ws cs : List ℕ) (i : ℕ) (holder shares : List ℕ) (list : RuleList) (best : Best) : Type 0 where
-  pub inside : i ≤ length (rulesFrom cs)
-  pub counted : Counted k holder shares
-  pub long : (length (list .rules) ≡ mostRules) × (length (list .stairs) ≡ mostRules)
-  pub rules : newestFirst (list .rules) i ≡ oldest i (rulesFrom cs)
-  pub holds : 1 ≤ i → Holds (targetsMade k ws) (oldest i (rulesFrom cs)) holder noLows
-  pub found : Found (targetsMade k ws) tolerance (rulesFrom cs) i best
-
--- none is kept yet
-pub oldest-none : (rs : List Rule) → oldest 0 rs ≡ []
+oldest-none : (rs : List Rule) → oldest 0 rs ≡ []
 unfolding oldest
 oldest-none rs = let e : length rs - 0 ≡ length rs = omega arith in ap (λ (n : ℕ). drop n rs) e ∙ drop-length rs
 
-module _ (k tolerance : ℕ) (ws cs : List ℕ) (valid : Valid k tolerance (listTo (length ws) suc) ws) (proper : Proper k (length ws) (rulesFrom cs)) where
+head-same : (r q : Rule) (rs qs : List Rule) → r ∷ rs ≡ q ∷ qs → r ≡ q
+head-same r q rs qs e = ap (λ (l : List Rule). getD l 0 noRule) e
+
+tail-same : (r q : Rule) (rs qs : List Rule) → r ∷ rs ≡ q ∷ qs → rs ≡ qs
+tail-same r q rs qs e = ap (drop 1) e
+
+module _ (k n : ℕ) (cs : List ℕ) (proper : Proper k n (rulesFrom cs)) where
   abbrev R : List Rule
   R = rulesFrom cs
+
+  -- the next rule from the oldest on
+  abbrev next : ℕ → Rule
+  next i = ruleAt cs (length cs / 3 - 1 - i)
+
+  oldest-next : (i : ℕ) → i < length R → oldest (suc i) R ≡ next i ∷ oldest i R
+  oldest-next i l =
+      let m = length cs / 3 in
+      let count : length R ≡ m = rules-count cs in
+      let e : m - suc i ≡ m - 1 - i = omega arith in
+      let f : m - 1 - i + 1 ≡ m - i = omega arith in
+      oldest-rules cs m (suc i) refl (omega arith)
+      ∙ ap (λ (j : ℕ). rulesFrom (drop (3 * j) cs)) e
+      ∙ rules-more cs (m - 1 - i) (omega arith)
+      ∙ ap (λ (j : ℕ). next i ∷ rulesFrom (drop (3 * j) cs)) f
+      ∙ ap (λ (rs : List Rule). next i ∷ rs) (sym (oldest-rules cs m i refl (omega arith)))
+
+  module _ (i : ℕ) (l : i < length R) where
+    next-proper : Proper k n (next i ∷ oldest i R)
+    next-proper = subst (Proper k n) (oldest-next i l) (oldest-proper k n (suc i) R proper (omega arith) l)
+
+    pub next-known : Known k n (next i)
+    next-known = next-proper .each 0 (omega arith)
+
+    pub next-lengths : Lengths (next i .len) (oldest i R)
+    unfolding Falling
+    next-lengths = next-proper .falling .0
+
+  -- the oldest rule is `*`
+  first-star : next 0 .len ≡ 0
+  first-star =
+      let l : 0 < length R = proper .some in
+      ap (λ (rs : List Rule). getD (next 0 ∷ rs) (length (next 0 ∷ rs) - 1) noRule .len) (sym (oldest-none R)) ∙ next-proper 0 l .star
+
+  oldest-one : oldest 1 R ≡ next 0 ∷ []
+  oldest-one = oldest-next 0 (proper .some) ∙ ap (λ (rs : List Rule). next 0 ∷ rs) (oldest-none R)
+
+  -- the `*` alone
+  pub laid-star : (holder shares : List ℕ) (rules : List Rule) (had : List ℕ)
+      → (length rules ≡ mostRules) × (length had ≡ mostRules) → Held k (oldest 1 R) holder shares → getD rules 0 noRule ≡ next 0
+      → LaidTo k R 1 holder shares rules had
+  unfolding newestFirst
+  laid-star holder shares rules had long H e =
+      record {
+        some = omega arith;
+        inside = proper .some;
+        long = long;
+        held = H;
+        kept = ap (λ (r : Rule). r ∷ []) e ∙ sym oldest-one;
+        before = λ j a b. absurd (omega arith);
+      }
+
+  module _ (i : ℕ) (holder shares : List ℕ) (rules : List Rule) (had holder′ shares′ : List ℕ) where
+    -- one rule more
+    pub laid-more : (b : ℕ) → i < length R → LaidTo k R i holder shares rules had
+        → Held k (next i ∷ oldest i R) holder′ shares′ → Had k (oldest i R) (next i) b
+        → LaidTo k R (i + 1) holder′ shares′ (set rules i (next i)) (set had i b)
+    laid-more b l t H B =
+        let e : suc i ≡ i + 1 = omega arith in
+        record {
+          some = omega arith;
+          inside = omega arith;
+          long = (length-set rules i (next i) ∙ t .long .0, length-set had i b ∙ t .long .1);
+          held = subst (λ (rs : List Rule). Held k rs holder′ shares′) (sym (oldest-next i l) ∙ ap (λ (j : ℕ). oldest j R) e) H;
+          kept =
+              ap (newestFirst (set rules i (next i))) (sym e)
+              ∙ newest-more rules i (next i) (omega (arith, t .long .0, proper .few))
+              ∙ ap (λ (rs : List Rule). next i ∷ rs) (t .kept)
+              ∙ sym (oldest-next i l)
+              ∙ ap (λ (j : ℕ). oldest j R) e;
+          before = λ j a m. before j a m (ℕ-discrete j i);
+        }
+      where
+        before : (j : ℕ) → 1 ≤ j → j < i + 1 → Dec (j ≡ i) → Had k (oldest j R) (getD (set rules i (next i)) j noRule) (getD (set had i b) j 0)
+        before j a m (yes e) =
+            subst (λ (x : ℕ). Had k (oldest x R) (getD (set rules i (next i)) x noRule) (getD (set had i b) x 0)) (sym e)
+            (subst (λ (r : Rule). Had k (oldest i R) r (getD (set had i b) i 0))
+            (sym (getD-set-same rules i (next i) noRule (omega (arith, t .long .0, proper .few))))
+            (subst (Had k (oldest i R) (next i)) (sym (getD-set-same had i b 0 (omega (arith, t .long .1, proper .few)))) B))
+        before j a m (no d) =
+            subst (λ (r : Rule). Had k (oldest j R) r (getD (set had i b) j 0)) (sym (getD-set-other rules i j (next i) noRule d))
+            (subst (Had k (oldest j R) (getD rules j noRule)) (sym (getD-set-other had i j b 0 d)) (t .before j a (omega arith)))
+
+    -- one rule less
+    module _ (t : LaidTo k R (suc i) holder shares rules had) where
+      pub newest-is : getD rules i noRule ≡ next i
+      unfolding newestFirst
+      newest-is = head-same (getD rules i noRule) (next i) (newestFirst rules i) (oldest i R) (t .kept ∙ oldest-next i (t .inside))
+
+      pub newest-held : Held k (getD rules i noRule ∷ oldest i R) holder shares
+      newest-held =
+          subst (λ (rs : List Rule). Held k rs holder shares)
+          (oldest-next i (t .inside) ∙ ap (λ (r : Rule). r ∷ oldest i R) (sym newest-is)) (t .held)
+
+      pub laid-less : 1 ≤ i → Held k (oldest i R) holder′ shares′ → LaidTo k R i holder′ shares′ rules had
+      unfolding newestFirst
+      laid-less some H =
+          record {
+            some = some;
+            inside = omega (arith, t .inside);
+            long = t .long;
+            held = H;
+            kept = tail-same (getD rules i noRule) (next i) (newestFirst rules i) (oldest i R) (t .kept ∙ oldest-next i (t .inside));
+            before = λ j a m. t .before j a (omega arith);
+          }
+
+-- the `*` has everything
+pub held-first : (k : ℕ) (cs : List ℕ) → k ≤ mostBits → Proper k mostBackends (rulesFrom cs) → (star : Rule) → star ≡ ruleAt cs (length cs / 3 - 1)
+    → Held k (oldest 1 (rulesFrom cs)) (replicate mostSuffixes (star .backend - 1)) (set (replicate mostBackends 0) (star .backend - 1) (2 ^ k))
+held-first k cs few proper star e =
+    let l : 0 < length (rulesFrom cs) = proper .some in
+    let is : ruleAt cs (length cs / 3 - 1 - 0) ≡ star = ap (ruleAt cs) (omega arith) ∙ sym e in
+    subst (λ (rs : List Rule). Held k rs (replicate mostSuffixes (star .backend - 1)) (set (replicate mostBackends 0) (star .backend - 1) (2 ^ k)))
+    (sym (oldest-one k mostBackends cs proper ∙ ap (λ (r : Rule). r ∷ []) is))
+    (held-star k star (subst (Known k mostBackends) is (next-known k mostBackends cs proper 0 l)) few
+    (ap (λ (r : Rule). r .len) (sym is) ∙ first-star k mostBackends cs proper))
+
+-- the search has come down to the rules of a list: with more none ends within
+pub record Searched (k tolerance : ℕ) (ws cs : List ℕ) (holder shares : List ℕ) (list : RuleList) (had : List ℕ) : Type 0 where
+  pub laid : LaidTo k (rulesFrom cs) (list .count) holder shares (list .rules) had
+  pub none :
+      largestTo (length (rulesFrom cs)) (endsWithin (targetsMade k ws) tolerance (rulesFrom cs))
+      ≡ largestTo (list .count) (endsWithin (targetsMade k ws) tolerance (rulesFrom cs))
+
+module _ (k tolerance : ℕ) (ws cs : List ℕ) (valid : Valid k tolerance (listTo (length ws) suc) ws) (proper : Proper k (length ws) (rulesFrom cs))
+    (holder shares : List ℕ) (list : RuleList) (had : List ℕ) (S : Searched k tolerance ws cs holder shares list had) where
+  abbrev old : List Rule
+  old = rulesFrom cs
 
   abbrev T : Targets
   T = targetsMade k ws
 
-  -- the next rule from the oldest on
-  pub oldest-next : (i : ℕ) → i < length R → oldest (suc i) R ≡ ruleAt cs (length cs / 3 - 1 - i) ∷ oldest i R
-  oldest-next i l =
-      let n = length cs / 3 in
-      let count : length R ≡ n = rules-count cs in
-      let e : n - suc i ≡ n - 1 - i = omega arith in
-      let f : n - 1 - i + 1 ≡ n - i = omega arith in
-      oldest-rules cs n (suc i) refl (omega arith)
-      ∙ ap (λ (j : ℕ). rulesFrom (drop (3 * j) cs)) e
-      ∙ rules-more cs (n - 1 - i) (omega arith)
-      ∙ ap (λ (j : ℕ). ruleAt cs (n - 1 - i) ∷ rulesFrom (drop (3 * j) cs)) f
-      ∙ ap (λ (rs : List Rule). ruleAt cs (n - 1 - i) ∷ rs) (sym (oldest-rules cs n i refl (omega arith)))
+  abbrev ends : ℕ → Bool
+  ends = endsWithin T tolerance old
 
-  module _ (i : ℕ) (l : i < length R) where
-    abbrev r : Rule
-    r = ruleAt cs (length cs / 3 - 1 - i)
+  abbrev c : ℕ
+  c = list .count
 
-    pub next-proper : Proper k (length ws) (r ∷ oldest i R)
-    next-proper = subst (Proper k (length ws)) (oldest-next i l) (oldest-proper k (length ws) (suc i) R proper (omega arith) l)
-
-    pub next-known : Known k (length ws) r
-    next-known = next-proper .each 0 (omega arith)
-
-    -- one rule more
-    pub holds-next : (holder holder′ : List ℕ) → (1 ≤ i → Holds T (oldest i R) holder noLows) → Laid k r holder holder′
-        → Holds T (r ∷ oldest i R) holder′ noLows
-    holds-next holder holder′ H G = go i refl
-      where
-        go : (j : ℕ) → i ≡ j → Holds T (r ∷ oldest i R) holder′ noLows
-        go zero e =
-            let none : oldest i R ≡ [] = ap (λ (x : ℕ). oldest x R) e ∙ oldest-none R in
-            let star : r .len ≡ 0 =
-            ap (λ (rs : List Rule). getD (r ∷ rs) (length (r ∷ rs) - 1) noRule .len) (sym none) ∙ next-proper .star in
-            subst (λ (rs : List Rule). Holds T (r ∷ rs) holder′ noLows) (sym none) (holds-star k ws r next-known star holder holder′ G)
-        go (suc j) e = holds-laid k ws r next-known (oldest i R) holder holder′ (H (omega arith)) G
-
-    module _ (holder shares holder′ shares′ : List ℕ) (list : RuleList) (best : Best) (t : Tried k tolerance ws cs i holder shares list best)
-        (laid : Laid k r holder holder′) (counted : Counted k holder′ shares′) where
-      abbrev next : RuleList
-      next = record { rules = set (list .rules) i r; stairs = list .stairs; count = i + 1 }
-
-      -- the list has one rule more
-      pub next-rules : newestFirst (set (list .rules) i r) (i + 1) ≡ oldest (suc i) R
-      next-rules =
-          let e : i + 1 ≡ suc i = omega arith in
-          ap (newestFirst (set (list .rules) i r)) e
-          ∙ newest-more (list .rules) i r (omega (arith, t .long .0, proper .few))
-          ∙ ap (λ (rs : List Rule). r ∷ rs) (t .rules)
-          ∙ sym (oldest-next i l)
-
-      pub starts-next : Starts k tolerance ws next holder′ shares′ (length cs / 3)
-      starts-next =
-          record {
-            valid = valid;
-            proper = subst (Proper k (length ws)) (sym (oldest-next i l) ∙ sym next-rules) next-proper;
-            holds =
-                subst (λ (rs : List Rule). Holds T rs holder′ noLows) (sym (oldest-next i l) ∙ sym next-rules)
-                (holds-next holder holder′ (t .holds) laid);
-            counted = counted;
-            within = omega (arith, rules-count cs);
-            few = omega (arith, rules-count cs, proper .few);
-          }
-
-      module _ (best′ : Best)
-          (M : OneMore (frameFrom T tolerance (newestFirst (set (list .rules) i r) (i + 1))) (length cs / 3) (i + 1) best best′) where
-        more-on : OneMore (frameKept T tolerance R (suc i)) (length R) (i + 1) best best′
-        unfolding frameKept
-        more-on =
-            subst (λ (n : ℕ). OneMore (frameFrom T tolerance (oldest (suc i) R)) n (i + 1) best best′) (sym (rules-count cs))
-            (subst (λ (rs : List Rule). OneMore (frameFrom T tolerance rs) (length cs / 3) (i + 1) best best′) next-rules M)
-
-        -- this number ends within: it is the largest so far
-        found-within : endsWithin T tolerance R (suc i) ≡ true → Found T tolerance R (i + 1) best′
-        unfolding endsWithin listKept largestTo
-        found-within w =
-            let e : i + 1 ≡ suc i = omega arith in
-            record {
-              kept =
-                  more-on .number w
-                  ∙ e
-                  ∙ sym (ap (λ (t : Bool). pick t (suc i) (largestTo i (endsWithin T tolerance R))) w)
-                  ∙ ap (λ (j : ℕ). largestTo j (endsWithin T tolerance R)) (sym e);
-              few = more-on .few w;
-              rules = λ _. more-on .rules w ∙ ap (listKept T tolerance R) (sym (more-on .number w ∙ e));
-            }
-
-        found-other : endsWithin T tolerance R (suc i) ≡ false → Found T tolerance R (i + 1) best
-        unfolding largestTo
-        found-other w =
-            let e : i + 1 ≡ suc i = omega arith in
-            record {
-              kept =
-                  t .found .kept
-                  ∙ sym (ap (λ (t : Bool). pick t (suc i) (largestTo i (endsWithin T tolerance R))) w)
-                  ∙ ap (λ (j : ℕ). largestTo j (endsWithin T tolerance R)) (sym e);
-              few = t .found .few;
-              rules = t .found .rules;
-            }
-
-        -- whichever stays
-        found-next : Found T tolerance R (i + 1) best′
-        unfolding endsWithin listKept
-        found-next = go (endsWithin T tolerance R (suc i)) refl
-          where
-            go : (w : Bool) → endsWithin T tolerance R (suc i) ≡ w → Found T tolerance R (i + 1) best′
-            go true e = found-within e
-            go false e = subst (Found T tolerance R (i + 1)) (sym (more-on .other e)) (found-other e)
-
-        pub tried-next : Tried k tolerance ws cs (i + 1) holder′ shares′ next best′
-        tried-next =
-            let e : suc i ≡ i + 1 = omega arith in
-            record {
-              inside = omega arith;
-              counted = counted;
-              long = (length-set (list .rules) i r ∙ t .long .0, t .long .1);
-              rules = next-rules ∙ ap (λ (j : ℕ). oldest j R) e;
-              holds = λ _.
-                  subst (λ (j : ℕ). Holds T (oldest j R) holder′ noLows) e
-                  (subst (λ (rs : List Rule). Holds T rs holder′ noLows) (sym (oldest-next i l)) (holds-next holder holder′ (t .holds) laid));
-              found = found-next;
-            }
-
-  -- before the first rule
-  pub tried-none : (star : Rule) (list : RuleList) → list ≡ record { rules = replicate mostRules star; stairs = replicate mostRules 0; count = 1 }
-      → Tried k tolerance ws cs 0 (replicate mostSuffixes 0) (set (replicate mostBackends 0) 0 (2 ^ k)) list (record { kept = 0; list = list })
-  unfolding newestFirst largestTo
-  tried-none star list e =
+  pub starts-at : Starts k tolerance ws list holder shares (length cs / 3)
+  starts-at =
       record {
-        inside = omega arith;
-        counted = counted-none k (valid .few-bits);
-        long = (
-          ap (λ (l : RuleList). length (l .rules)) e ∙ length-replicate mostRules star,
-          ap (λ (l : RuleList). length (l .stairs)) e ∙ length-replicate {A = ℕ} mostRules 0,
-        );
-        rules = sym (oldest-none R);
-        holds = λ some. absurd (omega arith);
-        found =
-            record { kept = refl; few = omega (arith, ap (λ (l : RuleList). l .count) e); rules = λ some. absurd (omega arith) };
+        valid = valid;
+        proper = subst (Proper k (length ws)) (sym (S .laid .kept)) (oldest-proper k (length ws) c old proper (S .laid .some) (S .laid .inside));
+        held = subst (λ (rs : List Rule). Held k rs holder shares) (sym (S .laid .kept)) (S .laid .held);
+        within = omega (arith, rules-count cs, S .laid .inside);
+        few = omega (arith, rules-count cs, proper .few);
       }
+
+  module _ (best : Attempt) (M : Tried (frameFrom T tolerance (newestFirst (list .rules) c)) (length cs / 3) c best) where
+    tried : Tried (frameKept T tolerance old c) (length old) c best
+    unfolding frameKept
+    tried =
+        subst (λ (n : ℕ). Tried (frameFrom T tolerance (oldest c old)) n c best) (sym (rules-count cs))
+        (subst (λ (rs : List Rule). Tried (frameFrom T tolerance rs) (length cs / 3) c best) (S .laid .kept) M)
+
+    -- this number ends within: it is the largest
+    found-here : ends c ≡ true → Found T tolerance old (length old) best
+    unfolding endsWithin listKept
+    found-here w =
+        record {
+          kept = tried .number w ∙ sym (S .none ∙ largest-yes c ends (S .laid .some) w);
+          few = tried .few;
+          rules = λ _. tried .rules w ∙ ap (listKept T tolerance old) (sym (tried .number w));
+        }
+
+    pub found-some : 0 < best .kept → Found T tolerance old (length old) best
+    unfolding endsWithin listKept
+    found-some some = go (ends c) refl
+      where
+        go : (w : Bool) → ends c ≡ w → Found T tolerance old (length old) best
+        go true e = found-here e
+        go false e = absurd (omega (arith, tried .other e))
+
+    -- it doesn't: one rule less
+    pub none-less : best .kept ≡ 0 → largestTo (length old) ends ≡ largestTo (c - 1) ends
+    unfolding endsWithin listKept
+    none-less z = go (ends c) refl
+      where
+        go : (w : Bool) → ends c ≡ w → largestTo (length old) ends ≡ largestTo (c - 1) ends
+        go true e = absurd (omega (arith, tried .number e, S .laid .some))
+        go false e = S .none ∙ largest-no c ends (S .laid .some) e
+
+    -- the last number doesn't
+    pub found-none : best .kept ≡ 0 → c - 1 ≡ 0 → Found T tolerance old (length old) best
+    unfolding largestTo
+    found-none e z =
+        record {
+          kept = e ∙ sym (none-less e ∙ ap (λ (n : ℕ). largestTo n ends) z);
+          few = tried .few;
+          rules = λ some. absurd (omega arith);
+        }

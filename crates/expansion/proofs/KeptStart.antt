@@ -1,32 +1,36 @@
 -- The start from kept rules is one that the run can be taken up from: it fits, its shares are the counts, and its list is the kept rules.
 use Prim.Native.Nat.{ℕ, suc, _+_, _-_, _%_, _^_, _≤_, _<_, min, max}
-use mathlib.Core.Bool.{true}
+use mathlib.Core.Bool.{Bool, true, false}
 use mathlib.Core.List.{List, [], _∷_}
 use mathlib.Core.Path.{_≡_, refl, ap, sym, _∙_, subst}
-use native.Mathlib.Nat.{mod-lt}
+use native.Mathlib.Nat.{mod-lt, mod-one}
 use native.Mathlib.Omega.{arith}
 use lib.ListN.{length, getD, set}
 use lib.Pow.{pow-pos}
 use lib.Seq.{getD-set-same}
-use Rattle.numerals.specs.Limits.{mostRules, unit}
+use borrow.Author.Tests.{eq-eqb}
+use Rattle.numerals.specs.Limits.{mostRules}
+use Rattle.numerals.specs.Pick.{pick}
 use Rattle.numerals.specs.Suffix.{place}
 use Rattle.numerals.specs.Sums.{listTo}
 use Rattle.numerals.proofs.Place.{place-lt, place-involution}
 use Rattle.numerals.proofs.Sums.{length-list}
-use Rattle.expansion.specs.FirstMatch.{gives}
+use Rattle.expansion.specs.FirstMatch.{isRule, matches, firstMatch, gives, share}
 use Rattle.expansion.specs.Imbalance.{backends, label, weight, imbalance}
 use Rattle.expansion.specs.Steps.{Frame, after}
 use Rattle.expansion.specs.Answer.{targetsMade}
 use Rattle.expansion.specs.Resume.{longest, capFrom}
 use Rattle.expansion.specs.Inner.Sound.{Lengths, Complete}
+use Rattle.expansion.specs.Inner.Holders.{Holds}
 use Rattle.expansion.specs.Inner.Lists.{noRule, newestFirst, Listed}
+use Rattle.expansion.specs.Inner.OldList.{Known, Proper}
 use Rattle.expansion.specs.Inner.Run.{framed, Fits, Shared}
 use Rattle.expansion.specs.Inner.Laying.{Starts}
 use Rattle.expansion.specs.declared.rule.Rule.{Rule}
 use Rattle.expansion.specs.declared.list.RuleList.{RuleList}
 use Rattle.expansion.proofs.Checks.{some-unit}
-use Rattle.expansion.proofs.FirstMatch.{rule-short, gives-low, lengths-mono}
-use Rattle.expansion.proofs.LaidRules.{counted-share}
+use Rattle.expansion.proofs.FirstMatch.{rule-short, rule-bits, gives-low, lengths-mono}
+use Rattle.expansion.proofs.LaidRules.{noLows, label-made, holds-held}
 use Rattle.expansion.proofs.Listing.{length-newest}
 
 -- rules by their place, and all of them
@@ -44,6 +48,39 @@ pub lengths-longest : (rs : List Rule) → Lengths (longest rs) rs
 unfolding Lengths longest
 lengths-longest [] = tt
 lengths-longest (r ∷ rs) = (omega arith, lengths-mono (longest rs) (max (r .len) (longest rs)) rs (omega arith) (lengths-longest rs))
+
+-- the first match of rules for the backends 1 to n, the last a `*`
+
+star-matches : (k : ℕ) (r : Rule) → isRule k r ≡ true → r .len ≡ 0 → (s : ℕ) → matches r s ≡ true
+unfolding matches
+star-matches k r e star s =
+    let one : 2 ^ (r .len) ≡ 1 = ap (λ (i : ℕ). 2 ^ i) star in
+    let bits = rule-bits k r e in
+    let none : r .value ≡ 0 = omega arith in
+    eq-eqb (s % 2 ^ (r .len)) (r .value) (rw one (mod-one s) ∙ sym none)
+
+first-among :
+    (k n : ℕ) (rs : List Rule) → ((i : ℕ) → i < length rs → Known k n (getD rs i noRule)) → 0 < length rs → getD rs (length rs - 1) noRule .len ≡ 0
+    → (s : ℕ) → (1 ≤ firstMatch rs s) × (firstMatch rs s ≤ n)
+unfolding firstMatch
+first-among k n [] each some star s = absurd (omega arith)
+first-among k n (r ∷ []) each some star s =
+    let K = each 0 some in
+    let e : pick (matches r s) (r .backend) 0 ≡ r .backend = ap (λ (m : Bool). pick m (r .backend) 0) (star-matches k r (K .rule) star s) in
+    (omega (arith, K .least, e), omega (arith, K .most, e))
+first-among k n (r ∷ q ∷ rs) each some star s =
+    let last : length (r ∷ q ∷ rs) - 1 ≡ suc (length rs) = omega arith in
+    let last′ : length (q ∷ rs) - 1 ≡ length rs = omega arith in
+    let star′ : getD (q ∷ rs) (length (q ∷ rs) - 1) noRule .len ≡ 0 =
+    ap (λ (i : ℕ). getD (q ∷ rs) i noRule .len) last′ ∙ ap (λ (i : ℕ). getD (r ∷ q ∷ rs) i noRule .len) (sym last) ∙ star in
+    go (matches r s) (each 0 some) (first-among k n (q ∷ rs) (λ i l. each (suc i) (omega arith)) (omega arith) star′ s)
+  where
+    go : (m : Bool) → Known k n r → {f : ℕ} → (1 ≤ f) × (f ≤ n) → (1 ≤ pick m (r .backend) f) × (pick m (r .backend) f ≤ n)
+    go true K h = (K .least, K .most)
+    go false K h = h
+
+pub first-known : (k n : ℕ) (rs : List Rule) → Proper k n rs → (s : ℕ) → (1 ≤ firstMatch rs s) × (firstMatch rs s ≤ n)
+first-known k n rs P = first-among k n rs (P .each) (P .some) (P .star)
 
 module _ (k tolerance : ℕ) (ws : List ℕ) (list : RuleList) (holder shares : List ℕ) (budget : ℕ) (S : Starts k tolerance ws list holder shares budget) where
   abbrev kept : List Rule
@@ -72,6 +109,13 @@ module _ (k tolerance : ℕ) (ws : List ℕ) (list : RuleList) (holder shares : 
   unfolding capFrom
   short = lengths-mono (longest kept) (k - min (k - longest kept) (k - 1)) kept (omega (arith, longest-few)) (lengths-longest kept)
 
+  holder-known : (p : ℕ) → p < 2 ^ k → getD holder p 0 < length ws
+  holder-known p m =
+      omega (arith, S .held .holders p m, first-known k (length ws) kept (S .proper) (place k p))
+
+  pub holds : Holds (targetsMade k ws) kept holder noLows
+  holds = holds-held k ws kept holder shares (S .held) holder-known
+
   -- every suffix has a holder
   complete : Complete (label (F .targets)) (backends (F .targets)) kept
   unfolding targetsMade
@@ -81,9 +125,9 @@ module _ (k tolerance : ℕ) (ws : List ℕ) (list : RuleList) (holder shares : 
       let p = place k v in
       let b = getD holder p 0 in (
         b,
-        S .holds .known p (place-lt k v),
+        holds .known p (place-lt k v),
         sym (gives-low k kept short-all s (label (F .targets) b))
-            ∙ subst (λ (x : ℕ). gives kept x (label (F .targets) b) ≡ true) (place-involution k v m) (S .holds .holders p (place-lt k v)),
+            ∙ subst (λ (x : ℕ). gives kept x (label (F .targets) b) ≡ true) (place-involution k v m) (holds .holders p (place-lt k v)),
       )
 
   pub fits : Fits F
@@ -111,8 +155,8 @@ module _ (k tolerance : ℕ) (ws : List ℕ) (list : RuleList) (holder shares : 
   unfolding backends targetsMade
   shared =
       record {
-        long = omega (arith, S .valid .few, S .counted .long);
-        each = λ b l. counted-share k ws kept holder shares (S .valid .few) (S .holds) (S .counted) b l;
+        long = omega (arith, S .valid .few, S .held .long);
+        each = λ b l. S .held .each b (omega (arith, S .valid .few)) ∙ ap (share k kept) (sym (label-made k ws b l));
       }
 
   -- the kept rules, with the imbalance after them

@@ -1,13 +1,15 @@
--- Kept rules laid on the tree: the listing of holders says who holds what after each rule, and its counts are the shares by first match.
-use Prim.Native.Nat.{ℕ, zero, suc, _+_, _-_, _*_, _%_, _^_, _≤_, _<_, max}
-use mathlib.Core.Bool.{Bool, true}
+-- Kept rules laid on the tree and taken back: the listing of holders says who holds what after each, and the counts are the shares by first match.
+use Prim.Native.Nat.{ℕ, suc, _+_, _-_, _*_, _%_, _^_, _≤_, _<_, max}
+use mathlib.Core.Bool.{Bool, true, false}
 use mathlib.Core.List.{List, [], _∷_}
+use mathlib.Core.Logic.{_≢_}
 use mathlib.Core.Path.{_≡_, refl, ap, sym, _∙_, subst}
-use native.Mathlib.Nat.{mod-one, zero-mul, suc-mul, mul-le-mul-right}
+use native.Mathlib.Nat.{mod-one}
 use native.Mathlib.Decide.{ℕ-discrete}
 use native.Mathlib.Omega.{arith}
-use lib.Dec.{eqb}
-use lib.ListN.{length, getD, set, replicate, length-replicate, length-set}
+use lib.Dec.{eqb, eqb·suc-suc}
+use lib.ListN.{length, getD, set, replicate, length-replicate, length-set, getD-replicate}
+use lib.Pow.{pow-pos}
 use lib.Seq.{getD-set-same, getD-set-other}
 use borrow.Author.Tests.{eqb-true, eq-eqb, ne-eqb}
 use Rattle.numerals.specs.Limits.{mostBits, mostBackends, mostSuffixes}
@@ -15,53 +17,33 @@ use Rattle.numerals.specs.Suffix.{place}
 use Rattle.numerals.specs.Sums.{countTo}
 use Rattle.numerals.specs.Pick.{pick}
 use Rattle.numerals.proofs.Powers.{pow-few}
-use Rattle.numerals.proofs.Place.{place-lt, place-involution}
-use Rattle.numerals.proofs.Searches.{same-test}
-use Rattle.numerals.proofs.Sums.{list-at, count-ext, count-const, count-le, sum-one, sum-at, one-most}
-use Rattle.expansion.specs.FirstMatch.{nobody, matches, gives, share}
+use Rattle.numerals.proofs.Place.{place-lt}
+use Rattle.numerals.proofs.Sums.{list-at, count-ext, count-le, sum-le, bit}
+use Rattle.expansion.specs.FirstMatch.{nobody, matches, firstMatch, gives, share}
 use Rattle.expansion.specs.Imbalance.{Targets, backends, label}
+use Rattle.expansion.specs.Steps.{isWhole}
 use Rattle.expansion.specs.Answer.{targetsMade}
 use Rattle.expansion.specs.Resume.{longest}
-use Rattle.expansion.specs.Inner.Sound.{Distinct}
+use Rattle.expansion.specs.Inner.Sound.{Lengths}
 use Rattle.expansion.specs.Inner.Lists.{noRule, newestFirst}
-use Rattle.expansion.specs.Inner.Holders.{Holds}
-use Rattle.expansion.specs.Inner.OldList.{Known, Proper}
-use Rattle.expansion.specs.Inner.Laying.{Laid, Counted, Inside, noLows}
+use Rattle.expansion.specs.Inner.Holders.{Holds, Given}
+use Rattle.expansion.specs.Inner.OldList.{Known}
+use Rattle.expansion.specs.Inner.Laying.{passedOn, Passable, Held, Had}
 use Rattle.expansion.specs.declared.rule.Rule.{Rule}
-use Rattle.expansion.proofs.Base.{numbers-distinct}
-use Rattle.expansion.proofs.FirstMatch.{rule-short, rule-bits, gives-matched, gives-one}
-use Rattle.expansion.proofs.Holdings.{alike, holders-given, known-given}
-use Rattle.expansion.proofs.Listing.{length-newest}
-use Rattle.expansion.proofs.Nodes.{all-nodes}
-
--- the rules of a listing of the oldest first, by their place among the newest first
-pub newest-at : (rs : List Rule) (c j : ℕ) → j < c → getD (newestFirst rs c) j noRule ≡ getD rs (c - 1 - j) noRule
-unfolding newestFirst
-newest-at rs zero j l = absurd (omega arith)
-newest-at rs (suc c) zero l =
-    let e : c ≡ suc c - 1 - 0 = omega arith in ap (λ (i : ℕ). getD rs i noRule) e
-newest-at rs (suc c) (suc j) l =
-    let e : c - 1 - j ≡ suc c - 1 - suc j = omega arith in newest-at rs c j (omega arith) ∙ ap (λ (i : ℕ). getD rs i noRule) e
-
--- what the rules of a proper list are, by their place from the oldest on
-module _ (k n : ℕ) (rs : List Rule) (c : ℕ) (P : Proper k n (newestFirst rs c)) where
-  pub known-at : (i : ℕ) → i < c → Known k n (getD rs i noRule)
-  known-at i l =
-      let e : c - 1 - (c - 1 - i) ≡ i = omega arith in
-      subst (Known k n) (newest-at rs c (c - 1 - i) (omega arith) ∙ ap (λ (j : ℕ). getD rs j noRule) e)
-      (P .each (c - 1 - i) (omega (arith, length-newest rs c)))
-
-  pub star-first : 0 < c → getD rs 0 noRule .len ≡ 0
-  star-first l =
-      let e : c - 1 - (c - 1) ≡ 0 = omega arith in
-      ap (λ (r : Rule). r .len) (sym (newest-at rs c (c - 1) (omega arith) ∙ ap (λ (j : ℕ). getD rs j noRule) e))
-      ∙ ap (λ (j : ℕ). getD (newestFirst rs c) (j - 1) noRule .len) (sym (length-newest rs c))
-      ∙ P .star
+use Rattle.expansion.proofs.Base.{star-share}
+use Rattle.expansion.proofs.Count.{covers, whole-gives, whole-of-one, share-giver, share-receiver, share-other}
+use Rattle.expansion.proofs.FirstMatch.{rule-short, rule-bits, gives-matched, gives-passed}
+use Rattle.expansion.proofs.Holdings.{alike}
+use Rattle.expansion.proofs.Nodes.{rule-place, rule-inside, given-at}
 
 -- the longest of one rule more
 pub longest-more : (rs : List Rule) (c : ℕ) → longest (newestFirst rs (c + 1)) ≡ max (getD rs c noRule .len) (longest (newestFirst rs c))
 unfolding longest newestFirst
 longest-more rs c = let e : c + 1 ≡ suc c = omega arith in ap (λ (i : ℕ). longest (newestFirst rs i)) e
+
+-- of the lows nothing is known
+abbrev pub noLows : List ℕ
+noLows = replicate mostBackends 0
 
 -- backends that are labelled by their number
 module _ (k : ℕ) (ws : List ℕ) where
@@ -72,229 +54,309 @@ module _ (k : ℕ) (ws : List ℕ) where
   unfolding label targetsMade
   label-made b l = list-at (length ws) suc b nobody l
 
-  pub distinct-made : Distinct (label T) (backends T)
-  unfolding label backends targetsMade
-  distinct-made = numbers-distinct (length ws)
+  -- who holds what, by the labels of the run
+  pub holds-held : (rs : List Rule) (holder shares : List ℕ) → Held k rs holder shares
+      → ((p : ℕ) → p < 2 ^ k → getD holder p 0 < length ws) → Holds T rs holder noLows
+  unfolding targetsMade gives backends
+  holds-held rs holder shares H known =
+      record {
+        known = known;
+        holders = λ p m.
+            eq-eqb (firstMatch rs (place k p)) (label T (getD holder p 0)) (H .holders p m ∙ sym (label-made (getD holder p 0) (known p m)));
+        lows = λ b p m n. absurd (omega (arith, alike mostBackends b 0));
+      }
 
-  no-lows : (b p : ℕ) → p < getD noLows b 0 → ⊥
-  no-lows b p m = omega (arith, alike mostBackends b 0)
+-- counts that were passed on
 
-  module _ (r : Rule) (K : Known k (length ws) r) where
-    place-back : place (r .len) (place (r .len) (r .value)) ≡ r .value
-    place-back = place-involution (r .len) (r .value) (rule-bits k r (K .rule))
+part-is : (size b c : ℕ) → b ≡ c → pick (eqb b c) size 0 ≡ size
+part-is size b c e = ap (λ (t : Bool). pick {A = ℕ} t size 0) (eq-eqb b c e)
 
-    label-back : label T (r .backend - 1) ≡ r .backend
-    label-back =
-        let least = K .least in
-        let most = K .most in
-        let e : suc (r .backend - 1) ≡ r .backend = omega arith in label-made (r .backend - 1) (omega arith) ∙ e
+part-not : (size b c : ℕ) → b ≢ c → pick (eqb b c) size 0 ≡ 0
+part-not size b c d = ap (λ (t : Bool). pick {A = ℕ} t size 0) (ne-eqb b c d)
 
-    known-back : r .backend - 1 < backends T
-    unfolding backends targetsMade
-    known-back = let least = K .least in let most = K .most in omega arith
+module _ (shares : List ℕ) (from to size : ℕ) (long : length shares ≡ mostBackends) (from-known : from < mostBackends) (to-known : to < mostBackends)
+    (enough : size ≤ getD shares from 0) where
+  abbrev less : List ℕ
+  less = set shares from (getD shares from 0 - size)
 
-    rule-back : record { len = r .len; value = place (r .len) (place (r .len) (r .value)); backend = label T (r .backend - 1) } ≡ r
-    rule-back = rw (place-back, label-back)
+  abbrev bit-of : ℕ → ℕ → ℕ
+  bit-of b c = pick (eqb b c) size 0
 
-    -- one rule more
-    pub holds-laid : (rs : List Rule) (holder holder′ : List ℕ) → Holds T rs holder noLows → Laid k r holder holder′ → Holds T (r ∷ rs) holder′ noLows
-    unfolding targetsMade
-    holds-laid rs holder holder′ H G =
-        let short = rule-short k r (K .rule) in
-        let p = place (r .len) (r .value) in
-        let small = place-lt (r .len) (r .value) in
+  less-at : (c : ℕ) → getD less c 0 + bit-of from c ≡ getD shares c 0
+  less-at c = go (ℕ-discrete c from)
+    where
+      go : Dec (c ≡ from) → getD less c 0 + bit-of from c ≡ getD shares c 0
+      go (yes e) =
+          omega (
+            arith,
+            ap (λ (x : ℕ). getD less x 0) e,
+            getD-set-same shares from (getD shares from 0 - size) 0 (omega arith),
+            part-is size from c (sym e),
+            ap (λ (x : ℕ). getD shares x 0) e,
+          )
+      go (no d) = omega (arith, getD-set-other shares from c (getD shares from 0 - size) 0 d, part-not size from c (λ e. d (sym e)))
+
+  passed-at : (c : ℕ) → getD (passedOn shares from to size) c 0 + bit-of from c ≡ getD shares c 0 + bit-of to c
+  passed-at c = go (ℕ-discrete c to)
+    where
+      go : Dec (c ≡ to) → getD (passedOn shares from to size) c 0 + bit-of from c ≡ getD shares c 0 + bit-of to c
+      go (yes e) =
+          omega (
+            arith,
+            ap (λ (x : ℕ). getD (passedOn shares from to size) x 0) e,
+            getD-set-same less to (getD less to 0 + size) 0 (omega (arith, length-set shares from (getD shares from 0 - size))),
+            part-is size to c (sym e),
+            ap (λ (x : ℕ). getD less x 0) e,
+            less-at c,
+          )
+      go (no d) = omega (arith, getD-set-other less to c (getD less to 0 + size) 0 d, part-not size to c (λ e. d (sym e)), less-at c)
+
+  passed-long : length (passedOn shares from to size) ≡ mostBackends
+  passed-long = length-set less to (getD less to 0 + size) ∙ length-set shares from (getD shares from 0 - size) ∙ long
+
+  pub less-few : (c : ℕ) → getD less c 0 ≤ getD shares c 0
+  less-few c = omega (arith, less-at c)
+
+-- a rule of k bits
+module _ (k : ℕ) (r : Rule) (K : Known k mostBackends r) where
+  abbrev size : ℕ
+  size = 2 ^ (k - r .len)
+
+  abbrev at : ℕ
+  at = place (r .len) (r .value) * 2 ^ (k - r .len)
+
+  short : r .len ≤ k
+  short = rule-short k r (K .rule)
+
+  bits : r .value < 2 ^ (r .len)
+  bits = rule-bits k r (K .rule)
+
+  label-back : suc (r .backend - 1) ≡ r .backend
+  label-back = let least = K .least in omega arith
+
+  -- the places of the suffix are in the listing
+  pub at-inside : at < 2 ^ k
+  at-inside = omega (arith, rule-place k r (K .rule) 0 (pow-pos (k - r .len)))
+
+  at-few : k ≤ mostBits → at + size ≤ mostSuffixes
+  at-few few =
+      let some = pow-pos (k - r .len) in
+      let last : size - 1 < size = omega arith in
+      omega (arith, rule-place k r (K .rule) (size - 1) last, pow-few k few)
+
+  -- who has all that the suffix covers has as much
+  most-of : (t : ℕ → Bool) → ((s : ℕ) → s < 2 ^ k → matches r s ≡ true → t s ≡ true) → size ≤ countTo (2 ^ k) t
+  unfolding countTo
+  most-of t h =
+      omega (arith, covers k r short bits, sum-le (2 ^ k) (λ s. bit (matches r s)) (λ s. bit (t s)) (λ s l. le s l (matches r s) refl))
+    where
+      le : (s : ℕ) → s < 2 ^ k → (m : Bool) → matches r s ≡ m → bit (matches r s) ≤ bit (t s)
+      le s l true e = omega (arith, ap bit e, ap bit (h s l e))
+      le s l false e = omega (arith, ap bit e)
+
+  -- whoever gets the suffix, every place has a holder
+  known-after : (holder holder′ : List ℕ) (b : ℕ) → b < mostBackends → Given at size b holder holder′
+      → ((q : ℕ) → q < 2 ^ k → getD holder q 0 < mostBackends) → (q : ℕ) → q < 2 ^ k → getD holder′ q 0 < mostBackends
+  known-after holder holder′ b l G h q m = rw (given-at k r (K .rule) b holder holder′ G q m) (go (matches r (place k q)))
+    where
+      go : (t : Bool) → pick t b (getD holder q 0) < mostBackends
+      go true = l
+      go false = h q m
+
+  -- the rule before others, over a suffix that one backend has wholly
+  module _ (rs : List Rule) (g : ℕ) (W : isWhole k rs (r .len) (r .value) g ≡ true) where
+    given : (s : ℕ) → s < 2 ^ k → matches r s ≡ true → firstMatch rs s ≡ g
+    unfolding gives
+    given s l e = eqb-true (firstMatch rs s) g (whole-gives k rs r g short W s l e)
+
+    same-share : g ≡ r .backend → (c : ℕ) → share k (r ∷ rs) c ≡ share k rs c
+    unfolding share gives
+    same-share e c = count-ext (2 ^ k) (λ s. gives (r ∷ rs) s c) (λ s. gives rs s c) (λ s l. go s l (matches r s) refl)
+      where
+        go : (s : ℕ) → s < 2 ^ k → (m : Bool) → matches r s ≡ m → gives (r ∷ rs) s c ≡ gives rs s c
+        go s l true h = gives-matched r rs s c h ∙ ap (λ (x : ℕ). eqb x c) (sym (given s l h ∙ e))
+        go s l false h = gives-passed r rs s c h
+
+    -- what the suffix covers goes from one to the other, and nothing else
+    share-moved : (c : ℕ) → share k (r ∷ rs) c + pick (eqb g c) size 0 ≡ share k rs c + pick (eqb (r .backend) c) size 0
+    share-moved c = go (ℕ-discrete g (r .backend)) (ℕ-discrete c g) (ℕ-discrete c (r .backend))
+      where
+        is : (b : ℕ) → c ≡ b → pick (eqb b c) size 0 ≡ size
+        is b e = part-is size b c (sym e)
+
+        not : (b : ℕ) → c ≢ b → pick (eqb b c) size 0 ≡ 0
+        not b d = part-not size b c (λ e. d (sym e))
+
+        go : Dec (g ≡ r .backend) → Dec (c ≡ g) → Dec (c ≡ r .backend)
+            → share k (r ∷ rs) c + pick (eqb g c) size 0 ≡ share k rs c + pick (eqb (r .backend) c) size 0
+        go (yes e) x y = omega (arith, same-share e c, ap (λ (b : ℕ). pick {A = ℕ} (eqb b c) size 0) e)
+        go (no d) (yes e) (yes f) = absurd (d (sym e ∙ f))
+        go (no d) (yes e) (no f) =
+            omega (arith, is g e, not (r .backend) f, share-giver k rs r g short bits W d, ap (share k (r ∷ rs)) e, ap (share k rs) e)
+        go (no d) (no e) (yes f) =
+            omega (arith, not g e, is (r .backend) f, share-receiver k rs r g short bits W d, ap (share k (r ∷ rs)) f, ap (share k rs) f)
+        go (no d) (no e) (no f) = omega (arith, not g e, not (r .backend) f, share-other k rs r g short bits W d c e f)
+
+  -- one rule more, and one rule less
+  module _ (few : k ≤ mostBits) (rs : List Rule) (holder shares : List ℕ) where
+    last : r .backend - 1 < mostBackends
+    last = omega (arith, K .least, K .most)
+
+    -- no rule is longer, so whoever has the first place has all
+    pub had-first : Held k rs holder shares → Lengths (r .len) rs → Had k rs r (getD holder at 0)
+    unfolding gives matches
+    had-first H short-all =
+        let one : firstMatch rs (place k at) ≡ suc (getD holder at 0) = H .holders at at-inside in
+        let low : place k at % 2 ^ (r .len) ≡ r .value = low-bits in
         record {
-          known = known-given T distinct-made (r .len) short rs holder noLows H p small (r .backend - 1) known-back holder′ G;
-          holders = λ q m.
-              subst (λ (o : Rule). gives (o ∷ rs) (place k q) (label T (getD holder′ q 0)) ≡ true) rule-back
-              (holders-given T distinct-made (r .len) short rs holder noLows H p small (r .backend - 1) known-back holder′ G q m);
-          lows = λ b p m n. absurd (no-lows b p n);
+          known = H .known at at-inside;
+          wholly =
+              subst (λ (v : ℕ). isWhole k rs (r .len) v (suc (getD holder at 0)) ≡ true) low
+              (whole-of-one k (r .len) rs (suc (getD holder at 0)) (place k at) short-all (eq-eqb _ _ one));
         }
+      where
+        low-bits : place k at % 2 ^ (r .len) ≡ r .value
+        low-bits = eqb-true (place k at % 2 ^ (r .len)) (r .value) (rule-inside k r (K .rule) at at-inside (omega arith) (omega (arith, pow-pos (k - r .len))))
 
-    -- the oldest rule, which is `*`: it has everything, whatever stood there
-    module _ (star : r .len ≡ 0) (holder holder′ : List ℕ) (G : Laid k r holder holder′) where
-      all-taken : (q : ℕ) → q < 2 ^ k → getD holder′ q 0 ≡ r .backend - 1
-      all-taken q m =
-          let none : place (r .len) (r .value) ≡ 0 = zero-of (place-lt (r .len) (r .value)) in
-          let bits : k - r .len ≡ k = omega arith in
-          let size : 2 ^ (k - r .len) ≡ 2 ^ k = ap (λ (l : ℕ). 2 ^ l) bits in
-          let at : place (r .len) (r .value) * 2 ^ (k - r .len) ≡ 0 = ap (λ (x : ℕ). x * 2 ^ (k - r .len)) none ∙ zero-mul (2 ^ (k - r .len)) in
-          G .taken q (omega arith) (omega arith)
-        where
-          zero-of : {x : ℕ} → x < 2 ^ (r .len) → x ≡ 0
-          zero-of {x} l = let one : 2 ^ (r .len) ≡ 1 = ap (λ (i : ℕ). 2 ^ i) star in omega arith
+    few-shares : (os : List Rule) → Held k os holder shares → (b : ℕ) → b < mostBackends → getD shares b 0 ≤ mostSuffixes
+    unfolding share
+    few-shares os H b l = omega (arith, H .each b l, count-le (2 ^ k) (λ s. gives os s (suc b)), pow-few k few)
 
-      star-matches : (s : ℕ) → matches r s ≡ true
-      unfolding matches
-      star-matches s =
-          let one : 2 ^ (r .len) ≡ 1 = ap (λ (i : ℕ). 2 ^ i) star in
-          let bits = rule-bits k r (K .rule) in
-          let none : r .value ≡ 0 = omega arith in
-          eq-eqb (s % 2 ^ (r .len)) (r .value) (rw one (mod-one s) ∙ sym none)
+    module _ (b : ℕ) (B : Had k rs r b) where
+      suffixes : (c : ℕ) → share k (r ∷ rs) (suc c) + pick (eqb b c) size 0 ≡ share k rs (suc c) + pick (eqb (r .backend - 1) c) size 0
+      suffixes c =
+          omega (
+            arith,
+            share-moved rs (suc b) (B .wholly) (suc c),
+            ap (λ (t : Bool). pick {A = ℕ} t size 0) (eqb·suc-suc b c),
+            ap (λ (t : Bool). pick {A = ℕ} t size 0) (sym (ap (λ (x : ℕ). eqb x (suc c)) (sym label-back) ∙ eqb·suc-suc (r .backend - 1) c)),
+          )
 
-      pub holds-star : Holds T (r ∷ []) holder′ noLows
-      unfolding targetsMade
-      holds-star =
+      pub lay-passable : Held k rs holder shares → Passable holder shares at size b (r .backend - 1)
+      unfolding share gives
+      lay-passable H =
           record {
-            known = λ q m. omega (arith, all-taken q m, known-back);
-            holders = λ q m.
-                gives-matched r [] (place k q) (label T (getD holder′ q 0)) (star-matches (place k q))
-                ∙ eq-eqb (r .backend) (label T (getD holder′ q 0)) (sym (ap (label T) (all-taken q m) ∙ label-back));
-            lows = λ b p m n. absurd (no-lows b p n);
+            inside = omega (arith, at-few few, H .wide);
+            long = H .long;
+            from-known = B .known;
+            to-known = last;
+            enough =
+                omega (
+                  arith,
+                  H .each b (B .known),
+                  most-of (λ s. gives rs s (suc b)) (λ s l e. whole-gives k rs r (suc b) short (B .wholly) s l e),
+                );
+            few = few-shares rs H;
           }
 
-  -- the counts of the holders are the shares by first match
-  pub counted-share :
-      (rs : List Rule) (holder shares : List ℕ) → length ws ≤ mostBackends → Holds T rs holder noLows → Counted k holder shares
-      → (b : ℕ) → b < length ws → getD shares b 0 ≡ share k rs (label T b)
-  unfolding share targetsMade backends
-  counted-share rs holder shares few H C b l =
-      C .each b (omega arith)
-      ∙ count-ext (2 ^ k) (λ s. eqb (getD holder (place k s) 0) b) (λ s. gives rs s (label T b)) (λ s m.
-      let p = place k s in
-      let back : place k p ≡ s = place-involution k s m in
-      let held : gives rs s (label T (getD holder p 0)) ≡ true =
-      subst (λ (x : ℕ). gives rs x (label T (getD holder p 0)) ≡ true) back (H .holders p (place-lt k s)) in
-      same-test (eqb (getD holder p 0) b) (gives rs s (label T b))
-      (λ e. subst (λ (x : ℕ). gives rs s (label T x) ≡ true) (eqb-true (getD holder p 0) b e) held)
-      (λ g. eq-eqb (getD holder p 0) b
-      (distinct-made (getD holder p 0) b (H .known p (place-lt k s)) l (gives-one rs s (label T (getD holder p 0)) (label T b) held g))))
+      pub back-passable : Held k (r ∷ rs) holder shares → Passable holder shares at size (r .backend - 1) b
+      unfolding share
+      back-passable H =
+          record {
+            inside = omega (arith, at-few few, H .wide);
+            long = H .long;
+            from-known = last;
+            to-known = B .known;
+            enough =
+                omega (
+                  arith,
+                  H .each (r .backend - 1) last,
+                  ap (share k (r ∷ rs)) label-back,
+                  most-of (λ s. gives (r ∷ rs) s (r .backend)) (λ s l e.
+                      gives-matched r rs s (r .backend) e ∙ eq-eqb (r .backend) (r .backend) refl),
+                );
+            few = few-shares (r ∷ rs) H;
+          }
 
--- the places of a suffix are among all
-pub inside-node : (k l p i : ℕ) → l ≤ k → p < 2 ^ l → i < 2 ^ (k - l) → p * 2 ^ (k - l) + i < 2 ^ k
-inside-node k l p i h m o =
-    omega (arith, mul-le-mul-right (2 ^ (k - l)) m, suc-mul p (2 ^ (k - l)), all-nodes k l h)
+      module _ (holder′ shares′ : List ℕ) where
+        pub held-laid : Held k rs holder shares → Given at size (r .backend - 1) holder holder′ → shares′ ≡ passedOn shares b (r .backend - 1) size
+            → Held k (r ∷ rs) holder′ shares′
+        unfolding firstMatch
+        held-laid H G e =
+            let P = lay-passable H in
+            record {
+              wide = G .long ∙ H .wide;
+              long = ap length e ∙ passed-long shares b (r .backend - 1) size (P .long) (P .from-known) (P .to-known) (P .enough);
+              known = known-after holder holder′ (r .backend - 1) last G (H .known);
+              holders = λ q m. holders q m (matches r (place k q)) refl;
+              each = λ c l.
+                  omega (
+                    arith,
+                    ap (λ (xs : List ℕ). getD xs c 0) e,
+                    passed-at shares b (r .backend - 1) size (P .long) (P .from-known) (P .to-known) (P .enough) c,
+                    H .each c l,
+                    suffixes c,
+                  );
+            }
+          where
+            holders : (q : ℕ) → q < 2 ^ k → (t : Bool) → matches r (place k q) ≡ t → firstMatch (r ∷ rs) (place k q) ≡ suc (getD holder′ q 0)
+            holders q m true e = rw (given-at k r (K .rule) (r .backend - 1) holder holder′ G q m, e) (sym label-back)
+            holders q m false e = rw (given-at k r (K .rule) (r .backend - 1) holder holder′ G q m, e) (H .holders q m)
 
--- one suffix goes to another backend, and the counts with it
-module _ (k p b : ℕ) (holder shares : List ℕ) (C : Counted k holder shares) (I : Inside k p b) where
-  abbrev had : ℕ
-  had = getD holder p 0
+        pub held-back : Held k (r ∷ rs) holder shares → Given at size b holder holder′ → shares′ ≡ passedOn shares (r .backend - 1) b size
+            → Held k rs holder′ shares′
+        unfolding firstMatch
+        held-back H G e =
+            let P = back-passable H in
+            record {
+              wide = G .long ∙ H .wide;
+              long = ap length e ∙ passed-long shares (r .backend - 1) b size (P .long) (P .from-known) (P .to-known) (P .enough);
+              known = known-after holder holder′ b (B .known) G (H .known);
+              holders = λ q m. holders q m (matches r (place k q)) refl;
+              each = λ c l.
+                  omega (
+                    arith,
+                    ap (λ (xs : List ℕ). getD xs c 0) e,
+                    passed-at shares (r .backend - 1) b size (P .long) (P .from-known) (P .to-known) (P .enough) c,
+                    H .each c l,
+                    suffixes c,
+                  );
+            }
+          where
+            holders : (q : ℕ) → q < 2 ^ k → (t : Bool) → matches r (place k q) ≡ t → firstMatch rs (place k q) ≡ suc (getD holder′ q 0)
+            holders q m true e = rw (given-at k r (K .rule) b holder holder′ G q m, e) (given rs (suc b) (B .wholly) (place k q) (place-lt k q) e)
+            holders q m false e =
+                sym (ap (λ (t : Bool). pick t (r .backend) (firstMatch rs (place k q))) e)
+                ∙ H .holders q m
+                ∙ ap suc (sym (given-at k r (K .rule) b holder holder′ G q m ∙ ap (λ (t : Bool). pick t b (getD holder q 0)) e))
 
-  abbrev less : List ℕ
-  less = set shares had (getD shares had 0 - 1)
-
-  abbrev after : List ℕ
-  after = set less b (getD less b 0 + 1)
-
-  test : List ℕ → ℕ → ℕ → ℕ
-  test h c s = pick (eqb (getD h (place k s) 0) c) 1 0
-
-  small : p < length holder
-  small = let m = I .place in omega (arith, C .held, pow-few k (I .few-bits))
-
-  pub had-known : had < mostBackends
-  had-known = C .known p (I .place)
-
-  -- only the suffix with that place is another's
-  count-moves : (c : ℕ) → c < mostBackends
-      → getD shares c 0 + pick (eqb b c) 1 0 ≡ countTo (2 ^ k) (λ s. eqb (getD (set holder p b) (place k s) 0) c) + pick (eqb had c) 1 0
-  unfolding countTo test
-  count-moves c l =
-      let s0 = place k p in
-      let back : place k s0 ≡ p = place-involution k p (I .place) in
-      let old-at : test holder c s0 ≡ pick (eqb had c) 1 0 = ap (λ (q : ℕ). pick (eqb (getD holder q 0) c) 1 0) back in
-      let new-at : test (set holder p b) c s0 ≡ pick (eqb b c) 1 0 =
-      ap (λ (q : ℕ). pick (eqb (getD (set holder p b) q 0) c) 1 0) back
-      ∙ ap (λ (x : ℕ). pick (eqb x c) 1 0) (getD-set-same holder p b 0 small) in
-      omega (
-        arith,
-        C .each c l,
-        old-at,
-        new-at,
-        sum-one (2 ^ k) (test holder c) (test (set holder p b) c) s0 (place-lt k p) (λ s m d.
-            ap (λ (x : ℕ). pick (eqb x c) 1 0)
-            (sym (getD-set-other holder p (place k s) b 0 (λ e. d (sym (place-involution k s m) ∙ ap (place k) e))))),
-      )
-
-  -- the one that loses it has one
-  pub some-had : 1 ≤ getD shares had 0
-  unfolding countTo test
-  some-had =
-      let s0 = place k p in
-      let is : test holder had s0 ≡ 1 =
-      ap (λ (q : ℕ). pick (eqb (getD holder q 0) had) 1 0) (place-involution k p (I .place))
-      ∙ ap (λ (t : Bool). pick {A = ℕ} t 1 0) (eq-eqb had had refl) in
-      omega (arith, C .each had had-known, sum-at (2 ^ k) (test holder had) s0 (place-lt k p), is)
-
-  less-at : (c : ℕ) → c < mostBackends → getD less c 0 ≡ getD shares c 0 - pick (eqb had c) 1 0
-  less-at c l = go (ℕ-discrete c had)
-    where
-      go : Dec (c ≡ had) → getD less c 0 ≡ getD shares c 0 - pick (eqb had c) 1 0
-      go (yes e) =
-          ap (λ (x : ℕ). getD less x 0) e
-          ∙ getD-set-same shares had (getD shares had 0 - 1) 0 (omega (arith, C .long, had-known))
-          ∙ omega (arith, ap (λ (x : ℕ). getD shares x 0) e, ap (λ (t : Bool). pick {A = ℕ} t 1 0) (eq-eqb had c (sym e)))
-      go (no d) =
-          getD-set-other shares had c (getD shares had 0 - 1) 0 d
-          ∙ omega (arith, ap (λ (t : Bool). pick {A = ℕ} t 1 0) (ne-eqb had c (λ e. d (sym e))))
-
-  pub less-few : (c : ℕ) → c < mostBackends → getD less c 0 ≤ mostSuffixes
-  less-few c l =
-      omega (
-        arith,
-        less-at c l,
-        C .each c l,
-        count-le (2 ^ k) (λ s. eqb (getD holder (place k s) 0) c),
-        pow-few k (I .few-bits),
-      )
-
-  after-at : (c : ℕ) → c < mostBackends → getD after c 0 ≡ getD less c 0 + pick (eqb b c) 1 0
-  after-at c l = go (ℕ-discrete c b)
-    where
-      go : Dec (c ≡ b) → getD after c 0 ≡ getD less c 0 + pick (eqb b c) 1 0
-      go (yes e) =
-          ap (λ (x : ℕ). getD after x 0) e
-          ∙ getD-set-same less b (getD less b 0 + 1) 0 (omega (arith, C .long, length-set shares had (getD shares had 0 - 1), I .backend))
-          ∙ omega (arith, ap (λ (x : ℕ). getD less x 0) e, ap (λ (t : Bool). pick {A = ℕ} t 1 0) (eq-eqb b c (sym e)))
-      go (no d) =
-          getD-set-other less b c (getD less b 0 + 1) 0 d
-          ∙ omega (arith, ap (λ (t : Bool). pick {A = ℕ} t 1 0) (ne-eqb b c (λ e. d (sym e))))
-
-  least-at : (c : ℕ) → c < mostBackends → pick (eqb had c) 1 0 ≤ getD shares c 0
-  least-at c l = go (ℕ-discrete had c)
-    where
-      go : Dec (had ≡ c) → pick (eqb had c) 1 0 ≤ getD shares c 0
-      go (yes e) = omega (arith, one-most (eqb had c), some-had, ap (λ (x : ℕ). getD shares x 0) e)
-      go (no d) = omega (arith, ap (λ (t : Bool). pick {A = ℕ} t 1 0) (ne-eqb had c d))
-
-  pub counted-on : Counted k (set holder p b) after
-  counted-on =
+  -- the rule `*` alone
+  pub held-star : k ≤ mostBits → r .len ≡ 0
+      → Held k (r ∷ []) (replicate mostSuffixes (r .backend - 1)) (set (replicate mostBackends 0) (r .backend - 1) (2 ^ k))
+  unfolding firstMatch matches
+  held-star few star =
       record {
-        held = length-set holder p b ∙ C .held;
-        long = length-set less b (getD less b 0 + 1) ∙ length-set shares had (getD shares had 0 - 1) ∙ C .long;
-        known = λ q m. known q m (ℕ-discrete q p);
-        each = λ c l. omega (arith, after-at c l, less-at c l, least-at c l, count-moves c l);
+        wide = length-replicate {A = ℕ} mostSuffixes (r .backend - 1);
+        long = length-set (replicate mostBackends 0) (r .backend - 1) (2 ^ k) ∙ length-replicate {A = ℕ} mostBackends 0;
+        known = λ q m. omega (arith, all q m, K .least, K .most);
+        holders = λ q m. one (place k q) ∙ sym label-back ∙ ap suc (sym (all q m));
+        each = λ b l. each b l (ℕ-discrete b (r .backend - 1));
       }
     where
-      known : (q : ℕ) → q < 2 ^ k → Dec (q ≡ p) → getD (set holder p b) q 0 < mostBackends
-      known q m (yes e) =
-          omega (arith, ap (λ (x : ℕ). getD (set holder p b) x 0) e, getD-set-same holder p b 0 small, I .backend)
-      known q m (no d) = omega (arith, getD-set-other holder p q b 0 d, C .known q m)
+      all : (q : ℕ) → q < 2 ^ k → getD (replicate mostSuffixes (r .backend - 1)) q 0 ≡ r .backend - 1
+      all q m = getD-replicate mostSuffixes q (r .backend - 1) 0 (omega (arith, pow-few k few))
 
--- before the first rule everything counts as the first backend's
-pub counted-none : (k : ℕ) → k ≤ mostBits → Counted k (replicate mostSuffixes 0) (set (replicate mostBackends 0) 0 (2 ^ k))
-counted-none k few =
-    record {
-      held = length-replicate {A = ℕ} mostSuffixes 0;
-      long = length-set (replicate mostBackends 0) 0 (2 ^ k) ∙ length-replicate {A = ℕ} mostBackends 0;
-      known = λ p m. omega (arith, alike mostSuffixes p 0);
-      each = λ b l. each b l (ℕ-discrete b 0);
-    }
-  where
-    counts : (b : ℕ) → countTo (2 ^ k) (λ s. eqb (getD (replicate mostSuffixes 0) (place k s) 0) b) ≡ pick (eqb 0 b) (2 ^ k) 0
-    counts b =
-        count-ext (2 ^ k) (λ s. eqb (getD (replicate mostSuffixes 0) (place k s) 0) b) (λ s. eqb 0 b)
-        (λ s m. ap (λ (x : ℕ). eqb x b) (alike mostSuffixes (place k s) 0))
-        ∙ count-const (2 ^ k) (eqb 0 b)
+      is-star : record { len = 0; value = 0; backend = r .backend } ≡ r
+      is-star =
+          let none : r .value ≡ 0 = omega (arith, bits, ap (λ (l : ℕ). 2 ^ l) star) in
+          ap (λ (l : ℕ). record { len = l; value = 0; backend = r .backend }) (sym star)
+          ∙ ap (λ (v : ℕ). record { len = r .len; value = v; backend = r .backend }) (sym none)
 
-    each :
-        (b : ℕ) → b < mostBackends → Dec (b ≡ 0)
-        → getD (set (replicate mostBackends 0) 0 (2 ^ k)) b 0 ≡ countTo (2 ^ k) (λ s. eqb (getD (replicate mostSuffixes 0) (place k s) 0) b)
-    each b l (yes e) =
-        ap (λ (x : ℕ). getD (set (replicate mostBackends 0) 0 (2 ^ k)) x 0) e
-        ∙ getD-set-same (replicate mostBackends 0) 0 (2 ^ k) 0 (omega (arith, length-replicate {A = ℕ} mostBackends 0))
-        ∙ sym (counts b ∙ ap (λ (t : Bool). pick {A = ℕ} t (2 ^ k) 0) (eq-eqb 0 b (sym e)))
-    each b l (no d) =
-        getD-set-other (replicate mostBackends 0) 0 b (2 ^ k) 0 d
-        ∙ alike mostBackends b 0
-        ∙ sym (counts b ∙ ap (λ (t : Bool). pick {A = ℕ} t (2 ^ k) 0) (ne-eqb 0 b (λ e. d (sym e))))
+      one : (s : ℕ) → firstMatch (r ∷ []) s ≡ r .backend
+      one s =
+          subst (λ (o : Rule). firstMatch (o ∷ []) s ≡ o .backend) is-star
+          (ap (λ (t : Bool). pick t (r .backend) nobody) (eq-eqb (s % 2 ^ 0) 0 (mod-one s)))
+
+      shares : (c : ℕ) → share k (r ∷ []) c ≡ pick (eqb (r .backend) c) (2 ^ k) 0
+      shares c = subst (λ (o : Rule). share k (o ∷ []) c ≡ pick (eqb (o .backend) c) (2 ^ k) 0) is-star (star-share k (r .backend) c)
+
+      each : (b : ℕ) → b < mostBackends → Dec (b ≡ r .backend - 1)
+          → getD (set (replicate mostBackends 0) (r .backend - 1) (2 ^ k)) b 0 ≡ share k (r ∷ []) (suc b)
+      each b l (yes e) =
+          ap (λ (x : ℕ). getD (set (replicate mostBackends 0) (r .backend - 1) (2 ^ k)) x 0) e
+          ∙ getD-set-same (replicate mostBackends 0) (r .backend - 1) (2 ^ k) 0 (omega (arith, length-replicate {A = ℕ} mostBackends 0))
+          ∙ sym (shares (suc b) ∙ ap (λ (t : Bool). pick {A = ℕ} t (2 ^ k) 0) (eq-eqb (r .backend) (suc b) (omega (arith, label-back))))
+      each b l (no d) =
+          getD-set-other (replicate mostBackends 0) (r .backend - 1) b (2 ^ k) 0 d
+          ∙ alike mostBackends b 0
+          ∙ sym (shares (suc b) ∙ ap (λ (t : Bool). pick {A = ℕ} t (2 ^ k) 0) (ne-eqb (r .backend) (suc b) (λ e. d (omega arith))))

@@ -1,5 +1,5 @@
 -- The largest of the numbers 1 to n that passes a test.
-use Prim.Native.Nat.{ℕ, zero, suc, _≤_, _<_}
+use Prim.Native.Nat.{ℕ, zero, suc, _-_, _≤_, _<_}
 use mathlib.Core.Bool.{Bool, true, false}
 use mathlib.Core.Path.{_≡_, refl, ap, _∙_}
 use native.Mathlib.Decide.{ℕ-discrete}
@@ -12,13 +12,16 @@ pub record IsLargest (n : ℕ) (t : ℕ → Bool) (r : ℕ) : Type 0 where
   pub passes : 0 < r → t r ≡ true
   pub above : (j : ℕ) → r < j → j ≤ n → t j ≡ false
 
-pub largest-suc-yes : (n : ℕ) (t : ℕ → Bool) → t (suc n) ≡ true → largestTo (suc n) t ≡ suc n
+pub largest-yes : (n : ℕ) (t : ℕ → Bool) → 1 ≤ n → t n ≡ true → largestTo n t ≡ n
 unfolding largestTo
-largest-suc-yes n t e = ap (λ (b : Bool). pick b (suc n) (largestTo n t)) e
+largest-yes zero t l e = absurd (omega arith)
+largest-yes (suc n) t l e = ap (λ (b : Bool). pick b (suc n) (largestTo n t)) e
 
-pub largest-suc-no : (n : ℕ) (t : ℕ → Bool) → t (suc n) ≡ false → largestTo (suc n) t ≡ largestTo n t
+pub largest-no : (n : ℕ) (t : ℕ → Bool) → 1 ≤ n → t n ≡ false → largestTo n t ≡ largestTo (n - 1) t
 unfolding largestTo
-largest-suc-no n t e = ap (λ (b : Bool). pick b (suc n) (largestTo n t)) e
+largest-no zero t l e = absurd (omega arith)
+largest-no (suc n) t l e =
+    let less : n ≡ suc n - 1 = omega arith in ap (λ (b : Bool). pick b (suc n) (largestTo n t)) e ∙ ap (λ (m : ℕ). largestTo m t) less
 
 pub largest-is : (n : ℕ) (t : ℕ → Bool) → IsLargest n t (largestTo n t)
 unfolding largestTo

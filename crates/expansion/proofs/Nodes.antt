@@ -2,20 +2,25 @@
 use Prim.Native.Nat.{ℕ, _+_, _-_, _*_, _/_, _%_, _^_, _≤_, _<_}
 use mathlib.Core.Bool.{Bool, true, false}
 use mathlib.Core.List.{List}
-use mathlib.Core.Path.{_≡_, ap, sym, _∙_}
-use native.Mathlib.Nat.{mul-comm, mod-lt, mod-eq-of-lt, div-add-mod', div-lt-iff-lt-mul, add-mul-mod-self-right}
+use mathlib.Core.Path.{_≡_, ap, sym, _∙_, subst}
+use native.Mathlib.Decide.{decLt}
+use native.Mathlib.Nat.{mul-comm, suc-mul, mul-le-mul-right, mod-lt, mod-eq-of-lt, div-add-mod', div-lt-iff-lt-mul, add-mul-mod-self-right}
 use native.Mathlib.Omega.{arith}
 use lib.Arith.{digits-lt, digits-div}
+use lib.ListN.{getD}
 use lib.Pow.{pow-pos}
 use borrow.Author.Tests.{eq-eqb, ne-eqb}
+use Rattle.numerals.specs.Pick.{pick}
 use Rattle.numerals.specs.Suffix.{place}
 use Rattle.numerals.proofs.Place.{place-lt, place-mod, place-twice, place-involution, place-injective, place-high}
 use Rattle.numerals.specs.Sums.{allTo}
-use Rattle.expansion.specs.FirstMatch.{matches, gives}
+use Rattle.expansion.specs.FirstMatch.{isRule, matches, gives}
 use Rattle.expansion.specs.Steps.{isWhole}
+use Rattle.expansion.specs.Inner.Holders.{Given}
 use Rattle.expansion.specs.declared.rule.Rule.{Rule}
 use Rattle.numerals.proofs.Searches.{all-true, true-all}
 use Rattle.expansion.proofs.Count.{pow-split}
+use Rattle.expansion.proofs.FirstMatch.{rule-short, rule-bits}
 
 -- a test of all that the suffix of l bits with the value v covers
 module _ (k l v : ℕ) (h : l ≤ k) (f : ℕ → Bool) where
@@ -95,3 +100,47 @@ module _ (k l : ℕ) (h : l ≤ k) where
         let low : q % 2 ^ (k - l) < 2 ^ (k - l) = mod-lt q (pow-pos (k - l)) in
         let beyond : p * 2 ^ (k - l) + 2 ^ (k - l) ≤ q = out (omega arith) in
         omega arith)
+
+-- a place of a node is one of all
+pub inside-node : (k l p i : ℕ) → l ≤ k → p < 2 ^ l → i < 2 ^ (k - l) → p * 2 ^ (k - l) + i < 2 ^ k
+inside-node k l p i h m o = omega (arith, mul-le-mul-right (2 ^ (k - l)) m, suc-mul p (2 ^ (k - l)), all-nodes k l h)
+
+-- the places of a rule's suffix
+module _ (k : ℕ) (r : Rule) (R : isRule k r ≡ true) where
+  abbrev at : ℕ
+  at = place (r .len) (r .value) * 2 ^ (k - r .len)
+
+  abbrev size : ℕ
+  size = 2 ^ (k - r .len)
+
+  pub rule-place : (i : ℕ) → i < size → at + i < 2 ^ k
+  rule-place i l = inside-node k (r .len) (place (r .len) (r .value)) i (rule-short k r R) (place-lt (r .len) (r .value)) l
+
+  rule-back : record { len = r .len; value = place (r .len) (place (r .len) (r .value)); backend = r .backend } ≡ r
+  rule-back = ap (λ (v : ℕ). record { len = r .len; value = v; backend = r .backend }) (place-involution (r .len) (r .value) (rule-bits k r R))
+
+  pub rule-inside : (q : ℕ) → q < 2 ^ k → at ≤ q → q < at + size → matches r (place k q) ≡ true
+  rule-inside q m from to =
+      subst (λ (o : Rule). matches o (place k q) ≡ true) rule-back
+      (match-inside k (r .len) (rule-short k r R) (place (r .len) (r .value)) (place-lt (r .len) (r .value)) (r .backend) q m from to)
+
+  rule-outside : (q : ℕ) → q < 2 ^ k → (at ≤ q → at + size ≤ q) → matches r (place k q) ≡ false
+  rule-outside q m out =
+      subst (λ (o : Rule). matches o (place k q) ≡ false) rule-back
+      (match-outside k (r .len) (rule-short k r R) (place (r .len) (r .value)) (place-lt (r .len) (r .value)) (r .backend) q m out)
+
+  -- who holds what after they went to a backend
+  pub given-at : (b : ℕ) (holder holder′ : List ℕ) → Given at size b holder holder′
+      → (q : ℕ) → q < 2 ^ k → getD holder′ q 0 ≡ pick (matches r (place k q)) b (getD holder q 0)
+  given-at b holder holder′ G q m = go (decLt q at) (decLt q (at + size))
+    where
+      by : (t : Bool) → matches r (place k q) ≡ t → pick t b (getD holder q 0) ≡ pick (matches r (place k q)) b (getD holder q 0)
+      by t e = ap (λ (x : Bool). pick x b (getD holder q 0)) (sym e)
+
+      out : (at ≤ q → at + size ≤ q) → getD holder′ q 0 ≡ pick (matches r (place k q)) b (getD holder q 0)
+      out o = G .other q o ∙ by false (rule-outside q m o)
+
+      go : Dec (q < at) → Dec (q < at + size) → getD holder′ q 0 ≡ pick (matches r (place k q)) b (getD holder q 0)
+      go (yes n) d = out (λ o. absurd (omega arith))
+      go (no n) (yes o) = G .taken q (omega arith) o ∙ by true (rule-inside q m (omega arith) o)
+      go (no n) (no o) = out (λ x. omega arith)

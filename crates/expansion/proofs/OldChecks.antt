@@ -21,9 +21,11 @@ use Rattle.expansion.specs.Resume.{allKnown, checkOld}
 use Rattle.expansion.specs.Inner.Lists.{noRule}
 use Rattle.expansion.specs.Inner.OldList.{ruleAt, Proper}
 use Rattle.expansion.specs.Inner.Run.{Valid}
+use Rattle.expansion.specs.Inner.Sound.{Lengths, Falling}
 use Rattle.expansion.specs.declared.rule.Rule.{Rule}
 use Rattle.expansion.specs.declared.call.Checked.the-variants.{Sound as Passed, Refused as Failed}
 use Rattle.numerals.proofs.Searches.{both-true}
+use Rattle.expansion.proofs.FirstMatch.{lengths-mono}
 use Rattle.expansion.proofs.Checks.{both-passed, test-passed, limits, call-weights, call-passed}
 use Rattle.expansion.proofs.OldNumbers.{three-more, rules-more, oldest-length, oldest-at}
 
@@ -94,15 +96,16 @@ end-last last r (q ∷ rs) = end-last (r .len) q rs
 record Passing (k n last : ℕ) (rs : List Rule) : Type 0 where
   few : n + length rs ≤ mostRules
   each : (i : ℕ) → i < length rs → isProper k (getD rs i noRule) ≡ true
+  falling : Lengths last rs × Falling rs
   star : endLen last rs ≡ 0
 
 failed : (why : Refusal) → Failed why ≡ Passed → ⊥
 failed why e = let z : _≡_ {A = ℕ} 0 1 = cc in omega arith
 
 rules-passed : (k n last : ℕ) (cs : List ℕ) → n ≤ mostRules → checkRules k n last cs ≡ Passed → Passing k n last (rulesFrom cs)
-unfolding checkRules rulesFrom endLen
+unfolding checkRules rulesFrom endLen Lengths Falling
 rules-passed k n last [] h e =
-    record { few = omega arith; each = λ i l. absurd (omega arith); star = eqb-true last 0 (test-passed (eqb last 0) Order e) }
+    record { few = omega arith; each = λ i l. absurd (omega arith); falling = (tt, tt); star = eqb-true last 0 (test-passed (eqb last 0) Order e) }
 rules-passed k n last (l ∷ []) h e = absurd (failed Malformed e)
 rules-passed k n last (l ∷ v ∷ []) h e = absurd (failed Malformed e)
 rules-passed k n last (l ∷ v ∷ b ∷ cs) h e =
@@ -114,7 +117,13 @@ rules-passed k n last (l ∷ v ∷ b ∷ cs) h e =
     let o = both-passed (orElse (both (ltb 0 last) (leb l last)) Order) rest (q .1) in
     let more = ltb-true n mostRules (test-passed (ltb n mostRules) TooMany (q .0)) in
     let P = rules-passed k (suc n) l cs more (o .1) in
-    record { few = omega (arith, P .few); each = both-ends r (rulesFrom cs) (test-passed (isProper k r) BadField (p .0)) (P .each); star = P .star }
+    let shorter = leb-true l last (both-true (ltb 0 last) (leb l last) (test-passed (both (ltb 0 last) (leb l last)) Order (o .0)) .1) in
+    record {
+      few = omega (arith, P .few);
+      each = both-ends r (rulesFrom cs) (test-passed (isProper k r) BadField (p .0)) (P .each);
+      falling = ((shorter, lengths-mono l last (rulesFrom cs) shorter (P .falling .0)), P .falling);
+      star = P .star;
+    }
   where
     both-ends :
         (r : Rule) (rs : List Rule) → isProper k r ≡ true → ((i : ℕ) → i < length rs → isProper k (getD rs i noRule) ≡ true)
@@ -145,6 +154,7 @@ rules-proper k n (r ∷ rs) h P e =
       each = λ i l.
           let p = proper k (getD (r ∷ rs) i noRule) (P .each i l) in
           record { rule = p .0; least = p .1; most = all-known n (r ∷ rs) e i l };
+      falling = P .falling .1;
       star = ap (λ (i : ℕ). (getD (r ∷ rs) i noRule) .len) last ∙ sym (end-last k r rs) ∙ P .star;
     }
 
@@ -189,8 +199,26 @@ module _ (k tolerance : ℕ) (cs ws : List ℕ) where
   unfolding checkOld checkList
   old-rules e l s = simp (e, le-leb tolerance unit l, lt-ltb 0 (length cs) s)
 
+falling-drop : (n : ℕ) (rs : List Rule) → Falling rs → Falling (drop n rs)
+unfolding Falling
+falling-drop zero rs h = h
+falling-drop (suc n) [] h = h
+falling-drop (suc n) (r ∷ rs) h = falling-drop n rs (h .1)
+
+-- proper rules for n backends are so for more
+pub proper-more : (k n m : ℕ) (rs : List Rule) → n ≤ m → Proper k n rs → Proper k m rs
+proper-more k n m rs h P =
+    record {
+      some = P .some;
+      few = P .few;
+      each = λ i l. let K = P .each i l in record { rule = K .rule; least = K .least; most = omega (arith, K .most) };
+      falling = P .falling;
+      star = P .star;
+    }
+
 -- the oldest of proper rules are proper
 pub oldest-proper : (k n r : ℕ) (rs : List Rule) → Proper k n rs → 1 ≤ r → r ≤ length rs → Proper k n (oldest r rs)
+unfolding oldest
 oldest-proper k n r rs P some few =
     let long = oldest-length r rs few in
     let at : length rs - r + (length (oldest r rs) - 1) ≡ length rs - 1 = omega (arith, long) in
@@ -198,5 +226,6 @@ oldest-proper k n r rs P some few =
       some = omega (arith, long);
       few = omega (arith, long, P .few);
       each = λ i l. rw (oldest-at r rs i) (P .each (length rs - r + i) (omega (arith, long)));
+      falling = falling-drop (length rs - r) rs (P .falling);
       star = rw (oldest-at r rs (length (oldest r rs) - 1), at) (P .star);
     }

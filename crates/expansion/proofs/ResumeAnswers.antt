@@ -19,7 +19,7 @@ use Rattle.expansion.specs.Inner.Resume.{Found}
 use Rattle.expansion.specs.declared.rule.Rule.{Rule}
 use Rattle.expansion.specs.declared.call.Checked.{Checked}
 use Rattle.expansion.specs.declared.call.Checked.the-variants.{Sound as Passed, Refused as Failed}
-use Rattle.expansion.specs.declared.resuming.Best.{Best}
+use Rattle.expansion.specs.declared.resuming.Attempt.{Attempt}
 use Rattle.expansion.specs.declared.resuming.Resumed.{Resumed}
 use Rattle.expansion.specs.declared.resuming.Resumed.the-variants.{Made, Refused}
 use Rattle.expansion.proofs.Listing.{length-newest}
@@ -40,7 +40,7 @@ module _ (k tolerance : ℕ) (ws cs : List ℕ) (room : ℕ) where
   unfolding resumeAnswer
   passed-on e = ap (λ (c : Checked). onChecked Refused c (resumeOf T tolerance R room)) e
 
-  module _ (passed : checkOld k tolerance cs ws ≡ Passed) (best : Best) (F : Found T tolerance R (length R) best) where
+  module _ (passed : checkOld k tolerance cs ws ≡ Passed) (best : Attempt) (F : Found T tolerance R (length R) best) where
     kept-is : best .kept ≡ keptOf T tolerance R
     unfolding keptOf
     kept-is = F .kept

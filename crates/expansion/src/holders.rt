@@ -42,7 +42,7 @@ fn lowest_whole(holder: &[u16], from: usize, nodes: usize, size: usize, giver: u
 }
 
 // The places of a node go to a backend.
-fn give(holder: &mut [u16], at: usize, size: usize, receiver: u16)
+pub fn give(holder: &mut [u16], at: usize, size: usize, receiver: u16)
     requires { ⌜ at + size ≤ length (now holder) ⌝ }
     ensures { λ _. ⌜ held.Given at size receiver (now (holder .entry)) (now (holder .exit)) ⌝ }
 {

@@ -1,44 +1,85 @@
-// Kept rules laid on the tree, the oldest first: who holds which suffix after them and how many each backend holds, and the
-// largest term that they allow.
+// Kept rules laid on the tree, the oldest first, and taken back: who holds which suffix after them and how many each backend
+// holds, and the largest term that they allow.
 use crate::list::RuleList;
 use crate::rule::Rule;
+ghost use mathlib.Core.List.{List, _∷_};
 ghost use mathlib.Core.Path.{_≡_};
-ghost use Prim.Native.Nat.{ℕ, _≤_};
-ghost use lib.ListN.{set};
+ghost use mathlib.Core.Bool.{true};
+ghost use Prim.Native.Nat.{_-_, _*_, _^_, _≤_};
 ghost use Rattle.numerals.specs.Limits.{mostBits, mostBackends, mostRules};
-ghost use Rattle.numerals.specs.Suffix.{Places};
+ghost use Rattle.numerals.specs.Suffix.{place, Places};
+ghost use Rattle.expansion.specs.FirstMatch.{isRule};
 ghost use Rattle.expansion.specs.Resume.{longest, capFrom};
+ghost use Rattle.expansion.specs.Inner.Holders.{Given};
+ghost use Rattle.expansion.specs.Inner.Laying.{passedOn, Passable, Held, Had};
 ghost use Rattle.expansion.specs.Inner.Lists.{newestFirst};
 ghost use Rattle.expansion.specs.Inner.OldList.{Known};
-ghost use Rattle.expansion.specs.Inner.Laying.{Counted, Inside, Laid};
+ghost use Rattle.expansion.specs.Inner.Sound.{Lengths};
+ghost use Rattle.expansion.specs.declared.rule.Rule as rules;
 
-// The suffix at a tree place goes to another backend.
-fn pass_on(holder: &mut [u16], shares: &mut [u64], p: usize, b: usize)
-    requires { ⌜ ((k : ℕ) × Counted k (now holder) (now shares) × Inside k p b) ⌝ }
-    ensures holder { λ _. ⌜ now (holder .exit) ≡ set (now (holder .entry)) p b ⌝ }
-    ensures counted { λ _. ⌜ ((k : ℕ) → Counted k (now (holder .entry)) (now (shares .entry)) → Inside k p b
-        → Counted k (now (holder .exit)) (now (shares .exit))) ⌝ }
+// The places of a suffix go from one backend to another, and the counts with them.
+fn pass_on(holder: &mut [u16], shares: &mut [u64], at: usize, size: usize, from: usize, to: usize)
+    requires { ⌜ Passable (now holder) (now shares) at size from to ⌝ }
+    ensures holder { λ _. ⌜ Given at size to (now (holder .entry)) (now (holder .exit)) ⌝ }
+    ensures shares { λ _. ⌜ now (shares .exit) ≡ passedOn (now (shares .entry)) from to size ⌝ }
 {
-    let had = holder[p] as usize;
-    shares[had] -= 1;
-    shares[b] += 1;
-    holder[p] = b as u16;
+    crate::holders::give(holder, at, size, to as u16);
+    shares[from] -= size as u64;
+    shares[to] += size as u64;
 }
 
-// The suffix of a rule goes to its backend, place by place.
-pub fn lay(holder: &mut [u16], shares: &mut [u64], places: &[u16], k: usize, rule: Rule)
-    requires { ⌜ (k ≤ mostBits) × (Known k mostBackends rule × (Counted k (now holder) (now shares) × Places mostBits (now places))) ⌝ }
-    ensures laid { λ _. ⌜ Laid k rule (now (holder .entry)) (now (holder .exit)) ⌝ }
-    ensures counted { λ _. ⌜ Counted k (now (holder .exit)) (now (shares .exit)) ⌝ }
+// The first tree place of a rule's suffix.
+fn first_place(places: &[u16], k: usize, rule: Rule) -> usize
+    requires { ⌜ (k ≤ mostBits) × ((isRule k rule ≡ true) × Places mostBits (now places)) ⌝ }
+    ensures { λ r. ⌜ r ≡ place (rule .len) (rule .value) * 2 ^ (k - rule .len) ⌝ }
 {
     let size: usize = 1 << (k - rule.len);
-    let b = rule.backend - 1;
-    let at = crate::holders::suffix_at(places, rule.len, rule.value) * size;
-    let mut i = 0;
-    while i < size {
-        pass_on(holder, shares, at + i, b);
-        i += 1;
-    }
+    crate::holders::suffix_at(places, rule.len, rule.value) * size
+}
+
+// One rule more: its suffix goes to its backend. Answers the one that had it wholly: no rule behind has a longer suffix.
+pub fn lay(holder: &mut [u16], shares: &mut [u64], places: &[u16], k: usize, rule: Rule) -> usize
+    requires { ⌜ ((rs : List rules.Rule) × (Held k rs (now holder) (now shares) × Lengths (rule .len) rs)) ⌝ }
+    requires { ⌜ (k ≤ mostBits) × (Known k mostBackends rule × Places mostBits (now places)) ⌝ }
+    ensures { λ r. ⌜ ((rs : List rules.Rule) → Held k rs (now (holder .entry)) (now (shares .entry)) → Lengths (rule .len) rs
+        → Held k (rule ∷ rs) (now (holder .exit)) (now (shares .exit)) × Had k rs rule r) ⌝ }
+{
+    let at = first_place(places, k, rule);
+    let had = holder[at] as usize;
+    pass_on(
+        holder,
+        shares,
+        at,
+        1 << (k - rule.len),
+        had,
+        rule.backend - 1,
+    );
+    had
+}
+
+// The newest rule is taken back: its suffix goes to the backend that had it.
+pub fn take_back(
+    holder: &mut [u16],
+    shares: &mut [u64],
+    places: &[u16],
+    k: usize,
+    rule: Rule,
+    had: usize,
+)
+    requires { ⌜ ((rs : List rules.Rule) × (Held k (rule ∷ rs) (now holder) (now shares) × Had k rs rule had)) ⌝ }
+    requires { ⌜ (k ≤ mostBits) × (Known k mostBackends rule × Places mostBits (now places)) ⌝ }
+    ensures { λ _. ⌜ ((rs : List rules.Rule) → Held k (rule ∷ rs) (now (holder .entry)) (now (shares .entry)) → Had k rs rule had
+        → Held k rs (now (holder .exit)) (now (shares .exit))) ⌝ }
+{
+    let at = first_place(places, k, rule);
+    pass_on(
+        holder,
+        shares,
+        at,
+        1 << (k - rule.len),
+        rule.backend - 1,
+        had,
+    );
 }
 
 // The length of the longest suffix of a list's rules.

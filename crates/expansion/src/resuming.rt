@@ -5,22 +5,25 @@ use crate::old_list::PER_RULE;
 use crate::rule::Ended;
 use crate::run::Run;
 use numerals::MOST_BACKENDS;
+use numerals::MOST_RULES;
 use numerals::MOST_SUFFIXES;
 use numerals::Refusal;
 ghost use mathlib.Core.Path.{_≡_};
+ghost use Prim.Native.Nat.{_≤_};
 ghost use lib.ListN.{length};
 ghost use Rattle.numerals.specs.Buffer.{filled};
-ghost use Rattle.numerals.specs.Limits.{mostBits};
+ghost use Rattle.numerals.specs.Limits.{mostBits, mostBackends};
 ghost use Rattle.numerals.specs.Suffix.{Places};
-ghost use Rattle.expansion.specs.Steps.{listOf};
+ghost use Rattle.expansion.specs.Steps.{oldest, listOf};
 ghost use Rattle.expansion.specs.KeptShares.{SharesKept};
 ghost use Rattle.expansion.specs.Answer.{targetsMade};
 ghost use Rattle.expansion.specs.OldList.{rulesFrom};
 ghost use Rattle.expansion.specs.Resume.{frameFrom, checkOld, numbersResumed, resumeAnswer, isResumed};
 ghost use Rattle.expansion.specs.Inner.Lists.{newestFirst};
+ghost use Rattle.expansion.specs.Inner.OldList.{Proper};
 ghost use Rattle.expansion.specs.Inner.Run.{Made};
-ghost use Rattle.expansion.specs.Inner.Laying.{Starts};
-ghost use Rattle.expansion.specs.Inner.Resume.{Found, OneMore, betterOf};
+ghost use Rattle.expansion.specs.Inner.Laying.{Held, LaidTo, Starts};
+ghost use Rattle.expansion.specs.Inner.Resume.{Found, foundOf, Tried};
 ghost use Rattle.expansion.specs.declared.call.Checked.the-variants as checked;
 ghost use Rattle.expansion.specs.declared.ledger.Ledger as ledger;
 
@@ -36,8 +39,14 @@ pub enum Resumed {
     Refused(Refusal),
 }
 
-// The largest number of kept rules so far whose list ended within tolerance, and that list; 0 where none did.
-pub struct Best {
+// The rules of an old list, the oldest first, and for each but the `*` the backend that had its suffix before.
+pub struct Laid {
+    pub list: RuleList,
+    pub had: [usize; MOST_RULES],
+}
+
+// A number of kept rules that was tried, and the list that it came to, where that ended within tolerance; 0 where it didn't.
+pub struct Attempt {
     pub kept: usize,
     pub list: RuleList,
 }
@@ -82,24 +91,23 @@ fn run_kept(
     )
 }
 
-// A list that ended within is better than those of fewer kept rules.
-fn better(best: Best, kept: usize, run: Run) -> Best
-    ensures { λ r. ⌜ r ≡ betterOf (run .ended) (record { kept = kept; list = run .list }) best ⌝ }
+// The list of so many kept rules, if it ended within; otherwise the other, which says that it didn't.
+fn found(run: Run, kept: usize, other: Attempt) -> Attempt
+    ensures { λ r. ⌜ r ≡ foundOf (run .ended) (record { kept = kept; list = run .list }) other ⌝ }
 {
     let ended = run.ended;
     match ended {
         Ended::Within => {
             let list = run.list;
-            Best { kept, list }
+            Attempt { kept, list }
         }
-        Ended::NoGain => best,
-        Ended::Budget => best,
+        Ended::NoGain => other,
+        Ended::Budget => other,
     }
 }
 
-// One number of kept rules more. Where too many backends are beyond the tolerance, the list can't end within and isn't run.
+// One number of kept rules. Where too many backends are beyond the tolerance, the list can't end within and isn't run.
 fn try_kept(
-    best: Best,
     holder: [u16; MOST_SUFFIXES],
     shares: &[u64],
     places: &[u16],
@@ -108,53 +116,72 @@ fn try_kept(
     k: usize,
     tolerance: u64,
     budget: usize,
-) -> Best
+) -> Attempt
     requires { ⌜ Starts k tolerance (now weights) list holder (now shares) budget × Places mostBits (now places) ⌝ }
-    ensures { λ r. ⌜ OneMore (frameFrom (targetsMade k (now (weights .entry))) tolerance (newestFirst (list .rules) (list .count))) budget
-        (list .count) best r ⌝ }
+    ensures { λ r. ⌜ Tried (frameFrom (targetsMade k (now (weights .entry))) tolerance (newestFirst (list .rules) (list .count))) budget
+        (list .count) r ⌝ }
 {
     let kept = list.count;
+    let none = Attempt { kept: 0, list };
     if crate::hopeless::is_hopeless(weights, shares, k, tolerance, budget - kept) {
-        return best;
+        return none;
     }
     let run = run_kept(holder, shares, places, list, weights, k, tolerance, budget);
-    better(best, kept, run)
+    found(run, kept, none)
 }
 
-// The largest number of kept rules whose list ends within tolerance. The oldest rules are laid one after the other, and the
-// list is taken up from each that isn't hopeless.
-fn find_best(k: usize, tolerance: u64, old: &[usize], weights: &[u64]) -> Best
+// All rules of an old list laid on top of its `*`.
+fn lay_all(holder: &mut [u16], shares: &mut [u64], places: &[u16], k: usize, old: &[usize]) -> Laid
+    requires { ⌜ (k ≤ mostBits) × (Proper k mostBackends (rulesFrom (now old)) × Places mostBits (now places)) ⌝ }
+    requires { ⌜ Held k (oldest 1 (rulesFrom (now old))) (now holder) (now shares) ⌝ }
+    ensures count { λ r. ⌜ r .list .count ≡ length (rulesFrom (now (old .entry))) ⌝ }
+    ensures laid { λ r. ⌜ (let R = rulesFrom (now (old .entry))
+        in LaidTo k R (length R) (now (holder .exit)) (now (shares .exit)) (r .list .rules) (r .had)) ⌝ }
+{
+    let n = old.len() / PER_RULE;
+    let star = crate::old_list::rule_at(old, n - 1);
+    let mut list = crate::list::of_one(star, 0);
+    let mut had = [0usize; MOST_RULES];
+    let mut i = 1;
+    while i < n {
+        let rule = crate::old_list::rule_at(old, n - 1 - i);
+        had[i] = crate::laying::lay(holder, shares, places, k, rule);
+        list.rules[i] = rule;
+        i += 1;
+    }
+    list.count = n;
+    Laid { list, had }
+}
+
+// The largest number of kept rules whose list ends within tolerance. All rules are laid, and the newest is taken back before each
+// further try, until a list does.
+fn find_best(k: usize, tolerance: u64, old: &[usize], weights: &[u64]) -> Attempt
     requires { ⌜ checkOld k tolerance (now old) (now weights) ≡ checked.Sound ⌝ }
     ensures { λ r. ⌜ (let R = rulesFrom (now (old .entry)) in Found (targetsMade k (now (weights .entry))) tolerance R (length R) r) ⌝ }
 {
     let n = old.len() / PER_RULE;
     let places = numerals::all_places();
-    let mut holder = [0u16; MOST_SUFFIXES];
-    let mut shares = [0u64; MOST_BACKENDS];
-    shares[0] = 1 << k;
     let star = crate::old_list::rule_at(old, n - 1);
-    let mut list = crate::list::of_one(star, 0);
-    let mut best = Best { kept: 0, list };
-    let mut i = 0;
-    while i < n {
-        let rule = crate::old_list::rule_at(old, n - 1 - i);
-        crate::laying::lay(&mut holder, &mut shares, &places, k, rule);
-        list.rules[i] = rule;
-        list.count = i + 1;
-        best = try_kept(
-            best,
-            holder,
-            &shares,
-            &places,
-            list,
-            weights,
-            k,
-            tolerance,
-            n,
-        );
-        i += 1;
+    let first = star.backend - 1;
+    let mut holder = [first as u16; MOST_SUFFIXES];
+    let mut shares = [0u64; MOST_BACKENDS];
+    shares[first] = 1 << k;
+    let laid = lay_all(&mut holder, &mut shares, &places, k, old);
+    let mut list = laid.list;
+    let had = laid.had;
+    loop {
+        let best = try_kept(holder, &shares, &places, list, weights, k, tolerance, n);
+        let left = list.count - 1;
+        if 0 < best.kept {
+            return best;
+        }
+        if left == 0 {
+            return best;
+        }
+        let rule = list.rules[left];
+        crate::laying::take_back(&mut holder, &mut shares, &places, k, rule, had[left]);
+        list.count = left;
     }
-    best
 }
 
 // Of an old list in numbers, the newest rule first, the oldest rules are kept, as many as can be so that the steps of document

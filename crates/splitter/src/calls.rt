@@ -11,7 +11,7 @@ use commands::Outcome;
 fn split_text(text: &[u8]) {
     let mut out = [0u8; commands::ROOM];
     let n = commands::split(text, &mut out);
-    output::print(&out, n);
+    output::print(output::text(&out, n));
 }
 
 // splitter: a sheet on standard input
@@ -36,9 +36,9 @@ pub fn split() {
     }
 }
 
-fn print_outcome(outcome: Outcome, out: &[u8; commands::ROOM], command: Command) {
+fn print_outcome(outcome: Outcome, out: &[u8; commands::LINES_ROOM], command: Command) {
     match outcome {
-        Outcome::Answer(n) => output::print(out, n),
+        Outcome::Answer(n) => output::print(start(out, n)),
         Outcome::NoNumber(place) => arguments::no_number(place, command),
     }
 }
@@ -49,7 +49,7 @@ fn look(table: &[u8]) {
     let s = os::arg(3, &mut service);
     let mut address = [0u8; arguments::ROOM];
     let a = os::arg(4, &mut address);
-    let mut out = [0u8; commands::ROOM];
+    let mut out = [0u8; commands::LINES_ROOM];
     let outcome = commands::lookup(table, start(&service, s), start(&address, a), &mut out);
     print_outcome(outcome, &out, Command::Lookup);
 }
@@ -67,11 +67,9 @@ pub fn lookup() {
     }
 }
 
-// The service is the fourth argument. Names and service take turns in one space.
-fn answer_two(old: &[u8], new: &[u8], space: &mut [u8], command: Command) {
-    let n = os::arg(4, space);
-    let service = start(space, n);
-    let mut out = [0u8; commands::ROOM];
+// The answer about two texts and a service.
+fn answer_two(old: &[u8], new: &[u8], service: &[u8], command: Command) {
+    let mut out = [0u8; commands::LINES_ROOM];
     let outcome = if let Command::Update = command {
         commands::update(old, new, service, &mut out)
     } else {
@@ -80,12 +78,30 @@ fn answer_two(old: &[u8], new: &[u8], space: &mut [u8], command: Command) {
     print_outcome(outcome, &out, command);
 }
 
+// The same where the service, the fourth argument, may have any length.
+fn answer_long(old: &[u8], new: &[u8], command: Command) {
+    let mut service = [0u8; arguments::ROOM];
+    let n = os::arg(4, &mut service);
+    answer_two(old, new, start(&service, n), command);
+}
+
+// The service is the fourth argument, and mostly short.
+fn read_service(old: &[u8], new: &[u8], command: Command) {
+    let mut service = [0u8; arguments::SHORT];
+    let n = os::arg(4, &mut service);
+    if n == 0 {
+        answer_long(old, new, command);
+    } else {
+        answer_two(old, new, start(&service, n), command);
+    }
+}
+
 // The second text is the third argument.
-fn read_second(old: &[u8], space: &mut [u8], command: Command) {
+fn read_second(old: &[u8], command: Command) {
     let mut new = [0u8; TEXT];
-    let read = input::read_named(3, space, &mut new);
+    let read = input::read_file(3, &mut new);
     match read {
-        Read::Bytes(n) => answer_two(old, start(&new, n), space, command),
+        Read::Bytes(n) => read_service(old, start(&new, n), command),
         Read::Failed => output::usage(command),
     }
 }
@@ -99,11 +115,10 @@ fn read_two(command: Command) {
         output::complain(b"splitter: standard input is read only once\n", command);
         return;
     }
-    let mut space = [0u8; arguments::ROOM];
     let mut old = [0u8; TEXT];
-    let read = input::read_named(2, &mut space, &mut old);
+    let read = input::read_file(2, &mut old);
     match read {
-        Read::Bytes(n) => read_second(start(&old, n), &mut space, command),
+        Read::Bytes(n) => read_second(start(&old, n), command),
         Read::Failed => output::usage(command),
     }
 }
@@ -126,7 +141,7 @@ fn measure(table: &[u8]) {
     let v = os::arg(4, &mut volume);
     let mut backend = [0u8; arguments::ROOM];
     let b = os::arg(5, &mut backend);
-    let mut out = [0u8; commands::ROOM];
+    let mut out = [0u8; commands::LINES_ROOM];
     let outcome = commands::gauge(
         table,
         start(&service, s),
@@ -157,5 +172,5 @@ pub fn help() {
     }
     let mut out = [0u8; commands::ROOM];
     let n = commands::help(&mut out);
-    output::print(&out, n);
+    output::print(output::text(&out, n));
 }

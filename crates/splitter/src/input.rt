@@ -95,16 +95,10 @@ pub fn read_input(text: &mut [u8]) -> Read
     read_open(STDIN_FILENO, b"standard input", text)
 }
 
-// Reads the file that an argument names, or standard input for `-`, into a buffer; the name goes into a space of its own. Where
-// that can't be, says so on standard error.
-pub fn read_named(i: usize, space: &mut [u8], text: &mut [u8]) -> Read
+// Reads the file of a name into a buffer; where that can't be, says so on standard error.
+fn read_named(name: &[u8], text: &mut [u8]) -> Read
     ensures { λ r. ⌜ bytes r ≤ length (now (text .exit)) ⌝ }
 {
-    if arguments::is_input(i) {
-        return read_input(text);
-    }
-    let n = os::arg(i, space);
-    let name = start(space, n);
     let file = os::open_read(name);
     if file < 0 {
         os::fail(name);
@@ -115,10 +109,26 @@ pub fn read_named(i: usize, space: &mut [u8], text: &mut [u8]) -> Read
     read
 }
 
-// The same with a space for the name.
+// Reads the file that an argument of any length names.
+fn read_long_named(i: usize, text: &mut [u8]) -> Read
+    ensures { λ r. ⌜ bytes r ≤ length (now (text .exit)) ⌝ }
+{
+    let mut name = [0u8; arguments::ROOM];
+    let n = os::arg(i, &mut name);
+    read_named(start(&name, n), text)
+}
+
+// Reads the file that an argument names, or standard input for `-`, into a buffer; where that can't be, says so on standard error.
 pub fn read_file(i: usize, text: &mut [u8]) -> Read
     ensures { λ r. ⌜ bytes r ≤ length (now (text .exit)) ⌝ }
 {
-    let mut space = [0u8; arguments::ROOM];
-    read_named(i, &mut space, text)
+    if arguments::is_input(i) {
+        return read_input(text);
+    }
+    let mut name = [0u8; arguments::SHORT];
+    let n = os::arg(i, &mut name);
+    if n == 0 {
+        return read_long_named(i, text);
+    }
+    read_named(start(&name, n), text)
 }

@@ -1,110 +1,51 @@
--- Rules laid over the suffixes: a rule stride by stride, and one rule more over those behind it.
-use Prim.Native.Nat.{ℕ, zero, suc, _+_, _-_, _*_, _/_, _%_, _^_, _≤_, _<_}
+-- Rules spread over the suffixes in the order of tree places: the run of a rule, one rule more over those behind it, and a count by places.
+use Prim.Native.Nat.{ℕ, zero, suc, _+_, _-_, _*_, _/_, _^_, _≤_, _<_}
 use mathlib.Core.Bool.{Bool, true}
 use mathlib.Core.List.{List, [], _∷_}
 use mathlib.Core.Logic.{_≢_}
 use mathlib.Core.Path.{_≡_, refl, ap, sym, _∙_}
-use native.Mathlib.Decide.{decLt, ℕ-discrete}
-use native.Mathlib.Nat.{suc-mul, mul-le-mul-right, mod-eq-of-lt, add-mod-right, div-add-mod'}
 use native.Mathlib.Omega.{arith}
-use lib.ListN.{length, getD, set, drop, replicate, length-set, length-replicate, getD-replicate}
-use lib.Seq.{getD-set-same, getD-set-other}
-use lib.Pow.{pow-pos}
+use lib.Dec.{eqb}
+use lib.ListN.{length, getD, drop, replicate, length-replicate, getD-replicate}
 use borrow.Author.Tests.{eq-eqb, ne-eqb}
 use Rattle.numerals.specs.Limits.{mostBits, mostSuffixes}
 use Rattle.numerals.specs.Pick.{pick}
+use Rattle.numerals.specs.Suffix.{place}
+use Rattle.numerals.specs.Sums.{sumTo, countTo}
+use Rattle.numerals.proofs.Place.{place-lt, place-involution}
 use Rattle.numerals.proofs.Powers.{pow-few}
+use Rattle.numerals.proofs.Sums.{sum-ext, sum-zero, sum-one, sum-swap, bit}
 use Rattle.expansion.specs.FirstMatch.{isRule, matches, firstMatch}
 use Rattle.expansion.specs.OldList.{rulesFrom}
+use Rattle.expansion.specs.Inner.Holders.{Given}
 use Rattle.expansion.specs.Inner.OldList.{ruleAt}
 use Rattle.expansion.specs.declared.rule.Rule.{Rule}
+use Rattle.expansion.proofs.Nodes.{given-at}
 use Rattle.expansion.proofs.OldNumbers.{rules-count, rules-more, rules-end}
-use Rattle.update.specs.Inner.Spread.{RulesOf, Laid, Spread}
+use Rattle.update.specs.Inner.Spread.{RulesOf, Covered, Spread}
 
--- between two numbers a stride apart no other has their rest
-apart : (p m s : ℕ) → m < s → s < m + p → s % p ≢ m % p
-apart p m s above below e = go (decLt (m / p) (s / p))
-  where
-    go : Dec (m / p < s / p) → ⊥
-    go (yes l) = omega (arith, mul-le-mul-right p l, suc-mul (m / p) p, div-add-mod' s p, div-add-mod' m p)
-    go (no l) =
-        let h : s / p ≤ m / p = omega arith in
-        omega (arith, mul-le-mul-right p h, div-add-mod' s p, div-add-mod' m p)
-
--- a rule is laid over the suffixes below m, the next that it matches
-pub record LaidBelow (m : ℕ) (r : Rule) (holder holder′ : List ℕ) : Type 0 where
-  pub long : length holder′ ≡ length holder
-  pub next : m % 2 ^ (r .len) ≡ r .value
-  pub below : (s : ℕ) → s < m → getD holder′ s 0 ≡ pick (matches r s) (r .backend) (getD holder s 0)
-  pub other : (s : ℕ) → m ≤ s → getD holder′ s 0 ≡ getD holder s 0
-
-taken : (r : Rule) (s x : ℕ) → s % 2 ^ (r .len) ≡ r .value → r .backend ≡ pick (matches r s) (r .backend) x
-unfolding matches
-taken r s x e = ap (λ (m : Bool). pick m (r .backend) x) (sym (eq-eqb (s % 2 ^ (r .len)) (r .value) e))
-
-passed : (r : Rule) (s x : ℕ) → s % 2 ^ (r .len) ≢ r .value → x ≡ pick (matches r s) (r .backend) x
-unfolding matches
-passed r s x d = ap (λ (m : Bool). pick m (r .backend) x) (sym (ne-eqb (s % 2 ^ (r .len)) (r .value) d))
-
--- nothing below its value matches a rule
-pub laid-start : (r : Rule) (holder : List ℕ) → r .value < 2 ^ (r .len) → LaidBelow (r .value) r holder holder
-laid-start r holder h =
-    record {
-      long = refl;
-      next = mod-eq-of-lt h;
-      below = λ s l. passed r s (getD holder s 0) (λ e. differs s l e);
-      other = λ s l. refl;
-    }
-  where
-    differs : (s : ℕ) → s < r .value → s % 2 ^ (r .len) ≡ r .value → ⊥
-    differs s l e = let m : s < 2 ^ (r .len) = omega arith in omega (arith, mod-eq-of-lt m)
-
--- one suffix more
-pub laid-more : (m : ℕ) (r : Rule) (holder holder′ : List ℕ) → m < length holder → LaidBelow m r holder holder′
-    → LaidBelow (m + 2 ^ (r .len)) r holder (set holder′ m (r .backend))
-laid-more m r holder holder′ h L =
-    record {
-      long = length-set holder′ m (r .backend) ∙ L .long;
-      next = add-mod-right m (2 ^ (r .len)) ∙ L .next;
-      below = λ s l. below s l (ℕ-discrete s m) (decLt s m);
-      other = λ s l. getD-set-other holder′ m s (r .backend) 0 (λ e. up s l e) ∙ L .other s (omega arith);
-    }
-  where
-    up : (s : ℕ) → m + 2 ^ (r .len) ≤ s → s ≢ m
-    up s l e = omega (arith, pow-pos (r .len))
-
-    below : (s : ℕ) → s < m + 2 ^ (r .len) → Dec (s ≡ m) → Dec (s < m)
-        → getD (set holder′ m (r .backend)) s 0 ≡ pick (matches r s) (r .backend) (getD holder s 0)
-    below s l (yes e) x =
-        ap (λ (x : ℕ). getD (set holder′ m (r .backend)) x 0) e
-        ∙ getD-set-same holder′ m (r .backend) 0 (omega (arith, L .long))
-        ∙ taken r s (getD holder s 0) (rw e (L .next))
-    below s l (no d) (yes n) = getD-set-other holder′ m s (r .backend) 0 d ∙ L .below s n
-    below s l (no d) (no n) =
-        getD-set-other holder′ m s (r .backend) 0 d
-        ∙ L .other s (omega arith)
-        ∙ passed r s (getD holder s 0) (λ e. apart (2 ^ (r .len)) m s (omega arith) l (e ∙ sym (L .next)))
-
-pub laid-end : (k m : ℕ) (r : Rule) (holder holder′ : List ℕ) → 2 ^ k ≤ m → LaidBelow m r holder holder′ → Laid k r holder holder′
-laid-end k m r holder holder′ h L = record { long = L .long; at = λ s l. L .below s (omega arith) }
+-- the run of places of a rule's suffix went to its backend
+pub covered-end : (k : ℕ) (r : Rule) (holder holder′ : List ℕ) → isRule k r ≡ true
+    → Given (place (r .len) (r .value) * 2 ^ (k - r .len)) (2 ^ (k - r .len)) (r .backend) holder holder′ → Covered k r holder holder′
+covered-end k r holder holder′ R G = record { long = G .long; at = given-at k r R (r .backend) holder holder′ G }
 
 -- no rule gives nobody everything
-pub spread-none : (k : ℕ) → k ≤ mostBits → Spread k [] (replicate mostSuffixes 0)
+spread-none : (k : ℕ) → k ≤ mostBits → Spread k [] (replicate mostSuffixes 0)
 unfolding firstMatch
 spread-none k h =
     record {
       long = length-replicate {A = ℕ} mostSuffixes 0;
-      at = λ s l. getD-replicate mostSuffixes s 0 0 (omega (arith, pow-few k h));
+      at = λ p l. getD-replicate mostSuffixes p 0 0 (omega (arith, pow-few k h));
     }
 
 -- a rule over those behind it
-pub spread-more : (k : ℕ) (r : Rule) (rs : List Rule) (holder holder′ : List ℕ) → Spread k rs holder → Laid k r holder holder′
+pub spread-more : (k : ℕ) (r : Rule) (rs : List Rule) (holder holder′ : List ℕ) → Spread k rs holder → Covered k r holder holder′
     → Spread k (r ∷ rs) holder′
 unfolding firstMatch
-spread-more k r rs holder holder′ S L =
+spread-more k r rs holder holder′ S C =
     record {
-      long = L .long ∙ S .long;
-      at = λ s l. L .at s l ∙ ap (pick (matches r s) (r .backend)) (S .at s l);
+      long = C .long ∙ S .long;
+      at = λ p l. C .at p l ∙ ap (pick (matches r (place k p)) (r .backend)) (S .at p l);
     }
 
 -- rules in numbers
@@ -126,15 +67,50 @@ pub rule-kept : (k : ℕ) (cs : List ℕ) → RulesOf k (rulesFrom cs) → (i : 
     → (isRule k (ruleAt cs i) ≡ true) × (ruleAt cs i .backend < 2 ^ 16)
 rule-kept k cs R i h = rw (rule-at cs i h) at (R .each i (omega (arith, rules-count cs)))
 
--- at first no rule is laid
+-- at first no rule is spread
 pub spread-start : (k : ℕ) (cs : List ℕ) → k ≤ mostBits → Spread k (rulesFrom (drop (3 * (length cs / 3)) cs)) (replicate mostSuffixes 0)
 spread-start k cs h = rw (rules-end cs (length cs / 3) (omega arith)) (spread-none k h)
 
 pub spread-step :
     (k : ℕ) (cs : List ℕ) (left : ℕ) (holder holder′ : List ℕ) → 0 < left → left ≤ length cs / 3
     → Spread k (rulesFrom (drop (3 * left) cs)) holder
-    → Laid k (ruleAt cs (left - 1)) holder holder′
+    → Covered k (ruleAt cs (left - 1)) holder holder′
     → Spread k (rulesFrom (drop (3 * (left - 1)) cs)) holder′
-spread-step k cs left holder holder′ some most S L =
+spread-step k cs left holder holder′ some most S C =
     let back : left - 1 + 1 ≡ left = omega arith in
-    rw (rules-more cs (left - 1) (omega arith), back) (spread-more k (ruleAt cs (left - 1)) (rulesFrom (drop (3 * left) cs)) holder holder′ S L)
+    rw (rules-more cs (left - 1) (omega arith), back) (spread-more k (ruleAt cs (left - 1)) (rulesFrom (drop (3 * left) cs)) holder holder′ S C)
+
+-- a count by places
+
+-- a sum of which one part counts
+sum-single : (n : ℕ) (f : ℕ → ℕ) (j : ℕ) → j < n → ((i : ℕ) → i < n → i ≢ j → f i ≡ 0) → sumTo n f ≡ f j
+sum-single n f j l h = omega (arith, sum-one n f (λ i. 0) j l h, sum-zero n (λ i. 0) (λ i m. refl))
+
+-- a sum in another order, by a listing that taken twice gives every number back
+module _ (n : ℕ) (g : ℕ → ℕ) (inside : (i : ℕ) → i < n → g i < n) (twice : (i : ℕ) → i < n → g (g i) ≡ i) (f : ℕ → ℕ) where
+  abbrev cell : ℕ → ℕ → ℕ
+  cell i j = pick (eqb (g i) j) (f j) 0
+
+  on : (i j : ℕ) → g i ≡ j → cell i j ≡ f j
+  on i j e = rw (eq-eqb (g i) j e)
+
+  off : (i j : ℕ) → g i ≢ j → cell i j ≡ 0
+  off i j d = rw (ne-eqb (g i) j d)
+
+  row : (i : ℕ) → i < n → sumTo n (cell i) ≡ f (g i)
+  row i l = sum-single n (cell i) (g i) (inside i l) (λ j m d. off i j (λ e. d (sym e))) ∙ on i (g i) refl
+
+  column : (j : ℕ) → j < n → sumTo n (λ i. cell i j) ≡ f j
+  column j l =
+      sum-single n (λ i. cell i j) (g j) (inside j l) (λ i m d. off i j (λ e. d (sym (twice i m) ∙ ap g e))) ∙ on (g j) j (twice j l)
+
+  sum-reordered : sumTo n (λ i. f (g i)) ≡ sumTo n f
+  sum-reordered =
+      sym (sum-ext n (λ i. sumTo n (cell i)) (λ i. f (g i)) row)
+      ∙ sum-swap n n cell
+      ∙ sum-ext n (λ j. sumTo n (λ i. cell i j)) f column
+
+-- as many places have a suffix that passes as suffixes pass
+pub count-places : (k : ℕ) (t : ℕ → Bool) → countTo (2 ^ k) (λ p. t (place k p)) ≡ countTo (2 ^ k) t
+unfolding countTo
+count-places k t = sum-reordered (2 ^ k) (place k) (λ v l. place-lt k v) (place-involution k) (λ s. bit (t s))

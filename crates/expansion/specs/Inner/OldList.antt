@@ -7,6 +7,7 @@ use lib.ListN.{length, getD}
 use Rattle.numerals.specs.Limits.{mostRules}
 use Rattle.expansion.specs.FirstMatch.{isRule}
 use Rattle.expansion.specs.Inner.Lists.{noRule}
+use Rattle.expansion.specs.Inner.Sound.{Falling}
 use Rattle.expansion.specs.declared.rule.Rule.{Rule}
 
 -- rule i from 0
@@ -19,9 +20,10 @@ pub record Known (k n : ℕ) (r : Rule) : Type 0 where
   pub least : 1 ≤ r .backend
   pub most : r .backend ≤ n
 
--- rules of k bits for n backends, as many as a service may have, the last of them a `*`
+-- rules of k bits for n backends, as many as a service may have, none longer than one before it, the last of them a `*`
 pub record Proper (k n : ℕ) (rs : List Rule) : Type 0 where
   pub some : 0 < length rs
   pub few : length rs ≤ mostRules
   pub each : (i : ℕ) → i < length rs → Known k n (getD rs i noRule)
+  pub falling : Falling rs
   pub star : (getD rs (length rs - 1) noRule) .len ≡ 0

@@ -11,23 +11,23 @@ use Rattle.expansion.specs.Inner.Lists.{newestFirst}
 use Rattle.expansion.specs.declared.rule.Rule.{Rule}
 use Rattle.expansion.specs.declared.rule.Ended.{Ended}
 use Rattle.expansion.specs.declared.rule.Ended.the-variants.{Within, NoGain, Budget}
-use Rattle.expansion.specs.declared.resuming.Best.{Best}
+use Rattle.expansion.specs.declared.resuming.Attempt.{Attempt}
 
 -- of the numbers 1 to n, the largest that ends within, and its list; 0 where none does
-pub record Found (T : Targets) (tolerance : ℕ) (old : List Rule) (n : ℕ) (best : Best) : Type 0 where
+pub record Found (T : Targets) (tolerance : ℕ) (old : List Rule) (n : ℕ) (best : Attempt) : Type 0 where
   pub kept : best .kept ≡ largestTo n (endsWithin T tolerance old)
   pub few : best .list .count ≤ mostRules
   pub rules : 0 < best .kept → newestFirst (best .list .rules) (best .list .count) ≡ listKept T tolerance old (best .kept)
 
--- of two, the newer one if it ended within
-abbrev pub betterOf : Ended → Best → Best → Best
-betterOf Within new old = new
-betterOf NoGain new old = old
-betterOf Budget new old = old
+-- the one that was run where it ended within, and otherwise the other
+abbrev pub foundOf : Ended → Attempt → Attempt → Attempt
+foundOf Within run other = run
+foundOf NoGain run other = other
+foundOf Budget run other = other
 
--- the expansion from so many kept rules is tried: where its list ends within, it is the best one now, and otherwise the best so far stays
-pub record OneMore (F : Frame) (budget kept : ℕ) (best best′ : Best) : Type 0 where
-  pub number : isWithin F (listOf F budget) ≡ true → best′ .kept ≡ kept
-  pub few : isWithin F (listOf F budget) ≡ true → best′ .list .count ≤ mostRules
-  pub rules : isWithin F (listOf F budget) ≡ true → newestFirst (best′ .list .rules) (best′ .list .count) ≡ listOf F budget
-  pub other : isWithin F (listOf F budget) ≡ false → best′ ≡ best
+-- the expansion from so many kept rules was tried: its number and its list where that ends within, and otherwise 0
+pub record Tried (F : Frame) (budget kept : ℕ) (best : Attempt) : Type 0 where
+  pub few : best .list .count ≤ mostRules
+  pub number : isWithin F (listOf F budget) ≡ true → best .kept ≡ kept
+  pub rules : isWithin F (listOf F budget) ≡ true → newestFirst (best .list .rules) (best .list .count) ≡ listOf F budget
+  pub other : isWithin F (listOf F budget) ≡ false → best .kept ≡ 0

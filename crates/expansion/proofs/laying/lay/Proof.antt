@@ -1,154 +1,128 @@
--- `laying::lay` meets its contract. The loop's invariant: the first i places went to the rule's backend, and the counts are right.
-use Prim.Native.Nat.{ℕ, _+_, _-_, _*_, _%_, _^_, _≤_, _<_}
+-- `laying::lay` meets its contract: whoever has the first place of the suffix has it wholly.
+use Prim.Native.Nat.{ℕ, _-_, _*_, _%_, _^_, _≤_, _<_}
 use mathlib.Core.List.{List}
-use mathlib.Core.Path.{_≡_, subst, sym}
+use mathlib.Core.Path.{_≡_, sym, ap, _∙_, subst}
 use native.Mathlib.Omega.{arith}
-use lib.Pow.{pow-pos}
-use Rattle.numerals.specs.Limits.{mostSuffixes}
-use Rattle.numerals.proofs.Place.{place-lt}
+use lib.ListN.{getD}
+use borrow.Author.Needs.{needs}
+use Rattle.numerals.specs.Limits.{mostBits, mostSuffixes}
+use Rattle.numerals.specs.Suffix.{place}
 use Rattle.numerals.proofs.Powers.{pow-few, shifted}
 use Rattle.expansion.specs.Inner.Holders.{Given}
-use Rattle.expansion.specs.Inner.Laying.{Counted, Inside}
-use Rattle.expansion.proofs.FirstMatch.{rule-short, rule-bits}
-use Rattle.expansion.proofs.Holdings.{given-none, given-more}
-use Rattle.expansion.proofs.LaidRules.{inside-node}
+use Rattle.expansion.specs.Inner.Laying.{passedOn, Held, Had}
+use Rattle.expansion.specs.Inner.Sound.{Lengths}
+use Rattle.expansion.specs.declared.rule.Rule.{Rule}
+use Rattle.expansion.proofs.FirstMatch.{rule-short}
+use Rattle.expansion.proofs.LaidRules.{at-inside, had-first, lay-passable, held-laid}
 use Rattle.expansion.proofs.laying.lay.Statement.{statement}
 use Rattle.expansion.proofs.laying.lay.Tie as tie
 
-abbrev Inv-loop : tie.InvT-loop
-Inv-loop holder₀ shares₀ places k size b at i₀ holder shares i = (i ≤ size) × Given at i b holder₀ holder × Counted k holder shares
+module _ (s : tie.Start) where
+  abbrev k : ℕ
+  k = s .args .k
 
-abbrev μ-loop : tie.MeasureT-loop
-μ-loop holder₀ shares₀ places k size b at i₀ holder shares i = size - i
+  abbrev rule : Rule
+  rule = s .args .rule
 
-abbrev Begun : Type 0
-Begun = tie.Start Inv-loop μ-loop
+  abbrev holder : List ℕ
+  holder = s .args .holder .now
 
-short : (s : Begun) → s .args .rule .len ≤ s .args .k
-short s = rule-short (s .args .k) (s .args .rule) (s .pre .1 .0 .rule)
+  abbrev shares : List ℕ
+  shares = s .args .shares .now
 
-size-is : (s : Begun) → (1 * 2 ^ (s .args .k - s .args .rule .len)) % 2 ^ 64 ≡ 2 ^ (s .args .k - s .args .rule .len)
-size-is s = shifted (s .args .k - s .args .rule .len) (omega (arith, s .pre .0))
+  few : k ≤ mostBits
+  few = s .pre .1 .0
 
-sub-size : tie.Need-sub-size Inv-loop μ-loop
-sub-size c = short (c .before .before .before .before)
+  short : rule .len ≤ k
+  short = rule-short k rule (s .pre .1 .1 .0 .rule)
 
-shl-size : tie.Need-shl-size Inv-loop μ-loop
-shl-size c = omega (arith, c .before .before .before .before .pre .0)
-
-sub-b : tie.Need-sub-b Inv-loop μ-loop
-sub-b c = c .before .before .before .before .before .pre .1 .0 .least
-
-suffix-at-requires : tie.Need-suffix-at-requires Inv-loop μ-loop
-suffix-at-requires c κs =
-    let s = c .before .before .before .before .before in
-    (omega (arith, short s, s .pre .0), (rule-bits (s .args .k) (s .args .rule) (s .pre .1 .0 .rule), s .pre .1 .1 .1))
-
-abbrev begun : tie.After-suffix-at Inv-loop μ-loop → Begun
-begun c = c .before .before .before .before .before .before
-
--- every place of the suffix is one of all
-inside :
-    (c : tie.After-suffix-at Inv-loop μ-loop) (i : ℕ) → i < 2 ^ (begun c .args .k - begun c .args .rule .len)
-    → c .suffix-at .result * 2 ^ (begun c .args .k - begun c .args .rule .len) + i < 2 ^ (begun c .args .k)
-inside c i m =
-    let s = begun c in
-    let r = s .args .rule in
-    inside-node (s .args .k) (r .len) (c .suffix-at .result) i (short s) (omega (arith, c .suffix-at .ensures, place-lt (r .len) (r .value))) m
-
-mul-at : tie.Need-mul-at Inv-loop μ-loop
-mul-at c =
-    let s = begun c in
-    rw (size-is s) (omega (arith, inside c 0 (pow-pos (s .args .k - s .args .rule .len)), pow-few (s .args .k) (s .pre .0)))
-
-loop-holds : tie.Need-loop-holds Inv-loop μ-loop
-loop-holds c = let s = begun c in (omega arith, given-none _ _ (s .args .holder .now), s .pre .1 .1 .0)
-
--- the place that the loop has come to
-module _ (t : tie.In-loop Inv-loop μ-loop) where
-  abbrev s : Begun
-  s = begun (t .before .before)
-
-  less : t .before .loop .i < 2 ^ (s .args .k - s .args .rule .len)
-  less = rw (← size-is s) (omega arith)
+  size-is : (1 * 2 ^ (k - rule .len)) % 2 ^ 64 ≡ 2 ^ (k - rule .len)
+  size-is = shifted (k - rule .len) (omega (arith, few))
 
   abbrev at : ℕ
-  at = t .before .before .suffix-at .result * ((1 * 2 ^ (s .args .k - s .args .rule .len)) % 2 ^ 64)
+  at = place (rule .len) (rule .value) * 2 ^ (k - rule .len)
 
-  there : Inside (s .args .k) (at + t .before .loop .i) (s .args .rule .backend - 1)
-  there =
-      record {
-        few-bits = s .pre .0;
-        place = rw (size-is s) (inside (t .before .before) (t .before .loop .i) less);
-        backend = omega (arith, s .pre .1 .0 .least, s .pre .1 .0 .most);
-      }
+  small : at < mostSuffixes
+  small = omega (arith, at-inside k rule (s .pre .1 .1 .0), pow-few k few)
 
-  few : at + t .before .loop .i < mostSuffixes
-  few = omega (arith, there .place, pow-few (s .args .k) (s .pre .0))
+  had : (rs : List Rule) → Held k rs holder shares → Lengths (rule .len) rs → Had k rs rule (getD holder at 0)
+  had rs H L = had-first k rule (s .pre .1 .1 .0) few rs holder shares H L
 
-add-pass-on : tie.Need-add-pass-on Inv-loop μ-loop
-add-pass-on c = omega (arith, few (c .before .before))
+first-place-requires : tie.Need-first-place-requires
+first-place-requires c κs = let s = c .before .before .before in (few s, (s .pre .1 .1 .0 .rule, s .pre .1 .1 .1))
 
-pass-on-requires : tie.Need-pass-on-requires Inv-loop μ-loop
-pass-on-requires c κs = let t = c .before .before in (s t .args .k, t .before .loop .inv .2, there t)
+mul-had : tie.Need-mul-had
+mul-had c = omega (arith, c .first-place .ensures, small (c .before .before .before .before))
 
-add-i : tie.Need-add-i Inv-loop μ-loop
-add-i c = omega arith
+slice-read-had : tie.Need-slice-read-had
+slice-read-had c =
+    let s = c .before .before .before .before .before in
+    omega (arith, c .before .first-place .ensures, small s, s .pre .0 .1 .0 .wide)
 
-loop-less : tie.Need-loop-less Inv-loop μ-loop
-loop-less c = omega arith
+cast-had : tie.Need-cast-had
+cast-had c =
+    let f = c .before in
+    let s = f .before .before .before .before in
+    let H = had s (s .pre .0 .0) (s .pre .0 .1 .0) (s .pre .0 .1 .1) in
+    omega (arith, H .known, ap (λ (x : ℕ). getD (holder s) x 0) (f .first-place .ensures))
 
-loop-again : tie.Need-loop-again Inv-loop μ-loop
-loop-again c =
+sub-pass-on : tie.Need-sub-pass-on
+sub-pass-on c = short (c .before .before .before .before .before .before .before .before)
+
+shl-pass-on : tie.Need-shl-pass-on
+shl-pass-on c = search needs
+
+sub-pass-on-2 : tie.Need-sub-pass-on-2
+sub-pass-on-2 c = c .before .before .before .before .before .before .before .before .before .pre .1 .1 .0 .least
+
+pass-on-requires : tie.Need-pass-on-requires
+pass-on-requires c κs =
+    let f = c .before .before .before .before .before in
+    let s = f .before .before .before .before in
+    let rs = s .pre .0 .0 in
+    let H = s .pre .0 .1 .0 in
+    rw (f .first-place .ensures, size-is s)
+    (lay-passable (k s) (rule s) (s .pre .1 .1 .0) (few s) rs (holder s) (shares s) (getD (holder s) (at s) 0) (had s rs H (s .pre .0 .1 .1)) H)
+
+same-length : tie.Need-same-length
+same-length c = search needs
+
+same-length-2 : tie.Need-same-length-2
+same-length-2 c = search needs
+
+returns : tie.Need-returns
+returns c rs H L =
     let p = c .before .before .before .before in
-    let t = p .before .before .before in
-    let l = t .before .loop in
-    let holder = s t .args .holder .now in (
-      omega arith,
-      subst (λ (h : List ℕ). Given (at t) (l .i + 1) (s t .args .rule .backend - 1) holder h) (sym (p .pass-on .ensures .0))
-          (given-more (at t) (l .i) (s t .args .rule .backend - 1) holder (l .holder) (omega (arith, few t, s t .pre .1 .1 .0 .held)) (l .inv .1)),
-      p .pass-on .ensures .1 (s t .args .k) (l .inv .2) (there t),
+    let f = p .before .before .before .before .before .before in
+    let s = f .before .before .before .before in
+    let b : ℕ = rule s .backend - 1 in
+    let h′ = p .pass-on .last .0 in
+    let s′ = p .pass-on .last .1 .0 in
+    let is = f .first-place .ensures in
+    let given : Given (at s) (2 ^ (k s - rule s .len)) b (holder s) h′ =
+    subst (λ (x : ℕ). Given x (2 ^ (k s - rule s .len)) b (holder s) h′) is
+    (subst (λ (x : ℕ). Given (f .first-place .result) x b (holder s) h′) (size-is s) (p .pass-on .ensures .0)) in
+    let passed : s′ ≡ passedOn (shares s) (getD (holder s) (at s) 0) b (2 ^ (k s - rule s .len)) =
+    p .pass-on .ensures .1
+    ∙ ap (λ (x : ℕ). passedOn (shares s) (getD (holder s) x 0) b (1 * 2 ^ (k s - rule s .len) % 2 ^ 64)) is
+    ∙ ap (passedOn (shares s) (getD (holder s) (at s) 0) b) (size-is s) in
+    let B = had s rs H L in (
+      held-laid (k s) (rule s) (s .pre .1 .1 .0) (few s) rs (holder s) (shares s) (getD (holder s) (at s) 0) B h′ s′ H given passed,
+      subst (λ (x : ℕ). Had (k s) rs (rule s) (getD (holder s) x 0)) (sym is) B,
     )
-
-same-length : tie.Need-same-length Inv-loop μ-loop
-same-length c = c .before .loop .inv .1 .long
-
-same-length-2 : tie.Need-same-length-2 Inv-loop μ-loop
-same-length-2 c =
-    let l = c .before in omega (arith, l .loop .inv .2 .long, begun (l .before) .pre .1 .1 .0 .long)
-
-returns : tie.Need-returns Inv-loop μ-loop
-returns c =
-    let l = c .before in
-    let s = begun (l .before) in
-    let all : l .loop .i ≡ (1 * 2 ^ (s .args .k - s .args .rule .len)) % 2 ^ 64 = omega arith in
-    let at = l .before .suffix-at .result in
-    let b = s .args .rule .backend - 1 in
-    let counted : Given (at * ((1 * 2 ^ (s .args .k - s .args .rule .len)) % 2 ^ 64)) ((1 * 2 ^ (s .args .k - s .args .rule .len)) % 2 ^ 64) b
-    (s .args .holder .now) (l .loop .holder) =
-    subst (λ (n : ℕ). Given (at * ((1 * 2 ^ (s .args .k - s .args .rule .len)) % 2 ^ 64)) n b (s .args .holder .now) (l .loop .holder)) all
-    (l .loop .inv .1) in
-    let given : Given (at * 2 ^ (s .args .k - s .args .rule .len)) (2 ^ (s .args .k - s .args .rule .len)) b (s .args .holder .now) (l .loop .holder) =
-    subst (λ (z : ℕ). Given (at * z) z b (s .args .holder .now) (l .loop .holder)) (size-is s) counted in
-    (rw (← l .before .suffix-at .ensures) given, l .loop .inv .2)
 
 pub lay-spec : {M : Type 1} → statement M
 lay-spec =
     tie.close
     (tie.spec
-    Inv-loop
-    μ-loop
-    sub-size
-    shl-size
-    sub-b
-    suffix-at-requires
-    mul-at
-    loop-holds
-    add-pass-on
+    first-place-requires
+    mul-had
+    slice-read-had
+    cast-had
+    sub-pass-on
+    shl-pass-on
+    sub-pass-on-2
     pass-on-requires
-    add-i
-    loop-less
-    loop-again
     same-length
     same-length-2
     returns)

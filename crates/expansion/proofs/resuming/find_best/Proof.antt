@@ -1,35 +1,35 @@
--- `resuming::find_best` meets its contract. The loop's invariant: the numbers up to i are tried.
-use Prim.Native.Nat.{ℕ, suc, _+_, _-_, _/_, _≤_, _<_}
-use mathlib.Core.List.{List}
-use mathlib.Core.Path.{_≡_, sym, subst}
+-- `resuming::find_best` meets its contract. The loop's invariant: with more rules than are laid none ends within.
+use Prim.Native.Nat.{ℕ, suc, _-_, _/_, _≤_, _<_}
+use mathlib.Core.List.{List, _∷_}
+use mathlib.Core.Logic.{_≢_}
+use mathlib.Core.Path.{_≡_, ap, sym, _∙_, subst}
 use native.Mathlib.Omega.{arith}
-use lib.ListN.{length, set}
+use lib.ListN.{length, getD}
 use borrow.Author.Needs.{needs}
 use Rattle.numerals.specs.Limits.{mostBackends, mostRules}
 use Rattle.numerals.specs.Sums.{listTo}
 use Rattle.numerals.proofs.Powers.{shifted}
-use Rattle.expansion.specs.OldList.{rulesFrom}
-use Rattle.expansion.specs.Inner.OldList.{ruleAt, Known, Proper}
 use Rattle.expansion.specs.Answer.{targetsMade}
-use Rattle.expansion.specs.Steps.{Frame}
-use Rattle.expansion.specs.Resume.{frameFrom}
-use Rattle.expansion.specs.Inner.Lists.{newestFirst}
-use Rattle.expansion.specs.Inner.Resume.{OneMore}
+use Rattle.expansion.specs.OldList.{rulesFrom}
+use Rattle.expansion.specs.Resume.{endsWithin, largestTo}
+use Rattle.expansion.specs.Steps.{oldest}
+use Rattle.expansion.specs.Inner.Laying.{Held, Had, LaidTo, Starts}
+use Rattle.expansion.specs.Inner.Lists.{noRule}
+use Rattle.expansion.specs.Inner.OldList.{ruleAt, Known, Proper}
 use Rattle.expansion.specs.Inner.Run.{Valid}
-use Rattle.expansion.specs.Inner.Laying.{Laid, Starts}
 use Rattle.expansion.specs.declared.rule.Rule.{Rule}
-use Rattle.expansion.specs.declared.list.RuleList.{RuleList}
-use Rattle.expansion.proofs.KeptSearch.{Tried, tried-none, next-known, starts-next, tried-next}
-use Rattle.expansion.proofs.OldChecks.{old-passed}
+use Rattle.expansion.proofs.KeptSearch.{Searched, held-first, next-known, newest-is, newest-held, laid-less}
+use Rattle.expansion.proofs.KeptSearch.{starts-at, found-some, none-less, found-none}
+use Rattle.expansion.proofs.OldChecks.{old-passed, proper-more}
 use Rattle.expansion.proofs.OldNumbers.{rules-count}
 use Rattle.expansion.proofs.resuming.find_best.Statement.{statement}
 use Rattle.expansion.proofs.resuming.find_best.Tie as tie
 
 abbrev Inv-loop : tie.InvT-loop
-Inv-loop k tolerance old weights n places holder₀ shares₀ list₀ best₀ i₀ holder shares list best i = Tried k tolerance weights old i holder shares list best
+Inv-loop k tolerance old weights n places first holder₀ shares₀ list₀ had holder shares list = Searched k tolerance weights old holder shares list had
 
 abbrev μ-loop : tie.MeasureT-loop
-μ-loop k tolerance old weights n places holder₀ shares₀ list₀ best₀ i₀ holder shares list best i = n - i
+μ-loop k tolerance old weights n places first holder₀ shares₀ list₀ had holder shares list = list .count
 
 module _ (s : tie.Start Inv-loop μ-loop) where
   abbrev ws : List ℕ
@@ -44,153 +44,237 @@ module _ (s : tie.Start Inv-loop μ-loop) where
   proper : Proper (s .args .k) (length ws) (rulesFrom cs)
   proper = old-passed (s .args .k) (s .args .tolerance) cs ws (s .pre) .1 .1
 
-  some : 0 < length cs / 3
-  some = omega (arith, rules-count cs, proper .some)
+  proper-most : Proper (s .args .k) mostBackends (rulesFrom cs)
+  proper-most = proper-more (s .args .k) (length ws) mostBackends (rulesFrom cs) (valid .few) proper
 
-  few : length cs / 3 ≤ mostRules
-  few = omega (arith, rules-count cs, proper .few)
+  someone : 0 < length cs / 3
+  someone = omega (arith, rules-count cs, proper .some)
 
 all-places-requires : tie.Need-all-places-requires Inv-loop μ-loop
 all-places-requires c κs = search needs
 
-shl-shares : tie.Need-shl-shares Inv-loop μ-loop
-shl-shares c = omega (arith, valid (c .before .before .before) .few-bits)
-
-array-write-shares : tie.Need-array-write-shares Inv-loop μ-loop
-array-write-shares c = search needs
-
 sub-rule-at : tie.Need-sub-rule-at Inv-loop μ-loop
-sub-rule-at c = some (c .before .before .before)
+sub-rule-at c = someone (c .before .before .before)
 
 rule-at-requires : tie.Need-rule-at-requires Inv-loop μ-loop
-rule-at-requires c κs = omega (arith, some (c .before .before .before))
+rule-at-requires c κs = omega (arith, someone (c .before .before .before))
 
-of-one-requires : tie.Need-of-one-requires Inv-loop μ-loop
-of-one-requires c κs = search needs
+-- the oldest rule
+module _ (q : tie.After-rule-at Inv-loop μ-loop) where
+  abbrev origin : tie.Start Inv-loop μ-loop
+  origin = q .before .before .before .before
+
+  abbrev star : Rule
+  star = q .rule-at .result
+
+  star-known : Known (origin .args .k) mostBackends star
+  star-known =
+      let e : length (cs origin) / 3 - 1 - 0 ≡ length (cs origin) / 3 - 1 = omega arith in
+      subst (Known (origin .args .k) mostBackends) (ap (ruleAt (cs origin)) e ∙ sym (q .rule-at .ensures))
+      (next-known (origin .args .k) mostBackends (cs origin) (proper-most origin) 0 (proper origin .some))
+
+  last : star .backend - 1 < mostBackends
+  last = omega (arith, star-known .least, star-known .most)
+
+sub-first : tie.Need-sub-first Inv-loop μ-loop
+sub-first c = star-known (c .before) .least
+
+cast-holder : tie.Need-cast-holder Inv-loop μ-loop
+cast-holder c = omega (arith, last (c .before))
+
+shl-shares : tie.Need-shl-shares Inv-loop μ-loop
+shl-shares c = omega (arith, valid (origin (c .before)) .few-bits)
+
+mul-shares : tie.Need-mul-shares Inv-loop μ-loop
+mul-shares c = omega (arith, last (c .before))
+
+array-write-shares : tie.Need-array-write-shares Inv-loop μ-loop
+array-write-shares c = last (c .before)
+
+slice-aggregate-lay-all : tie.Need-slice-aggregate-lay-all Inv-loop μ-loop
+slice-aggregate-lay-all c = search needs
+
+slice-aggregate-lay-all-2 : tie.Need-slice-aggregate-lay-all-2 Inv-loop μ-loop
+slice-aggregate-lay-all-2 c = search needs
+
+slice-aggregate-lay-all-3 : tie.Need-slice-aggregate-lay-all-3 Inv-loop μ-loop
+slice-aggregate-lay-all-3 c = search needs
+
+lay-all-requires : tie.Need-lay-all-requires Inv-loop μ-loop
+lay-all-requires c κs =
+    let q = c .before .before .before .before in
+    let s = origin q in (
+      (valid s .few-bits, (proper-most s, q .before .all-places .ensures)),
+      rw (shifted (s .args .k) (valid s .few-bits)) (held-first (s .args .k) (cs s) (valid s .few-bits) (proper-most s) (star q) (q .rule-at .ensures)),
+    )
 
 loop-holds : tie.Need-loop-holds Inv-loop μ-loop
 loop-holds c =
-    let s = c .before .before .before .before .before in
-    rw (shifted (s .args .k) (valid s .few-bits))
-    (tried-none (s .args .k) (s .args .tolerance) (ws s) (cs s) (valid s) (proper s) (c .before .rule-at .result) (c .of-one .result) (c .of-one .ensures))
+    let y = c .before .before .before .before in
+    let s = y .before .before .before .before .before .before .before .before .before in
+    let R = rulesFrom (cs s) in
+    let list = y .lay-all .result .list in
+    let all = sym (y .lay-all .ensures .0) in
+    record {
+      laid =
+          subst (λ (n : ℕ). LaidTo (s .args .k) R n (y .lay-all .last .0) (y .lay-all .last .1 .0) (list .rules) (y .lay-all .result .had)) all
+          (y .lay-all .ensures .1);
+      none = ap (λ (n : ℕ). largestTo n (endsWithin (targetsMade (s .args .k) (ws s)) (s .args .tolerance) R)) all;
+    }
 
-sub-rule-at-2 : tie.Need-sub-rule-at-2 Inv-loop μ-loop
-sub-rule-at-2 c = omega arith
-
-sub-rule-at-3 : tie.Need-sub-rule-at-3 Inv-loop μ-loop
-sub-rule-at-3 c = omega arith
-
-rule-at-requires-2 : tie.Need-rule-at-requires-2 Inv-loop μ-loop
-rule-at-requires-2 c κs = omega arith
-
-slice-aggregate-lay : tie.Need-slice-aggregate-lay Inv-loop μ-loop
-slice-aggregate-lay c = sym (c .before .before .before .loop .inv .counted .held)
-
-slice-aggregate-lay-2 : tie.Need-slice-aggregate-lay-2 Inv-loop μ-loop
-slice-aggregate-lay-2 c = sym (c .before .before .before .before .loop .inv .counted .long)
-
-slice-aggregate-lay-3 : tie.Need-slice-aggregate-lay-3 Inv-loop μ-loop
-slice-aggregate-lay-3 c = sym (c .before .before .before .before .before .before .before .before .all-places .ensures .long)
-
--- the next rule
-module _ (q : tie.After-rule-at2 Inv-loop μ-loop) where
+-- where the loop has come to
+module _ (l : tie.At-loop Inv-loop μ-loop) where
   abbrev begun : tie.Start Inv-loop μ-loop
-  begun = q .before .before .before .before .before .before .before .before
+  begun = l .before .before .before .before .before .before .before .before .before .before .before .before .before .before
 
-  abbrev i : ℕ
-  i = q .before .before .loop .i
+  abbrev had : List ℕ
+  had = l .before .before .before .before .before .lay-all .result .had
 
-  less : i < length (rulesFrom (cs begun))
-  less = omega (arith, rules-count (cs begun), q .before .loop-test .taken)
+  abbrev here : Searched (begun .args .k) (begun .args .tolerance) (ws begun) (cs begun) (l .loop .holder) (l .loop .shares) (l .loop .list) had
+  here = l .loop .inv
 
-  known : Known (begun .args .k) mostBackends (q .rule-at2 .result)
-  known =
-      let K = next-known (begun .args .k) (begun .args .tolerance) (ws begun) (cs begun) (valid begun) (proper begun) i less in
-      subst (Known (begun .args .k) mostBackends) (sym (q .rule-at2 .ensures))
-      (record { rule = K .rule; least = K .least; most = omega (arith, K .most, valid begun .few) })
-
-lay-requires : tie.Need-lay-requires Inv-loop μ-loop
-lay-requires c κs =
-    let q = c .before .before .before in
-    (valid (begun q) .few-bits, (known q, (q .before .before .loop .inv .counted, q .before .before .before .before .before .all-places .ensures)))
-
--- the rule is laid
-module _ (y : tie.After-lay Inv-loop μ-loop) where
-  abbrev q : tie.After-rule-at2 Inv-loop μ-loop
-  q = y .before .before .before .before
-
-  abbrev s : tie.Start Inv-loop μ-loop
-  s = begun q
-
-  abbrev l : tie.At-loop Inv-loop μ-loop
-  l = q .before .before
-
-  abbrev holder′ : List ℕ
-  holder′ = y .lay .last .0
-
-  abbrev shares′ : List ℕ
-  shares′ = y .lay .last .1 .0
-
-  few-i : i q < mostRules
-  few-i = omega (arith, few s, q .before .loop-test .taken)
-
-  laid : Laid (s .args .k) (ruleAt (cs s) (length (cs s) / 3 - 1 - i q)) (l .loop .holder) holder′
-  laid = subst (λ (r : Rule). Laid (s .args .k) r (l .loop .holder) holder′) (q .rule-at2 .ensures) (y .lay .ensures .0)
-
-  abbrev list′ : Rule → RuleList
-  list′ r = record { rules = set (l .loop .list .rules) (i q) r; stairs = l .loop .list .stairs; count = i q + 1 }
-
-  starting : Starts (s .args .k) (s .args .tolerance) (ws s) (list′ (q .rule-at2 .result)) holder′ shares′ (length (cs s) / 3)
+  starting : Starts (begun .args .k) (begun .args .tolerance) (ws begun) (l .loop .list) (l .loop .holder) (l .loop .shares) (length (cs begun) / 3)
   starting =
-      subst (λ (r : Rule). Starts (s .args .k) (s .args .tolerance) (ws s) (list′ r) holder′ shares′ (length (cs s) / 3)) (sym (q .rule-at2 .ensures))
-      (starts-next (s .args .k) (s .args .tolerance) (ws s) (cs s) (valid s) (proper s) (i q) (less q) (l .loop .holder) (l .loop .shares) holder′ shares′
-      (l .loop .list) (l .loop .best) (l .loop .inv) laid (y .lay .ensures .1))
+      starts-at (begun .args .k) (begun .args .tolerance) (ws begun) (cs begun) (valid begun) (proper begun) (l .loop .holder) (l .loop .shares)
+      (l .loop .list) had here
 
-mul-rule : tie.Need-mul-rule Inv-loop μ-loop
-mul-rule c = omega (arith, few-i (c .before .before))
-
-element-set-from-rule : tie.Need-element-set-from-rule Inv-loop μ-loop
-element-set-from-rule c = few-i (c .before .before)
-
-add-list : tie.Need-add-list Inv-loop μ-loop
-add-list c = omega (arith, few-i (c .before .before))
+  few : l .loop .list .count ≤ mostRules
+  few = omega (arith, here .laid .inside, proper begun .few)
 
 slice-aggregate-try-kept : tie.Need-slice-aggregate-try-kept Inv-loop μ-loop
-slice-aggregate-try-kept c = sym (c .before .before .before .lay .ensures .1 .long)
+slice-aggregate-try-kept c = sym (here (c .before) .laid .held .long)
 
 slice-aggregate-try-kept-2 : tie.Need-slice-aggregate-try-kept-2 Inv-loop μ-loop
-slice-aggregate-try-kept-2 c = sym (q (c .before .before .before .before) .before .before .before .before .before .all-places .ensures .long)
+slice-aggregate-try-kept-2 c = search needs
 
 try-kept-requires : tie.Need-try-kept-requires Inv-loop μ-loop
 try-kept-requires c κs =
-    let y = c .before .before .before .before in
-    (starting y, q y .before .before .before .before .before .all-places .ensures)
+    let l = c .before .before in
+    (starting l, l .before .before .before .before .before .before .before .before .before .before .before .all-places .ensures)
 
-add-i : tie.Need-add-i Inv-loop μ-loop
-add-i c = omega (arith, few-i (c .before .before .before .before .before))
-
-loop-less : tie.Need-loop-less Inv-loop μ-loop
-loop-less c = let y = c .before .before .before .before .before in omega (arith, q y .before .loop-test .taken)
-
-loop-again : tie.Need-loop-again Inv-loop μ-loop
-loop-again c =
-    let y = c .before .before .before .before .before in
-    let a = s y .args in
-    let o = l y .loop in
-    let found = c .try-kept .result in
-    let is = q y .rule-at2 .ensures in
-    let from : Rule → Frame = λ r. frameFrom (targetsMade (a .k) (ws (s y))) (a .tolerance) (newestFirst (set (o .list .rules) (i (q y)) r) (i (q y) + 1)) in
-    let more = subst (λ (r : Rule). OneMore (from r) (length (cs (s y)) / 3) (i (q y) + 1) (o .best) found) is (c .try-kept .ensures) in
-    let next = tried-next (a .k) (a .tolerance) (ws (s y)) (cs (s y)) (valid (s y)) (proper (s y)) (i (q y)) (less (q y)) (o .holder) (o .shares)
-    (holder′ y) (shares′ y) (o .list) (o .best) (o .inv) (laid y) (y .lay .ensures .1) found more in
-    subst (λ (r : Rule). Tried (a .k) (a .tolerance) (ws (s y)) (cs (s y)) (i (q y) + 1) (holder′ y) (shares′ y) (list′ y r) found) (sym is) next
+sub-left : tie.Need-sub-left Inv-loop μ-loop
+sub-left c = here (c .before .before .before) .laid .some
 
 returns : tie.Need-returns Inv-loop μ-loop
 returns c =
-    let l = c .before .loop in
-    let s = c .before .before .before .before .before .before .before in
-    let all : l .i ≡ length (rulesFrom (cs s)) = omega (arith, rules-count (cs s), l .inv .inside, c .loop-test .left) in
-    rw (← all) (l .inv .found)
+    let t = c .before .before in
+    let l = t .before .before .before in
+    let s = begun l in
+    found-some (s .args .k) (s .args .tolerance) (ws s) (cs s) (valid s) (proper s) (l .loop .holder) (l .loop .shares) (l .loop .list) (had l)
+    (here l) (t .try-kept .result) (t .try-kept .ensures) (c .if1 .taken)
+
+returns-2 : tie.Need-returns-2 Inv-loop μ-loop
+returns-2 c =
+    let d = c .before in
+    let t = d .before .before in
+    let l = t .before .before .before in
+    let s = begun l in
+    found-none (s .args .k) (s .args .tolerance) (ws s) (cs s) (valid s) (proper s) (l .loop .holder) (l .loop .shares) (l .loop .list) (had l)
+    (here l) (t .try-kept .result) (t .try-kept .ensures) (omega (arith, d .if1 .left)) (c .if2 .taken)
+
+mul-rule : tie.Need-mul-rule Inv-loop μ-loop
+mul-rule c = omega (arith, few (c .before .before .before .before .before .before))
+
+element-copy-out-rule : tie.Need-element-copy-out-rule Inv-loop μ-loop
+element-copy-out-rule c =
+    let l = c .before .before .before .before .before .before in omega (arith, few l, here l .laid .some, here l .laid .long .0)
+
+slice-aggregate-take-back : tie.Need-slice-aggregate-take-back Inv-loop μ-loop
+slice-aggregate-take-back c = sym (here (c .before .before .before .before .before .before .before .before) .laid .held .wide)
+
+slice-aggregate-take-back-2 : tie.Need-slice-aggregate-take-back-2 Inv-loop μ-loop
+slice-aggregate-take-back-2 c = sym (here (c .before .before .before .before .before .before .before .before .before) .laid .held .long)
+
+slice-aggregate-take-back-3 : tie.Need-slice-aggregate-take-back-3 Inv-loop μ-loop
+slice-aggregate-take-back-3 c =
+    let l = c .before .before .before .before .before .before .before .before .before .before in
+    sym (l .before .before .before .before .before .before .before .before .before .before .before .all-places .ensures .long)
+
+mul-take-back : tie.Need-mul-take-back Inv-loop μ-loop
+mul-take-back c = omega (arith, few (c .before .before .before .before .before .before .before .before .before .before))
+
+array-read-take-back : tie.Need-array-read-take-back Inv-loop μ-loop
+array-read-take-back c =
+    let l = c .before .before .before .before .before .before .before .before .before .before in
+    omega (arith, few l, here l .laid .some, here l .laid .long .1)
+
+-- a rule that is taken back, where another is left
+module _ (l : tie.At-loop Inv-loop μ-loop) (more : l .loop .list .count - 1 ≢ 0) where
+  abbrev i : ℕ
+  i = l .loop .list .count - 1
+
+  abbrev s : tie.Start Inv-loop μ-loop
+  s = begun l
+
+  abbrev rules : List Rule
+  rules = l .loop .list .rules
+
+  abbrev rs : List Rule
+  rs = oldest i (rulesFrom (cs s))
+
+  is-next : l .loop .list .count ≡ suc i
+  is-next = omega (arith, here l .laid .some)
+
+  laid : LaidTo (s .args .k) (rulesFrom (cs s)) (suc i) (l .loop .holder) (l .loop .shares) rules (had l)
+  laid = subst (λ (n : ℕ). LaidTo (s .args .k) (rulesFrom (cs s)) n (l .loop .holder) (l .loop .shares) rules (had l)) is-next (here l .laid)
+
+  newest-known : Known (s .args .k) mostBackends (getD rules i noRule)
+  newest-known =
+      subst (Known (s .args .k) mostBackends)
+      (sym (newest-is (s .args .k) (length (ws s)) (cs s) (proper s) i (l .loop .holder) (l .loop .shares) rules (had l) (l .loop .holder) (l .loop .shares)
+      laid))
+      (next-known (s .args .k) mostBackends (cs s) (proper-most s) i (laid .inside))
+
+  held : Held (s .args .k) (getD rules i noRule ∷ rs) (l .loop .holder) (l .loop .shares)
+  held =
+      newest-held (s .args .k) (length (ws s)) (cs s) (proper s) i (l .loop .holder) (l .loop .shares) rules (had l) (l .loop .holder) (l .loop .shares)
+      laid
+
+  some : 1 ≤ i
+  some = omega (arith, more)
+
+  before : Had (s .args .k) rs (getD rules i noRule) (getD (had l) i 0)
+  before = laid .before i some (omega arith)
+
+take-back-requires : tie.Need-take-back-requires Inv-loop μ-loop
+take-back-requires c κs =
+    let f = c .before .before .before .before in
+    let l = f .before .before .before .before .before .before in
+    let more = f .if2 .left in (
+      (rs l more, (held l more, before l more)),
+      (
+        valid (begun l) .few-bits,
+        (newest-known l more, l .before .before .before .before .before .before .before .before .before .before .before .all-places .ensures),
+      ),
+    )
+
+loop-less : tie.Need-loop-less Inv-loop μ-loop
+loop-less c =
+    let f = c .before .before .before .before .before .before .before in
+    let l = f .before .before .before .before .before .before in
+    omega (arith, here l .laid .some)
+
+loop-again : tie.Need-loop-again Inv-loop μ-loop
+loop-again c =
+    let b = c .before .before in
+    let f = b .before .before .before .before .before in
+    let d = f .before in
+    let t = d .before .before in
+    let l = t .before .before .before in
+    let more = f .if2 .left in
+    let o = l .loop in
+    let s = begun l in
+    let h′ = b .take-back .last .0 in
+    let s′ = b .take-back .last .1 .0 in
+    let less = b .take-back .ensures (rs l more) (held l more) (before l more) in
+    record {
+      laid =
+          laid-less (s .args .k) (length (ws s)) (cs s) (proper s) (o .list .count - 1) (o .holder) (o .shares) (o .list .rules) (had l) h′ s′ (laid l more)
+          (some l more) less;
+      none =
+          none-less (s .args .k) (s .args .tolerance) (ws s) (cs s) (valid s) (proper s) (o .holder) (o .shares) (o .list) (had l) (here l)
+          (t .try-kept .result) (t .try-kept .ensures) (omega (arith, d .if1 .left));
+    }
 
 pub find-best-spec : {M : Type 1} → statement M
 find-best-spec =
@@ -199,26 +283,31 @@ find-best-spec =
     Inv-loop
     μ-loop
     all-places-requires
-    shl-shares
-    array-write-shares
     sub-rule-at
     rule-at-requires
-    of-one-requires
+    sub-first
+    cast-holder
+    shl-shares
+    mul-shares
+    array-write-shares
+    slice-aggregate-lay-all
+    slice-aggregate-lay-all-2
+    slice-aggregate-lay-all-3
+    lay-all-requires
     loop-holds
-    sub-rule-at-2
-    sub-rule-at-3
-    rule-at-requires-2
-    slice-aggregate-lay
-    slice-aggregate-lay-2
-    slice-aggregate-lay-3
-    lay-requires
-    mul-rule
-    element-set-from-rule
-    add-list
     slice-aggregate-try-kept
     slice-aggregate-try-kept-2
     try-kept-requires
-    add-i
+    sub-left
+    returns
+    returns-2
+    mul-rule
+    element-copy-out-rule
+    slice-aggregate-take-back
+    slice-aggregate-take-back-2
+    slice-aggregate-take-back-3
+    mul-take-back
+    array-read-take-back
+    take-back-requires
     loop-less
-    loop-again
-    returns)
+    loop-again)

@@ -3,7 +3,7 @@ use Prim.Native.Nat.{ℕ, suc, _-_, _≤_}
 use mathlib.Core.List.{List}
 use mathlib.Core.Path.{_≡_, refl, ap, sym, _∙_, subst}
 use native.Mathlib.Omega.{arith}
-use lib.ListN.{length, take, set, replicate, length-map, length-replicate}
+use lib.ListN.{length, take, set, length-map, length-replicate}
 use lib.Seq.{length-take-le}
 use borrow.Author.Needs.{needs}
 use Rattle.numerals.specs.Limits.{mostBackends, mostRules}
@@ -14,13 +14,15 @@ use Rattle.expansion.specs.Steps.{Frame, after, listOf}
 use Rattle.expansion.specs.KeptShares.{SharesKept}
 use Rattle.expansion.specs.Answer.{targetsMade}
 use Rattle.expansion.specs.Resume.{capFrom, frameFrom}
+use Rattle.expansion.specs.Inner.Holders.{Holds}
 use Rattle.expansion.specs.Inner.Lists.{newestFirst, Listed}
 use Rattle.expansion.specs.Inner.Run.{framed, Fits, Shared, Stands, Made}
-use Rattle.expansion.specs.Inner.Laying.{Starts, noLows}
+use Rattle.expansion.specs.Inner.Laying.{Starts}
 use Rattle.expansion.specs.declared.rule.Rule.{Rule}
 use Rattle.expansion.specs.declared.list.RuleList.{RuleList}
 use Rattle.expansion.specs.declared.run.State.{State}
-use Rattle.expansion.proofs.KeptStart.{some-kept, longest-few, fits, shared, listed}
+use Rattle.expansion.proofs.KeptStart.{some-kept, longest-few, holds, fits, shared, listed}
+use Rattle.expansion.proofs.LaidRules.{noLows}
 use Rattle.expansion.proofs.resuming.run_kept.Statement.{statement}
 use Rattle.expansion.proofs.resuming.run_kept.Tie as tie
 
@@ -48,6 +50,9 @@ module _ (s : tie.Start) where
 
   sharing : Shared F (s .args .shares .now)
   sharing = shared (s .args .k) (s .args .tolerance) (s .args .weights .now) list (s .args .holder) (s .args .shares .now) (s .args .budget) starts
+
+  holding : Holds (targetsMade (s .args .k) (s .args .weights .now)) kept (s .args .holder) noLows
+  holding = holds (s .args .k) (s .args .tolerance) (s .args .weights .now) list (s .args .holder) (s .args .shares .now) (s .args .budget) starts
 
   -- the arrays of the list
   rules-long : length (list .rules) ≡ mostRules
@@ -144,7 +149,7 @@ module _ (c : tie.After-begin) where
   stands =
       c .begin .ensures .0 labels (kept (z f)) (z f .args .holder) noLows (here f Fits (fitting (z f)))
       (here f (λ E. Shared E (z f .args .shares .now)) (sharing (z f)))
-      (starts (z f) .holds) (starts (z f) .counted .held) (length-replicate {A = ℕ} mostBackends 0)
+      (holding (z f)) (starts (z f) .held .wide) (length-replicate {A = ℕ} mostBackends 0)
 
   listing : Listed (G f (cap f) labels) 0 full
   unfolding after

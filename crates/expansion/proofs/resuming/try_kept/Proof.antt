@@ -9,8 +9,8 @@ use Rattle.expansion.specs.Answer.{targetsMade}
 use Rattle.expansion.specs.Resume.{frameFrom}
 use Rattle.expansion.specs.Inner.Lists.{newestFirst}
 use Rattle.expansion.specs.Inner.Laying.{Starts}
-use Rattle.expansion.specs.Inner.Resume.{OneMore}
-use Rattle.expansion.proofs.HopelessStarts.{small, more-hopeless, more-run}
+use Rattle.expansion.specs.Inner.Resume.{Tried}
+use Rattle.expansion.proofs.HopelessStarts.{small, tried-hopeless, tried-run}
 use Rattle.expansion.proofs.resuming.try_kept.Statement.{statement}
 use Rattle.expansion.proofs.resuming.try_kept.Tie as tie
 
@@ -34,7 +34,7 @@ is-hopeless-requires c κs =
     let a = s .args in (
       (
         (S .valid .few-bits, (S .valid .tolerable, omega (arith, S .few))),
-        (S .valid .few, omega (arith, S .valid .few, S .counted .long)),
+        (S .valid .few, omega (arith, S .valid .few, S .held .long)),
       ),
       small (a .k) (a .tolerance) (ws s) (a .list) (a .holder) (a .shares .now) (a .budget) S,
     )
@@ -43,22 +43,22 @@ returns : tie.Need-returns
 returns c =
     let s = c .before .before .before .before .before in
     let a = s .args in
-    more-hopeless (a .k) (a .tolerance) (ws s) (a .list) (a .holder) (a .shares .now) (a .budget) (starts s) (a .best)
+    tried-hopeless (a .k) (a .tolerance) (ws s) (a .list) (a .holder) (a .shares .now) (a .budget) (starts s)
     (sym (c .before .is-hopeless .ensures) ∙ c .if1 .taken)
 
 run-kept-requires : tie.Need-run-kept-requires
 run-kept-requires c κs = c .before .before .before .before .before .pre
 
-better-requires : tie.Need-better-requires
-better-requires c κs = search needs
+found-requires : tie.Need-found-requires
+found-requires c κs = search needs
 
 returns-2 : tie.Need-returns-2
 returns-2 c =
     let r = c .before in
     let s = r .before .before .before .before .before .before in
     let a = s .args in
-    subst (OneMore (F s) (a .budget) (a .list .count) (a .best)) (sym (c .better .ensures))
-    (more-run (F s) (a .budget) (a .list .count) (a .best) (r .run-kept .result) (r .run-kept .ensures .0))
+    subst (Tried (F s) (a .budget) (a .list .count)) (sym (c .found .ensures))
+    (tried-run (a .k) (a .tolerance) (ws s) (a .list) (a .holder) (a .shares .now) (a .budget) (starts s) (r .run-kept .result) (r .run-kept .ensures .0))
 
 pub try-kept-spec : {M : Type 1} → statement M
-try-kept-spec = tie.close (tie.spec sub-is-hopeless is-hopeless-requires returns run-kept-requires better-requires returns-2)
+try-kept-spec = tie.close (tie.spec sub-is-hopeless is-hopeless-requires returns run-kept-requires found-requires returns-2)

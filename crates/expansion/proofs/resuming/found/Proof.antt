@@ -1,10 +1,10 @@
--- `resuming::better` meets its contract, case by case.
+-- `resuming::found` meets its contract, case by case.
 use borrow.Author.Needs.{needs}
-use Rattle.expansion.proofs.resuming.better.Statement.{statement}
-use Rattle.expansion.proofs.resuming.better.Tie as tie
+use Rattle.expansion.proofs.resuming.found.Statement.{statement}
+use Rattle.expansion.proofs.resuming.found.Tie as tie
 
-pub better-spec : {M : Type 1} → statement M
-better-spec =
+pub found-spec : {M : Type 1} → statement M
+found-spec =
     tie.close
     (tie.spec
     (λ c. search needs)
