@@ -7,8 +7,8 @@ use libc::STDERR_FILENO;
 // The longest argument that Linux hands to a program, without its closing 0.
 pub const ROOM: usize = 131071;
 
-// The space that an argument is read into first: clearing the longest one costs more than most calls. `os::arg` answers 0 for one
-// that is too long, which is then read again.
+// The space that an argument is read into first: clearing the longest one is up to a quarter of a call's work. `os::arg` answers 0
+// for one that is too long, which is then read again.
 pub const SHORT: usize = 256;
 
 // The command that the first argument names. `os::arg` takes what is too long for the buffer for an empty word, which names none.
