@@ -15,10 +15,22 @@ def weights(rng, backends, unit=1000000):
     return [b - a for a, b in zip(edges, edges[1:])]
 
 
-def sheet(services, backends, k, capacity, tolerance="0", seed=1):
+def sparse(place):
+    """The id of the backend at a place from 1: four digits, with gaps, as a user's would be."""
+    return 7 * place + 1000
+
+
+def service(volume, ids, parts):
+    """The line of a service, for weights in millionths."""
+    return "SERVICE %d %s" % (volume, " ".join("%d:%s" % (i, percent(w)) for i, w in zip(ids, parts)))
+
+
+def sheet(services, backends, k, capacity, tolerance="0", seed=1, ids=None):
+    """Every service has these ids; sparse ones, if none are given."""
     rng = random.Random(seed)
+    ids = ids or [sparse(place) for place in range(1, backends + 1)]
     lines = [f"SHEET {k} {tolerance} {capacity}"]
     for _ in range(services):
-        row = " ".join(percent(w) for w in weights(rng, backends))
-        lines.append(f"SERVICE {rng.randrange(1, 10001)} {row}")
+        row = weights(rng, backends)
+        lines.append(service(rng.randrange(1, 10001), ids, row))
     return ("\n".join(lines) + "\n").encode()

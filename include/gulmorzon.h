@@ -14,7 +14,8 @@
  * The calls keep nothing between them and allocate nothing: threads may call at the same time.
  *
  * Texts are bytes with a length; a zero byte does not end them. Lengths of figures, table and rules are counted in
- * numbers. Services and backends have in every call the numbers that are printed for them, from 1.
+ * numbers. In every call a service has the number that is printed for it, from 1 to GULMORZON_SERVICES, and a backend its id,
+ * as the sheets have it, from 1 to GULMORZON_ID.
  */
 #ifndef GULMORZON_H
 #define GULMORZON_H
@@ -38,11 +39,17 @@ extern "C" {
 
 #define GULMORZON_STACK 262144
 
+/* The largest number of a service, the largest id of a backend, and how many backends a service of a percentage sheet may have. */
+#define GULMORZON_SERVICES 64
+#define GULMORZON_ID 9999
+#define GULMORZON_BACKENDS 32
+
 /* An answer's number: 0, or why the call was refused (document 01, "Turned-back work"; 13 is document 02's, Req 03). */
 enum gulmorzon_number {
     GULMORZON_ANSWERED = 0,
     GULMORZON_MALFORMED = 1,       /* LF missing, keyword wrong, or too few or too many fields */
-    GULMORZON_BAD_FIELD = 2,       /* a field not of its form or limits, or a number of the call out of its limits */
+    GULMORZON_BAD_FIELD = 2,       /* a field not of its form or limits, an id not above the one before it, or a number of
+                                      the call out of its limits */
     GULMORZON_UNBALANCED = 3,      /* weights don't sum to 100 percent */
     GULMORZON_TOO_MANY = 4,        /* a 65th service, a 33rd backend or a 33rd rule of a service */
     GULMORZON_NO_SERVICE = 5,      /* only line 1 */
@@ -125,15 +132,16 @@ struct gulmorzon_update_answer {
  * is added, and the rest of out stays as it was. */
 struct gulmorzon_answer gulmorzon_split(const char *text, size_t text_len, char *out, size_t out_len);
 
-/* The backend, by its number, of the first line of a service in a rule sheet that matches an address. */
+/* The backend, by its id, of the first line of a service in a rule sheet that matches an address. */
 struct gulmorzon_answer gulmorzon_lookup(const char *text, size_t text_len, size_t service, uint32_t address);
 
-/* The number of k-bit suffixes of a service whose backend is not the same in two rule sheets. */
+/* The number of k-bit suffixes of a service whose backend doesn't have the same id in two rule sheets. */
 struct gulmorzon_answer gulmorzon_churn(const char *old_text, size_t old_len, const char *new_text, size_t new_len,
                                         size_t service);
 
-/* Share and load of a backend of a service in a rule sheet, for a volume of 0 to 10,000. A backend is 1 to 32 and need not
- * be in the sheet. After the sheet's own refusals come 8, then 2 with line 0 for a volume or backend out of its limits. */
+/* Share and load of a backend of a service in a rule sheet, for a volume of 0 to 10,000. A backend is named by its id, 1 to
+ * 9,999, and need not be in the sheet: one that holds nothing reads 0. After the sheet's own refusals come 8, then 2 with line
+ * 0 for a volume or an id out of its limits. */
 struct gulmorzon_gauges_answer gulmorzon_gauges(const char *text, size_t text_len, size_t service, uint64_t volume,
                                                 size_t backend);
 
@@ -144,24 +152,24 @@ struct gulmorzon_reading_answer gulmorzon_reading(const char *text, size_t text_
 
 /* The one call: the table of a percentage sheet in numbers, without its text. figures takes three for each service: its
  * grant, the length of its list and how the list ended (within 0, no gain 1, budget 2). table takes four for each line of
- * the rule sheet, in its order: service, length and value of the suffix, backend, as the sheet would have them. The rest of
- * both stays as it was. */
+ * the rule sheet, in its order: service, length and value of the suffix, id of the backend, as the sheet would have them. The
+ * rest of both stays as it was. */
 struct gulmorzon_plan_answer gulmorzon_plan(const char *text, size_t text_len, size_t *figures, size_t figures_len,
                                             size_t *table, size_t table_len);
 
 /* New weights on a loaded table. old_text is a rule sheet: its lines of the service are the old list. sheet_text is a
  * percentage sheet: it has the tolerance and, in its line of the service, the new weights; k has to be the same in both,
- * and its capacity, volumes and other services are read and not used. Of the old list the oldest rules, which stand last,
- * are kept: at least one, and as many as can be so that the steps of a split, going on from them, come to a list that is
- * within tolerance and has no more rules than the old one.
+ * and its capacity, volumes and other services are read and not used. Backends are matched by id: one of the old list that is
+ * missing from the new weights counts as weight 0 there. Of the old list the oldest rules, which stand last, are kept: at
+ * least one, and as many as can be so that the steps of a split, going on from them, come to a list that is within tolerance
+ * and has no more rules than the old one. A kept rule may still name a backend that is missing from the new weights.
  *
  * The rule sheet is read wholly, then the percentage sheet: their own refusals have their line and sheet. After these
- * come, with line 0: 8 with the first sheet that lacks the service; and with sheet 0 too, in this order, 12; 2 where a rule
- * of the old list, kept or not, has a backend beyond the weights; 13 where no number of kept rules leads to such a list; 7
- * where rules is too short for the new list.
+ * come, with line 0: 8 with the first sheet that lacks the service; and with sheet 0 too, in this order, 12; 13 where no number
+ * of kept rules leads to such a list; 7 where rules is too short for the new list.
  *
- * rules takes three numbers for each rule of the new list, the newest first: length and value of the suffix, backend, as a
- * rule sheet would have them. The rest of it stays as it was. */
+ * rules takes three numbers for each rule of the new list, the newest first: length and value of the suffix, id of the backend,
+ * as a rule sheet would have them. The rest of it stays as it was. */
 struct gulmorzon_update_answer gulmorzon_update(const char *old_text, size_t old_len, const char *sheet_text,
                                                 size_t sheet_len, size_t service, size_t *rules, size_t rules_len);
 

@@ -7,34 +7,41 @@
 #include <stdio.h>
 #include <string.h>
 
-#define SHEET "SHEET 5 2 5\nSERVICE 55 16.6667 33.3333 50\nSERVICE 45 25 25 50\n"
-#define OTHER "SHEET 5 2 5\nSERVICE 55 50 33.3333 16.6667\nSERVICE 45 25 25 50\n"
-#define BAD "SHEET 5 2 5\nSERVICE 55 50 50\nSERVICE 45 18.4.2 81.6\n"
+#define SHEET "SHEET 5 2 5\nSERVICE 55 1:16.6667 2:33.3333 3:50\nSERVICE 45 1:25 2:25 3:50\n"
+#define OTHER "SHEET 5 2 5\nSERVICE 55 1:50 2:33.3333 3:16.6667\nSERVICE 45 1:25 2:25 3:50\n"
+#define EQUAL "SHEET 5 2 5\nSERVICE 55 1:50 2:50\nSERVICE 45 7:50 7:50\n"
+#define BAD "SHEET 5 2 5\nSERVICE 55 1:50 2:50\nSERVICE 45 1:18.4.2 2:81.6\n"
 #define TABLE "TABLE 5 5 293333920\n1 *0 2\n1 * 3\n2 *00 2\n2 *0 1\n2 * 3\n"
 #define NEWER "TABLE 5 5 293333920\n1 *0 2\n1 * 1\n2 *00 2\n2 *0 1\n2 * 3\n"
 #define SHALLOW "TABLE 1 1 0\n1 * 1\n"
 
-/* Planned in numbers: k, services, rules and each service's grant, list and end are all unlike, so that none is taken for
+/* Planned in numbers: k, services, rules, each service's grant, list and end, and all ids are unlike, so that none is taken for
  * another. The lists end within tolerance (0), at no gain (1) and at the budget (2). */
-#define MIXED "SHEET 12 0 8\nSERVICE 2 25 50 25\nSERVICE 20 33.3334 33.3333 33.3333\nSERVICE 6 7 7 7 7 7 7 7 7 7 7 7 7 7 9\n"
+#define MIXED \
+    "SHEET 12 0 8\nSERVICE 2 11:25 105:50 1200:25\nSERVICE 20 9:33.3334 60:33.3333 9999:33.3333\n" \
+    "SERVICE 6 201:7 202:7 203:7 204:7 205:7 206:7 207:7 208:7 209:7 210:7 211:7 212:7 213:7 9998:9\n"
 #define FIGURES {2, 3, 0, 5, 13, 1, 1, 32, 2}
 #define NUMBERS \
-    {1, 1, 0, 1, 1, 0, 0, 2, 2, 4, 2, 3, 2, 3, 1, 2, 2, 2, 0, 3, 2, 1, 0, 2, 2, 0, 0, 1, 3, 0, 0, 14}
+    {1, 1, 0, 11, 1, 0, 0, 105, 2, 4, 2, 9999, 2, 3, 1, 60, 2, 2, 0, 9999, 2, 1, 0, 60, 2, 0, 0, 9, 3, 0, 0, 9998}
 
-/* Gauges. In LOADED backend 1 holds 13 of 32 suffixes of service 1 and all of service 2; in DEEP 1,365 of 4,096. */
+/* Gauges. In LOADED backend 1 holds 13 of 32 suffixes of service 1 and all of service 2; in DEEP 1,365 of 4,096. NAMED is LOADED
+ * with other ids. */
 #define LOADED "TABLE 5 5 0\n1 *00000 1\n1 *000 2\n1 *0 1\n1 * 2\n2 * 1\n"
+#define NAMED "TABLE 5 5 0\n1 *00000 70\n1 *000 9999\n1 *0 70\n1 * 9999\n2 * 70\n"
 #define DEEP \
     "TABLE 12 7 3319680000\n1 *001010101010 1\n1 *0010101010 1\n1 *00101010 1\n1 *001010 1\n1 *0010 1\n1 *00 1\n1 * 2\n"
 
-/* New weights. Service 2 of AGED has the rules of 16.6667 33.3333 50 (document 01, case P1); with the weights of CHANGED its
- * new list is *01010 2, *0010 1, *00 2, * 3, which keeps one rule. EXACT allows no error, and no list gets there. */
-#define AGED "TABLE 5 5 0\n1 * 1\n2 *00100 1\n2 *000 1\n2 *0 2\n2 * 3\n"
-#define CHANGED "SHEET 5 2 5\nSERVICE 1 100\nSERVICE 1 5 30 65\n"
-#define EXACT "SHEET 5 0 5\nSERVICE 1 100\nSERVICE 1 5 30 65\n"
-#define FEWER "SHEET 5 100 5\nSERVICE 1 100\nSERVICE 1 50 50\n"
-#define DEEPER "SHEET 6 2 5\nSERVICE 1 100\nSERVICE 1 5 30 65\n"
-#define ALONE "SHEET 5 2 5\nSERVICE 1 100\n"
-#define NEW_RULES {5, 10, 2, 4, 2, 1, 2, 0, 2, 0, 0, 3}
+/* New weights. Service 2 of AGED has the rules of 16.6667 33.3333 50 (document 01, case P1) with ids of its own. With the weights
+ * of CHANGED its new list is *01010 700, *0010 40, *00 700, * 9999, which keeps one rule. EXACT allows no error, and no list gets
+ * there. In RETIRED backend 9999 is gone and 3 has come in: two rules are kept, and *1 3 takes all that * gave to 9999. */
+#define AGED "TABLE 5 5 0\n1 * 8\n2 *00100 40\n2 *000 40\n2 *0 700\n2 * 9999\n"
+#define CHANGED "SHEET 5 2 5\nSERVICE 1 8:100\nSERVICE 1 40:5 700:30 9999:65\n"
+#define EXACT "SHEET 5 0 5\nSERVICE 1 8:100\nSERVICE 1 40:5 700:30 9999:65\n"
+#define RETIRED "SHEET 5 5 5\nSERVICE 1 8:100\nSERVICE 1 3:50 40:16.6667 700:33.3333\n"
+#define DEEPER "SHEET 6 2 5\nSERVICE 1 8:100\nSERVICE 1 40:5 700:30 9999:65\n"
+#define ALONE "SHEET 5 2 5\nSERVICE 1 8:100\n"
+#define NEW_RULES {5, 10, 700, 4, 2, 40, 2, 0, 700, 0, 0, 9999}
+#define RETIRED_RULES {3, 0, 40, 1, 1, 3, 1, 0, 700, 0, 0, 9999}
 
 #define LEN(text) (sizeof(text) - 1)
 
@@ -94,6 +101,7 @@ static void splits(void)
     split("split", SHEET, LEN(SHEET), TABLE, LEN(TABLE));
     split("split the other", OTHER, LEN(OTHER), NEWER, LEN(NEWER));
     refused("split, a bad percentage", BAD, LEN(BAD), GULMORZON_TEXT, GULMORZON_BAD_FIELD, 3);
+    refused("split, two backends of one id", EQUAL, LEN(EQUAL), GULMORZON_TEXT, GULMORZON_BAD_FIELD, 3);
     refused("split, no text", SHEET, 0, GULMORZON_TEXT, GULMORZON_MALFORMED, 1);
     refused("split, a long text", long_text, sizeof long_text, GULMORZON_TEXT, GULMORZON_TOO_LONG, 0);
     refused("split, a byte too few", SHEET, LEN(SHEET), LEN(TABLE) - 1, GULMORZON_SHORT_LOAN, 0);
@@ -183,12 +191,13 @@ static void records(void)
     record("gauges of a whole tree", LOADED, LEN(LOADED), 2, 10000, 1, whole);
     record("gauges, no volume", LOADED, LEN(LOADED), 2, 0, 1, idle);
     record("gauges of 1,365 in 4,096", DEEP, LEN(DEEP), 1, 9999, 1, deep);
-    record("gauges, nothing held", LOADED, LEN(LOADED), 1, 55, 32, nothing);
+    record("gauges of id 9,999", NAMED, LEN(NAMED), 1, 55, 9999, rest);
+    record("gauges, nothing held", LOADED, LEN(LOADED), 1, 55, 9999, nothing);
     record("gauges, the sheet cut, no such service", LOADED, LEN(LOADED) - 1, 3, 10001, 0, cut);
     record("gauges, no such service, a bad volume", LOADED, LEN(LOADED), 3, 10001, 0, unknown);
     record("gauges, a bad volume", LOADED, LEN(LOADED), 1, 10001, 1, bad);
     record("gauges, backend 0", LOADED, LEN(LOADED), 1, 55, 0, bad);
-    record("gauges, backend 33", LOADED, LEN(LOADED), 1, 55, 33, bad);
+    record("gauges, backend 10,000", LOADED, LEN(LOADED), 1, 55, GULMORZON_ID + 1, bad);
 }
 
 static void reading(const char *what, size_t len, size_t service, uint64_t volume, size_t backend, size_t gauge,
@@ -211,30 +220,29 @@ static void readings(void)
     reading("share of 13 in 32", LEN(LOADED), 1, 55, 1, GULMORZON_SHARE, share);
     reading("load of 13 in 32", LEN(LOADED), 1, 55, 1, GULMORZON_LOAD, load);
     reading("load of a whole tree", LEN(LOADED), 2, 10000, 1, GULMORZON_LOAD, whole);
-    reading("share, nothing held", LEN(LOADED), 1, 55, 32, GULMORZON_SHARE, no_share);
-    reading("load, nothing held", LEN(LOADED), 1, 55, 32, GULMORZON_LOAD, no_load);
+    reading("share, nothing held", LEN(LOADED), 1, 55, 9999, GULMORZON_SHARE, no_share);
+    reading("load, nothing held", LEN(LOADED), 1, 55, 9999, GULMORZON_LOAD, no_load);
     reading("reading, the sheet cut, no such service", LEN(LOADED) - 1, 3, 10001, 0, 0, cut);
     reading("reading, no such service", LEN(LOADED), 3, 55, 1, GULMORZON_SHARE, absent);
-    reading("reading, no such service, a bad volume", LEN(LOADED), 0, 10001, 33, GULMORZON_LOAD, absent);
+    reading("reading, no such service, a bad volume", LEN(LOADED), 0, 10001, 10000, GULMORZON_LOAD, absent);
     reading("reading, no such service, no such gauge", LEN(LOADED), 3, 10001, 0, 3, absent);
     reading("reading, a bad volume", LEN(LOADED), 1, 10001, 1, GULMORZON_SHARE, bad);
     reading("reading, backend 0", LEN(LOADED), 1, 55, 0, GULMORZON_LOAD, bad);
-    reading("reading, backend 33", LEN(LOADED), 1, 55, 33, GULMORZON_SHARE, bad);
+    reading("reading, backend 10,000", LEN(LOADED), 1, 55, GULMORZON_ID + 1, GULMORZON_SHARE, bad);
     reading("reading, gauge 0", LEN(LOADED), 1, 55, 1, 0, bad);
     reading("reading, gauge 3", LEN(LOADED), 1, 55, 1, 3, bad);
     reading("reading, gauge 8", LEN(LOADED), 1, 55, 1, GULMORZON_ABSENT, bad);
 }
 
-/* New weights on a service's rules in AGED, of which len bytes are lent, with room for so many numbers: the new list, or
- * nothing written. */
-static void update(const char *what, size_t len, const char *sheet, size_t sheet_len, size_t service, size_t room,
-                   struct gulmorzon_update_answer want)
+/* New weights on a service's rules in AGED, of which len bytes are lent, with room for so many numbers: the new list, of three
+ * numbers for each rule, or nothing written. */
+static void update_to(const char *what, size_t len, const char *sheet, size_t sheet_len, size_t service, size_t room,
+                      struct gulmorzon_update_answer want, const size_t *want_rules)
 {
-    static const size_t want_rules[] = NEW_RULES;
     static size_t rules[GULMORZON_RULES];
     fresh(rules, sizeof rules);
     struct gulmorzon_update_answer a = gulmorzon_update(AGED, len, sheet, sheet_len, service, rules, room);
-    size_t end = want.number == GULMORZON_ANSWERED ? sizeof want_rules : 0;
+    size_t end = 3 * want.rules * sizeof rules[0];
     printf("%s: number %zu, line %zu, sheet %zu, k %zu, kept %zu, rules %zu, churn %zu\n", what, a.number, a.line, a.sheet,
            a.k, a.kept, a.rules, a.churn);
     check(what, a.number == want.number && a.line == want.line && a.sheet == want.sheet && a.k == want.k
@@ -242,8 +250,17 @@ static void update(const char *what, size_t len, const char *sheet, size_t sheet
     check("rules", memcmp(rules, want_rules, end) == 0 && untouched(rules, end, sizeof rules));
 }
 
+static void update(const char *what, size_t len, const char *sheet, size_t sheet_len, size_t service, size_t room,
+                   struct gulmorzon_update_answer want)
+{
+    static const size_t want_rules[] = NEW_RULES;
+    update_to(what, len, sheet, sheet_len, service, room, want, want_rules);
+}
+
 static void updates(void)
 {
+    static const size_t retired_rules[] = RETIRED_RULES;
+    static const struct gulmorzon_update_answer retired = {.k = 5, .kept = 2, .rules = 4, .churn = 17};
     static const struct gulmorzon_update_answer made = {.k = 5, .kept = 1, .rules = 4, .churn = 12};
     static const struct gulmorzon_update_answer stuck = {.number = GULMORZON_STUCK};
     static const struct gulmorzon_update_answer short_rules = {.number = GULMORZON_SHORT_LOAN};
@@ -252,7 +269,6 @@ static void updates(void)
     static const struct gulmorzon_update_answer in_neither = {.number = GULMORZON_UNKNOWN_SERVICE, .sheet = 1};
     static const struct gulmorzon_update_answer unweighted = {.number = GULMORZON_UNKNOWN_SERVICE, .sheet = 2};
     static const struct gulmorzon_update_answer unlike = {.number = GULMORZON_DEPTH};
-    static const struct gulmorzon_update_answer beyond = {.number = GULMORZON_BAD_FIELD};
     size_t len = LEN(AGED), all = GULMORZON_RULES;
     update("update", len, CHANGED, LEN(CHANGED), 2, all, made);
     update("update, just enough room", len, CHANGED, LEN(CHANGED), 2, 12, made);
@@ -264,7 +280,7 @@ static void updates(void)
     update("update, no such service in either", len, CHANGED, LEN(CHANGED), 3, all, in_neither);
     update("update, no such service in the second", len, ALONE, LEN(ALONE), 2, all, unweighted);
     update("update, unlike k", len, DEEPER, LEN(DEEPER), 2, all, unlike);
-    update("update, a rule beyond the weights, no room", len, FEWER, LEN(FEWER), 2, 0, beyond);
+    update_to("update, one backend retired and another come in", len, RETIRED, LEN(RETIRED), 2, all, retired, retired_rules);
 }
 
 int main(void)

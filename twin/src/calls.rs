@@ -1,11 +1,11 @@
 //! The calls on texts: the one call, lookup, churn and the count.
 
-use crate::limits::MOST_BACKENDS;
+use crate::limits::MOST_ID;
 use crate::packing::{pack_checked, Packing};
 use crate::refusal::{Reason, Refusal};
 use crate::rule_sheet::{lend, text_of};
 use crate::table::Table;
-use crate::{count, percentage_sheet, rule_sheet};
+use crate::{percentage_sheet, rule_sheet};
 use std::fmt;
 
 /// The one call: a percentage sheet in, its table and its figures out.
@@ -32,7 +32,7 @@ pub fn program(sheet: &[u8]) -> Vec<u8> {
 
 /// Lookup: the backend of the first matching line of a service for an address,
 /// which has 32 bits.
-pub fn lookup(rules: &[u8], service: u64, address: u64) -> Result<u8, Refusal> {
+pub fn lookup(rules: &[u8], service: u64, address: u64) -> Result<u16, Refusal> {
     let table = rule_sheet::read(rules)?;
     if table.lines_of(service).is_empty() {
         return Err(Reason::UnknownService.at(0));
@@ -56,7 +56,7 @@ impl fmt::Display for PairRefusal {
     }
 }
 
-/// Churn: how many k-bit suffixes of a service have unlike backends.
+/// Churn: how many k-bit suffixes of a service have backends of unlike ids.
 pub fn churn(first: &[u8], second: &[u8], service: u64) -> Result<u64, PairRefusal> {
     let about = |which: u8| move |refusal: Refusal| PairRefusal { refusal, which };
     let old = rule_sheet::read(first).map_err(about(1))?;
@@ -79,22 +79,17 @@ fn unlike(old: &Table, new: &Table, service: u64) -> u64 {
     old.iter().zip(&new).filter(|(a, b)| a != b).count() as u64
 }
 
-/// The count by first match over a sheet's lines: writes how many of the 2^k
-/// suffixes of a service each of 32 backends is given, and returns k; nothing
-/// is written if the call is refused.
-pub fn count_shares(rules: &[u8], service: u64, counts: &mut [u64]) -> Result<u8, Refusal> {
+/// The count by first match over a sheet's lines: k, and how many of the 2^k
+/// suffixes of a service a backend is given.
+pub fn count_share(rules: &[u8], service: u64, backend: u64) -> Result<(u8, u32), Refusal> {
     let table = rule_sheet::read(rules)?;
-    let lines = table.lines_of(service);
-    if lines.is_empty() {
+    if table.lines_of(service).is_empty() {
         return Err(Reason::UnknownService.at(0));
     }
-    let own = lines.iter().map(|line| &line.rule);
-    let shares = count::shares(table.k, MOST_BACKENDS as usize, own);
-    let front = counts.get_mut(..shares.len());
-    front
-        .ok_or(Reason::ShortLoan.at(0))?
-        .copy_from_slice(&shares);
-    Ok(table.k)
+    if !(1..=MOST_ID).contains(&backend) {
+        return Err(Reason::BadField.at(0));
+    }
+    Ok((table.k, table.share(service, backend as u16)))
 }
 
 #[cfg(test)]
@@ -103,7 +98,8 @@ mod tests {
     use crate::random::Random;
     use crate::vectors::shapes::{order, rule_table, sheet_text, OrderShape};
 
-    const SAMPLE: &[u8] = b"SHEET 5 2 5\nSERVICE 55 16.6667 33.3333 50\nSERVICE 45 25 25 50\n";
+    const SAMPLE: &[u8] =
+        b"SHEET 5 2 5\nSERVICE 55 1:16.6667 2:33.3333 3:50\nSERVICE 45 1:25 2:25 3:50\n";
     const RULES: &[u8] = b"TABLE 5 5 293333920\n1 *0 2\n1 * 3\n2 *00 2\n2 *0 1\n2 * 3\n";
 
     #[test]
@@ -184,38 +180,51 @@ mod tests {
     }
 
     #[test]
+    fn churn_matches_by_id_and_never_by_place() {
+        let (old, new) = ("TABLE 2 2 0\n1 *0 20\n1 * 30\n", "TABLE 2 1 0\n1 * 30\n");
+        assert_eq!(churn(old.as_bytes(), new.as_bytes(), 1), Ok(2));
+        let other = old.replace("20", "19").replace("30", "31");
+        assert_eq!(churn(old.as_bytes(), other.as_bytes(), 1), Ok(4));
+        assert_eq!(churn(old.as_bytes(), old.as_bytes(), 1), Ok(0));
+    }
+
+    #[test]
     fn the_count_is_of_what_lookup_answers() {
         let mut random = Random::new(37);
         for turn in 0..120 {
             let table = rule_table(&mut random, 1 + turn % 12, 3);
             let text = text_of(&table);
             let service = u64::from(random.pick(&table.lines).service);
-            let mut counts = [99; 33];
-            assert_eq!(count_shares(&text, service, &mut counts), Ok(table.k));
-            for s in 0..1 << table.k {
-                let backend = table.backend(service, s).unwrap();
-                counts[usize::from(backend) - 1] -= 1;
+            let found: Vec<u16> = (0..1 << table.k)
+                .map(|s| table.backend(service, s).unwrap())
+                .collect();
+            for line in &table.lines {
+                let id = line.rule.backend;
+                let expected = found.iter().filter(|&&other| other == id).count() as u32;
+                let share = count_share(&text, service, u64::from(id));
+                assert_eq!(share, Ok((table.k, expected)));
             }
-            assert_eq!(counts[..32], [0; 32]);
-            assert_eq!(counts[32], 99);
         }
     }
 
     #[test]
-    fn a_refused_count_writes_nothing() {
-        let mut counts = [99; 32];
-        for (text, service, room, expected) in [
-            (RULES, 1, 31, Reason::ShortLoan.at(0)),
-            (RULES, 0, 32, Reason::UnknownService.at(0)),
-            (RULES, 65, 0, Reason::UnknownService.at(0)),
-            (RULES, u64::MAX, 31, Reason::UnknownService.at(0)),
-            (b"TABLE 5 1 0\n1 *0 1\n", 2, 0, Reason::Order.at(2)),
-            (b"", 1, 32, Reason::Malformed.at(1)),
-        ] {
-            let answer = count_shares(text, service, &mut counts[..room]);
-            assert_eq!(answer, Err(expected));
+    fn counts_of_ids_at_their_limits_and_refused_ones() {
+        let sheet = b"TABLE 2 3 0\n1 *10 9999\n1 *0 7\n1 * 1\n";
+        for (backend, share) in [(1, 2), (7, 1), (9_999, 1), (2, 0), (9_998, 0)] {
+            assert_eq!(count_share(sheet, 1, backend), Ok((2, share)));
         }
-        assert_eq!(counts, [99; 32]);
+        for (text, service, backend, expected) in [
+            (RULES, 1, 0, Reason::BadField.at(0)),
+            (RULES, 1, 10_000, Reason::BadField.at(0)),
+            (RULES, 1, 65_538, Reason::BadField.at(0)),
+            (RULES, 0, 10_000, Reason::UnknownService.at(0)),
+            (RULES, 65, 1, Reason::UnknownService.at(0)),
+            (RULES, u64::MAX, 0, Reason::UnknownService.at(0)),
+            (b"TABLE 5 1 0\n1 *0 1\n", 2, 0, Reason::Order.at(2)),
+            (b"", 1, 1, Reason::Malformed.at(1)),
+        ] {
+            assert_eq!(count_share(text, service, backend), Err(expected));
+        }
     }
 
     #[test]

@@ -20,8 +20,8 @@ pub const USAGE: &str = "usage: twin [split SHEET]
        twin churn OLD NEW SERVICE
        twin update OLD SHEET SERVICE
        twin gauge TABLE SERVICE VOLUME BACKEND
-SHEET, TABLE, OLD and NEW are files, - is standard input (once); SERVICE, VOLUME
-and BACKEND are numbers, ADDRESS is a number or a dotted quad.";
+SHEET, TABLE, OLD and NEW are files, - is standard input (once); SERVICE and
+VOLUME are numbers, BACKEND is an id, ADDRESS is a number or a dotted quad.";
 
 /// The file name that stands for standard input.
 const INPUT: &[u8] = b"-";
@@ -180,7 +180,8 @@ mod tests {
 
     const RULES: &str = "TABLE 5 5 293333920\n1 *0 2\n1 * 3\n2 *00 2\n2 *0 1\n2 * 3\n";
 
-    const SHEET: &str = "SHEET 5 2 5\nSERVICE 55 16.6667 33.3333 50\nSERVICE 45 25 25 50\n";
+    const SHEET: &str =
+        "SHEET 5 2 5\nSERVICE 55 1:16.6667 2:33.3333 3:50\nSERVICE 45 1:25 2:25 3:50\n";
 
     fn command(words: &str) -> Option<Command<'_>> {
         let words: Vec<&[u8]> = words.split(' ').map(str::as_bytes).collect();
@@ -242,8 +243,10 @@ mod tests {
             ("gauge - 2 0 3", "0.5 0"),
             ("gauge - 2 10001 3", "REFUSED 2 0"),
             ("gauge - 2 1 0", "REFUSED 2 0"),
-            ("gauge - 2 1 33", "REFUSED 2 0"),
-            ("gauge - 3 10001 33", "REFUSED 8 0"),
+            ("gauge - 2 1 33", "0 0"),
+            ("gauge - 2 1 9999", "0 0"),
+            ("gauge - 2 1 10000", "REFUSED 2 0"),
+            ("gauge - 3 10001 10000", "REFUSED 8 0"),
             ("gauge x 3 10001 33", "REFUSED 1 1"),
         ] {
             assert_eq!(said(words).unwrap(), format!("{expected}\n"), "{words}");

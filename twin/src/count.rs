@@ -3,17 +3,18 @@
 use crate::expansion::Rule;
 use crate::numerals::WHOLE;
 
-/// The number of s from 0 to 2^k - 1 that each backend is given by the first
-/// matching rule from the top, the newest.
-pub fn shares<'a, I>(k: u8, backends: usize, rules: I) -> Vec<u64>
+/// The number of s from 0 to 2^k - 1 that the backend of each id is given by the
+/// first matching rule from the top, the newest.
+pub fn shares<'a, I>(k: u8, ids: &[u64], rules: I) -> Vec<u64>
 where
     I: Iterator<Item = &'a Rule> + Clone,
 {
-    let mut shares = vec![0; backends];
+    let mut shares = vec![0; ids.len()];
     for s in 0..1 << k {
         let first = rules.clone().find(|rule| rule.suffix.matches(s));
-        if let Some(share) = first.and_then(|rule| shares.get_mut(usize::from(rule.backend) - 1)) {
-            *share += 1;
+        let own = |rule: &Rule| ids.iter().position(|&id| id == u64::from(rule.backend));
+        if let Some(place) = first.and_then(own) {
+            shares[place] += 1;
         }
     }
     shares
@@ -36,7 +37,7 @@ mod tests {
     use super::*;
     use crate::expansion::{expand, Ending};
     use crate::random::Random;
-    use crate::vectors::shapes::weights;
+    use crate::vectors::shapes::{ids, weights};
 
     #[test]
     fn stairs_are_the_counted_imbalance_of_each_cut_list() {
@@ -44,14 +45,15 @@ mod tests {
         for _ in 0..200 {
             let k = random.within(1, 9) as u8;
             let count = random.within(1, 12) as usize;
-            let weights = weights(&mut random, count);
-            let list = expand(u64::from(k), random.below(3_000), 32, &weights).unwrap();
+            let (ids, weights) = (ids(&mut random, count), weights(&mut random, count));
+            let tolerance = random.below(3_000);
+            let list = expand(u64::from(k), tolerance, 32, &ids, &weights).unwrap();
             for cut in 1..=list.rules.len() {
-                let shares = shares(k, count, list.rules[..cut].iter().rev());
+                let shares = shares(k, &ids, list.rules[..cut].iter().rev());
                 assert_eq!(shares.iter().sum::<u64>(), 1 << k);
                 assert_eq!(imbalance(k, &weights, &shares), list.stairs[cut - 1]);
             }
-            let last = shares(k, count, list.rules.iter().rev());
+            let last = shares(k, &ids, list.rules.iter().rev());
             let errors = errors(k, &weights, &last);
             let spread = errors.iter().max().unwrap() - errors.iter().min().unwrap();
             assert!(list.ending != Ending::NoGain || spread <= WHOLE as i64);

@@ -2,10 +2,9 @@
 //! service's suffixes, and the service's volume times that part.
 
 use crate::fraction::Fraction;
-use crate::limits::{MOST_BACKENDS, MOST_VOLUME};
+use crate::limits::{MOST_ID, MOST_VOLUME};
 use crate::refusal::{Reason, Refusal};
 use crate::rule_sheet;
-use crate::table::Table;
 use std::fmt;
 
 /// Which of the two gauges is read.
@@ -93,30 +92,24 @@ fn found(
     if table.lines_of(service).is_empty() {
         return Ok(None);
     }
-    if volume > MOST_VOLUME || !(1..=MOST_BACKENDS).contains(&backend) {
+    if volume > MOST_VOLUME || !(1..=MOST_ID).contains(&backend) {
         return Err(Reason::BadField.at(0));
     }
-    let held = held(&table, service, backend as u8);
+    let held = table.share(service, backend as u16);
     Ok(Some(Fractions {
         share: Fraction::new(held, table.k),
         load: Fraction::new(volume as u32 * held, table.k),
     }))
 }
 
-/// How many of the 2^k suffixes of a service the first matching line gives to a
-/// backend.
-fn held(table: &Table, service: u64, backend: u8) -> u32 {
-    let given = |&s: &u32| table.backend(service, s) == Some(backend);
-    (0..1 << table.k).filter(given).count() as u32
-}
-
 #[cfg(test)]
 mod tests {
     use super::*;
-    use crate::calls::count_shares;
+    use crate::calls::count_share;
     use crate::random::Random;
     use crate::rule_sheet::text_of;
     use crate::vectors::shapes::rule_table;
+    use std::collections::BTreeSet;
 
     const SAMPLE: &[u8] = b"TABLE 5 5 293333920\n1 *0 2\n1 * 3\n2 *00 2\n2 *0 1\n2 * 3\n";
     /// Backend 1 holds 8 + 4 + 1 of the 32 suffixes.
@@ -134,6 +127,7 @@ mod tests {
             (1, 55, 2, "0.5 27.5"),
             (1, 55, 3, "0.5 27.5"),
             (1, 55, 32, "0 0"),
+            (1, 55, 9_999, "0 0"),
             (2, 45, 1, "0.25 11.25"),
             (2, 45, 2, "0.25 11.25"),
             (2, 45, 3, "0.5 22.5"),
@@ -158,15 +152,15 @@ mod tests {
     #[test]
     fn nothing_is_plus_zero_and_the_whole_tree_is_one() {
         for k in 1..=12 {
-            let sheet = format!("TABLE {k} 1 0\n64 * 32\n").into_bytes();
-            for backend in 1..=31 {
+            let sheet = format!("TABLE {k} 1 0\n64 * 9999\n").into_bytes();
+            for backend in [1, 2, 32, 999, 9_998] {
                 let none = gauges(&sheet, 64, 10_000, backend).unwrap();
                 assert_eq!((none.share.to_bits(), none.load.to_bits()), (0, 0));
             }
-            let whole = gauges(&sheet, 64, 10_000, 32).unwrap();
+            let whole = gauges(&sheet, 64, 10_000, 9_999).unwrap();
             assert_eq!((whole.share, whole.load), (1.0, 10_000.0));
-            assert_eq!(said(&sheet, 64, 10_000, 32), "1 10000");
-            let idle = gauges(&sheet, 64, 0, 32).unwrap();
+            assert_eq!(said(&sheet, 64, 10_000, 9_999), "1 10000");
+            let idle = gauges(&sheet, 64, 0, 9_999).unwrap();
             assert_eq!((idle.share, idle.load.to_bits()), (1.0, 0));
         }
     }
@@ -185,7 +179,7 @@ mod tests {
     fn the_order_of_refusals() {
         let bad = b"TABLE 5 2 0\n1 *0 1\n1 *00 1\n";
         for volume in [0, 10_000, 10_001, u64::MAX] {
-            for backend in [0, 1, 32, 33, u64::MAX] {
+            for backend in [0, 1, 33, 9_999, 10_000, 65_537, u64::MAX] {
                 for service in [0, 1, 3, 64, 65, u64::MAX] {
                     let at_line = Err(Reason::Order.at(3));
                     assert_eq!(gauges(bad, service, volume, backend), at_line);
@@ -194,7 +188,7 @@ mod tests {
                     let unknown = Err(Reason::UnknownService.at(0));
                     assert_eq!(gauges(SAMPLE, service, volume, backend), unknown);
                 }
-                let within = volume <= 10_000 && (1..=32).contains(&backend);
+                let within = volume <= 10_000 && (1..=9_999).contains(&backend);
                 let answer = gauges(SAMPLE, 1, volume, backend);
                 let refused = Err(Reason::BadField.at(0));
                 assert!(if within {
@@ -218,7 +212,9 @@ mod tests {
             }
             let service = random.below(5);
             let volume = random.below(10_200);
-            let backend = random.below(34);
+            let any = random.below(10_100);
+            let own = u64::from(random.pick(&table.lines).rule.backend);
+            let backend = if turn % 3 == 0 { any } else { own };
             let record = gauges(&text, service, volume, backend);
             let expected = |of: fn(Gauges) -> Reading| match record {
                 Ok(record) => Ok(of(record)),
@@ -243,12 +239,13 @@ mod tests {
             let text = text_of(&table);
             let service = u64::from(random.pick(&table.lines).service);
             let volume = random.below(10_001);
-            let mut counts = [0; 32];
-            count_shares(&text, service, &mut counts).unwrap();
+            let lines = table.lines_of(service);
+            let ids: BTreeSet<u16> = lines.iter().map(|line| line.rule.backend).collect();
             let (mut shares, mut loads) = (0.0, 0.0);
-            for (backend, count) in (1..).zip(counts) {
+            for backend in ids.into_iter().map(u64::from) {
+                let (_, count) = count_share(&text, service, backend).unwrap();
                 let found = gauges(&text, service, volume, backend).unwrap();
-                let share = count as f64 / f64::from(1 << table.k);
+                let share = f64::from(count) / f64::from(1 << table.k);
                 assert_eq!(found.share.to_bits(), share.to_bits());
                 assert_eq!(found.load.to_bits(), (volume as f64 * share).to_bits());
                 shares += found.share;

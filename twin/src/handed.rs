@@ -1,11 +1,9 @@
 //! A table handed over in numbers and without a text: four for each line, its
 //! service, the length and the value of its suffix, and its backend. Services
-//! and backends have the numbers that their sheet would show.
+//! have the numbers and backends the ids that their sheet would show.
 
 use crate::expansion::Rule;
-use crate::limits::{
-    MOST_BACKENDS, MOST_BITS, MOST_BYTES, MOST_CAPACITY, MOST_SERVICES, MOST_TOTAL,
-};
+use crate::limits::{MOST_BITS, MOST_BYTES, MOST_CAPACITY, MOST_ID, MOST_SERVICES, MOST_TOTAL};
 use crate::numerals::number_width;
 use crate::refusal::{Reason, Refusal};
 use crate::rule_sheet::{lend, text_of};
@@ -78,14 +76,13 @@ fn text_length(head: [u64; 3], lines: &[[u64; 4]], rest: &[u64]) -> u128 {
 
 /// One line, if each of its numbers is within its limits.
 pub(crate) fn line_of(k: u64, &[service, length, value, backend]: &[u64; 4]) -> Option<RuleLine> {
-    let within = (1..=MOST_SERVICES).contains(&service)
-        && length <= k
-        && (1..=MOST_BACKENDS).contains(&backend);
+    let within =
+        (1..=MOST_SERVICES).contains(&service) && length <= k && (1..=MOST_ID).contains(&backend);
     if !within {
         return None;
     }
     let suffix = Suffix::new(length, value)?;
-    let (service, backend) = (service as u8, backend as u8);
+    let (service, backend) = (service as u8, backend as u16);
     let rule = Rule { suffix, backend };
     Some(RuleLine { service, rule })
 }
@@ -174,12 +171,12 @@ mod tests {
     }
 
     #[test]
-    fn services_and_backends_count_from_1() {
-        for (service, backend) in [(1, 1), (64, 32)] {
+    fn services_and_backends_at_their_limits() {
+        for (service, backend) in [(1, 1), (64, 9_999), (9, 33)] {
             let table = table_of(5, 0, &[service, 0, 0, backend]).unwrap();
             assert_eq!(numbers_of(&table.lines), [service, 0, 0, backend]);
         }
-        for (service, backend) in [(0, 1), (65, 1), (1, 0), (1, 33)] {
+        for (service, backend) in [(0, 1), (65, 1), (1, 0), (1, 10_000), (1, 65_537)] {
             let refusal = refused(5, 0, &[service, 0, 0, backend]);
             assert_eq!(refusal, Reason::BadField.at(0));
         }

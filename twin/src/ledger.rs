@@ -56,12 +56,12 @@ impl Ledger {
         self.imbalance
     }
 
-    /// The backends, first number first.
+    /// The backends, lowest id first.
     pub fn backends(&self) -> &[Backend] {
         &self.backends
     }
 
-    /// Step 3: giver and receiver, the lowest number if equal.
+    /// Step 3: giver and receiver, the lowest place if equal.
     pub fn extremes(&self) -> Extremes {
         let first = self.backends[0].error;
         let (mut giver, mut most) = (0, first);

@@ -1,4 +1,4 @@
-//! The Rust twin: document 01, and requests 01 and 03 of document 02, written
+//! The Rust twin: document 01, and requests 01, 03 and 04 of document 02, written
 //! once more, to be tried against.
 
 pub mod calls;

@@ -1,9 +1,12 @@
-//! The limits of document 01 ("Units and limits", "Rule sheet and program").
+//! The limits of document 01 ("Units and limits", "Rule sheet and program") and
+//! of request 04.
 
 /// The most suffix bits, k.
 pub const MOST_BITS: u64 = crate::suffix::MOST_BITS as u64;
 /// The most backends of a service.
 pub const MOST_BACKENDS: u64 = 32;
+/// The greatest id of a backend.
+pub const MOST_ID: u64 = 9_999;
 /// The most services of a sheet.
 pub const MOST_SERVICES: u64 = 64;
 /// The most rules of one service.

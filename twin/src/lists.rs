@@ -1,5 +1,5 @@
 //! The list of one service in numbers: three for each rule, newest rule first,
-//! the length and the value of its suffix and its backend.
+//! the length and the value of its suffix and the id of its backend.
 
 use crate::expansion::Rule;
 use crate::handed::line_of;
@@ -51,6 +51,7 @@ mod tests {
     use crate::handed::table_of;
     use crate::random::Random;
     use crate::vectors::loaded::{any_list, spoil_list};
+    use crate::vectors::shapes::ids;
 
     #[test]
     fn a_list_is_checked_as_a_sheet_of_one_service() {
@@ -58,7 +59,8 @@ mod tests {
         for _ in 0..20_000 {
             let k = random.within(1, 12);
             let rules = *random.pick(&[1, 2, 4, 31, 32, 33, 34]);
-            let list = any_list(&mut random, k as u8, rules, 32);
+            let ids = ids(&mut random, 32);
+            let list = any_list(&mut random, k as u8, rules, &ids);
             let mut numbers = numbers_of(list.iter());
             spoil_list(&mut random, &mut numbers);
             let rules = numbers.chunks(3).map(|rule| [&[1], rule].concat());
@@ -80,7 +82,7 @@ mod tests {
         assert_eq!(refused(&[]), 2);
         assert_eq!(refused(&[6]), 1);
         assert_eq!(refused(&[0, 1]), 1);
-        for rule in [[6, 0, 1], [1, 2, 1], [0, 1, 1], [0, 0, 0], [0, 0, 33]] {
+        for rule in [[6, 0, 1], [1, 2, 1], [0, 1, 1], [0, 0, 0], [0, 0, 10_000]] {
             assert_eq!(refused(&rule), 2);
             assert_eq!(refused(&[&rule[..], &[1]].concat()), 2);
             assert_eq!(refused(&behind(&rule)), 2);
@@ -89,7 +91,7 @@ mod tests {
         assert_eq!(refused(&behind(&[0, 0])), 1);
         assert_eq!(refused(&many), 9);
         assert_eq!(refused(&[0, 0, 1, 0, 0, 1]), 9);
-        assert_eq!(refused(&[1, 0, 1, 2, 0, 1, 0, 0, 33]), 9);
+        assert_eq!(refused(&[1, 0, 1, 2, 0, 1, 0, 0, 10_000]), 9);
         assert_eq!(refused(&[1, 0, 1, 2, 0, 1, 0]), 9);
         assert_eq!(refused(&[1, 0, 1]), 9);
         assert_eq!(refused(&[1, 0, 1, 0]), 1);

@@ -10,10 +10,12 @@ use crate::table::{RuleLine, Table};
 use std::cmp::Reverse;
 use std::collections::BinaryHeap;
 
-/// A service: its volume, and the weight of each backend in millionths.
+/// A service: its volume, and the id and the weight in millionths of each
+/// backend.
 #[derive(Clone, PartialEq, Eq, Debug)]
 pub struct Service {
     pub volume: u64,
+    pub ids: Vec<u64>,
     pub weights: Vec<u64>,
 }
 
@@ -65,23 +67,24 @@ pub fn check_head(order: &Order) -> Result<(), Reason> {
     Ok(())
 }
 
-/// The checks of one SERVICE line.
+/// The checks of one SERVICE line; there is an id for each weight.
 fn check_service(index: usize, service: &Service) -> Result<(), Reason> {
     if index as u64 >= MOST_SERVICES || service.weights.len() as u64 > MOST_BACKENDS {
         Err(Reason::TooMany)
-    } else if service.weights.is_empty() {
+    } else if service.weights.is_empty() || service.ids.len() != service.weights.len() {
         Err(Reason::Malformed)
     } else {
         check_numbers(service)
     }
 }
 
-/// The checks of a SERVICE line's fields: the volume, the weights, their sum.
+/// The checks of a SERVICE line's fields: the volume, the ids and the
+/// weights, their sum.
 pub fn check_numbers(service: &Service) -> Result<(), Reason> {
     if service.volume > MOST_VOLUME {
         return Err(Reason::BadField);
     }
-    check_weights(&service.weights)
+    check_weights(&service.ids, &service.weights)
 }
 
 /// The checks after the lines: no service, then a capacity below the services.
@@ -98,8 +101,10 @@ pub fn check_size(order: &Order) -> Result<(), Reason> {
 /// The packing of an order that keeps the rules of document 01.
 pub fn pack_checked(order: &Order) -> Packing {
     let k = order.k as u8;
-    let list =
-        |service: &Service| make_list(k, order.tolerance, MOST_RULES as usize, &service.weights);
+    let list = |service: &Service| {
+        let Service { ids, weights, .. } = service;
+        make_list(k, order.tolerance, MOST_RULES as usize, ids, weights)
+    };
     let lists: Vec<Expansion> = order.services.iter().map(list).collect();
     let grants = grants(order, &lists);
     let table = Table {
@@ -165,7 +170,7 @@ mod tests {
     use super::*;
     use crate::count;
     use crate::random::Random;
-    use crate::vectors::shapes::{order, service, OrderShape};
+    use crate::vectors::shapes::{named, order, service, OrderShape};
 
     /// The counted total, from k, volumes, weights and rule lines alone.
     fn counted_total(order: &Order, lines: &[RuleLine]) -> u64 {
@@ -175,7 +180,7 @@ mod tests {
                 .iter()
                 .filter(|line| usize::from(line.service) == index + 1);
             let k = order.k as u8;
-            let shares = count::shares(k, service.weights.len(), own.map(|line| &line.rule));
+            let shares = count::shares(k, &service.ids, own.map(|line| &line.rule));
             total += service.volume * count::imbalance(k, &service.weights, &shares);
         }
         total
@@ -281,5 +286,7 @@ mod tests {
         assert_eq!(number(1, 0, 1, vec![service(10_001, &[0; 33])]), 4);
         assert_eq!(number(1, 0, 1, vec![service(10_001, &[0])]), 2);
         assert_eq!(number(1, 0, 1, vec![service(1, &[0])]), 3);
+        assert_eq!(number(1, 0, 1, vec![named(1, &[2, 1], &[0; 2])]), 2);
+        assert_eq!(number(1, 0, 1, vec![named(10_001, &[1], &[0; 2])]), 1);
     }
 }

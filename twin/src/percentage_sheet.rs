@@ -1,7 +1,8 @@
-//! The reader of the percentage sheet (document 01, "Percentage sheet").
+//! The reader of the percentage sheet (document 01, "Percentage sheet", and
+//! request 04).
 
-use crate::expansion::check_weights;
-use crate::limits::{MOST_BACKENDS, MOST_BITS, MOST_CAPACITY, MOST_SERVICES, MOST_VOLUME};
+use crate::expansion::check_sum;
+use crate::limits::{MOST_BACKENDS, MOST_BITS, MOST_CAPACITY, MOST_ID, MOST_SERVICES, MOST_VOLUME};
 use crate::lines::fields;
 use crate::numerals::{read_number, read_percentage};
 use crate::packing::{check_size, Order, Service};
@@ -32,7 +33,7 @@ fn read_head(lines: &mut SheetLines) -> Result<Order, Refusal> {
     })
 }
 
-/// A further line: `SERVICE volume p1 .. pM`.
+/// A further line: `SERVICE volume id1:p1 .. idM:pM`.
 fn read_service(line: &[u8], before: usize, lines: &SheetLines) -> Result<Service, Refusal> {
     let mut parts = fields(line);
     if parts.next() != Some(b"SERVICE") {
@@ -52,12 +53,38 @@ fn read_service(line: &[u8], before: usize, lines: &SheetLines) -> Result<Servic
         .next()
         .and_then(|part| read_number(part, 0, MOST_VOLUME));
     let volume = lines.field(volume)?;
+    let mut ids = Vec::with_capacity(count as usize - 1);
     let mut weights = Vec::with_capacity(count as usize - 1);
+    let mut before = 0;
     for part in parts {
-        weights.push(lines.field(read_percentage(part))?);
+        let (id, weight) = lines.field(read_backend(part, before))?;
+        ids.push(id);
+        weights.push(weight);
+        before = id;
     }
-    check_weights(&weights).map_err(|reason| lines.refusal(reason))?;
-    Ok(Service { volume, weights })
+    check_sum(&weights).map_err(|reason| lines.refusal(reason))?;
+    Ok(Service {
+        volume,
+        ids,
+        weights,
+    })
+}
+
+/// A backend, `id:percentage`, whose id is above the one before it and so not 0:
+/// its first digit isn't 0 either.
+fn read_backend(part: &[u8], before: u64) -> Option<(u64, u64)> {
+    let mut id = 0;
+    for (at, &byte) in part.iter().enumerate() {
+        match byte {
+            b'0' if id == 0 => return None,
+            b'0'..=b'9' if id <= MOST_ID => id = 10 * id + u64::from(byte - b'0'),
+            b':' if before < id && id <= MOST_ID => {
+                return Some((id, read_percentage(&part[at + 1..])?))
+            }
+            _ => return None,
+        }
+    }
+    None
 }
 
 #[cfg(test)]
@@ -72,15 +99,17 @@ mod tests {
 
     #[test]
     fn a_sheet_is_read() {
-        let order =
-            read(b"SHEET 5 2.50 5\nSERVICE 55 16.6667 33.3333 50\nSERVICE 0 100\n").unwrap();
+        let text = b"SHEET 5 2.50 5\nSERVICE 55 1:16.6667 20:33.3333 9999:50\nSERVICE 0 7:100\n";
+        let order = read(text).unwrap();
         assert_eq!((order.k, order.tolerance, order.capacity), (5, 25_000, 5));
         let first = Service {
             volume: 55,
+            ids: vec![1, 20, 9_999],
             weights: vec![166_667, 333_333, 500_000],
         };
         assert_eq!(order.services[0], first);
         assert_eq!(order.services.len(), 2);
+        assert_eq!(order.services[1].ids, [7]);
     }
 
     #[test]
@@ -115,36 +144,83 @@ mod tests {
     fn service_lines_are_turned_back() {
         let second = |line: &str| refused(&format!("SHEET 5 2 5\n{line}"));
         for line in [
-            "SERVICE 1 100",
-            "SERVICES 1 100\n",
+            "SERVICE 1 1:100",
+            "SERVICES 1 1:100\n",
             "\n",
             "SERVICE\n",
             "SERVICE 1\n",
-            "service 1 100\n",
+            "service 1 1:100\n",
         ] {
             assert_eq!(second(line), (1, 2), "{line:?}");
         }
         for line in [
             "SERVICE 1 \n",
-            "SERVICE  100\n",
-            "SERVICE 10001 100\n",
-            "SERVICE 1 100 \n",
-            "SERVICE 1 100\r\n",
+            "SERVICE  1:100\n",
+            "SERVICE 10001 1:100\n",
+            "SERVICE 1 1:100 \n",
+            "SERVICE 1 1:100\r\n",
         ] {
             assert_eq!(second(line), (2, 2), "{line:?}");
         }
         for part in ["18.4.2", "100.0001", "018.4", "18.", ".4", "18.40000"] {
-            assert_eq!(second(&format!("SERVICE 1 {part}\n")), (2, 2));
+            assert_eq!(second(&format!("SERVICE 1 1:{part}\n")), (2, 2));
         }
-        assert_eq!(second("SERVICE 1 100.0000 0.0001\n"), (3, 2));
-        assert_eq!(second(&format!("SERVICE x{}\n", " 1".repeat(33))), (4, 2));
-        assert_eq!(second(&format!("SERVICE x{}\n", " 1".repeat(32))), (2, 2));
+        assert_eq!(second("SERVICE 1 1:100.0000 2:0.0001\n"), (3, 2));
+        assert_eq!(second(&format!("SERVICE x{}\n", " 1:1".repeat(33))), (4, 2));
+        assert_eq!(second(&format!("SERVICE x{}\n", " 1:1".repeat(32))), (2, 2));
+    }
+
+    /// Backends that are refused for their ids or their form.
+    const BAD_BACKENDS: [&str; 29] = [
+        "100",
+        "50 50",
+        "0:100",
+        "10000:100",
+        "01:100",
+        "0001:100",
+        ":100",
+        "1:",
+        ":",
+        "1",
+        "1:100:",
+        "1::100",
+        "1:50:50",
+        "+1:100",
+        "-1:100",
+        "1.0:100",
+        "1;100",
+        "x:100",
+        "1:50 1:50",
+        "2:50 1:50",
+        "2:50 2:40",
+        "1:50 50",
+        "50 2:50",
+        "1:50 2:40 1:10",
+        "9999:50 10000:50",
+        "1:50 0:50",
+        "65537:100",
+        "18446744073709551617:100",
+        "1: 100",
+    ];
+
+    #[test]
+    fn ids_are_turned_back() {
+        let second = |parts: &str| refused(&format!("SHEET 5 2 5\nSERVICE 1 {parts}\n"));
+        for parts in BAD_BACKENDS {
+            assert_eq!(second(parts), (2, 2), "{parts:?}");
+        }
+        for parts in ["1:50 9999:49", "3:1", "1:0 2:0"] {
+            assert_eq!(second(parts), (3, 2), "{parts:?}");
+        }
+        assert_eq!(second("2:50 1:49"), (2, 2));
+        assert_eq!(second(&"1:1 ".repeat(33)[..131]), (4, 2));
+        assert!(read(b"SHEET 5 2 5\nSERVICE 1 1:0 5:0 9999:100\n").is_ok());
     }
 
     #[test]
     fn capacity_and_services() {
         let sheet = |capacity: u64, services: usize, last: &str| {
-            let lines = "SERVICE 1 100\n".repeat(services);
+            let lines = "SERVICE 1 1:100\n".repeat(services);
             format!("SHEET 1 0 {capacity}\n{lines}{last}")
         };
         assert!(read(sheet(64, 64, "").as_bytes()).is_ok());

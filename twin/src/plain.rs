@@ -1,12 +1,15 @@
-//! Request 03 once more, straight from the document and without haste: each
-//! share is counted by first match after every rule, and each suffix is tried.
+//! Requests 03 and 04 once more, straight from the document and without haste:
+//! each share is counted by first match after every rule, and each suffix is
+//! tried.
 
 use crate::expansion::{Ending, Rule};
 use crate::numerals::WHOLE;
+use crate::packing::Service;
 use crate::suffix::Suffix;
+use std::collections::BTreeMap;
 
 /// The backend of each s from 0 to 2^k - 1 by the first matching rule.
-fn by_first_match<'a>(k: u8, rules: impl Iterator<Item = &'a Rule> + Clone) -> Vec<u8> {
+fn by_first_match<'a>(k: u8, rules: impl Iterator<Item = &'a Rule> + Clone) -> Vec<u16> {
     let first = |s| rules.clone().find(|rule| rule.suffix.matches(s));
     (0..1 << k).map(|s| first(s).unwrap().backend).collect()
 }
@@ -21,50 +24,61 @@ pub fn churn<'a>(
     (0..old.len()).filter(|&s| old[s] != new[s]).count() as u64
 }
 
+/// The weight of each backend that the old list or the new weights name: 0 where
+/// it has no new one.
+fn weights(old: &[Rule], new: &Service) -> BTreeMap<u16, u64> {
+    let mut weights: BTreeMap<u16, u64> = old.iter().map(|rule| (rule.backend, 0)).collect();
+    for (&id, &weight) in new.ids.iter().zip(&new.weights) {
+        weights.insert(id as u16, weight);
+    }
+    weights
+}
+
 /// One run from the oldest `keep` rules of an old list, which is newest first;
 /// the new list is oldest first.
-pub fn run(
-    k: u8,
-    tolerance: u64,
-    old: &[Rule],
-    keep: usize,
-    weights: &[u64],
-) -> (Ending, Vec<Rule>) {
+pub fn run(k: u8, tolerance: u64, old: &[Rule], keep: usize, new: &Service) -> (Ending, Vec<Rule>) {
+    let weights = weights(old, new);
     let mut rules: Vec<Rule> = old.iter().rev().take(keep).copied().collect();
     let smallest = rules.iter().map(|rule| 1 << (k - rule.suffix.length()));
     let cap = smallest.min().unwrap().min(1 << (k - 1));
     loop {
         let holders = by_first_match(k, rules.iter().rev());
-        let errors = errors(k, weights, &holders);
+        let errors = errors(k, &weights, &holders);
         if errors
             .iter()
-            .all(|error| error.abs() <= tolerance as i64 * (1 << k))
+            .all(|(_, error)| error.abs() <= tolerance as i64 * (1 << k))
         {
             return (Ending::Within, rules);
         }
-        let (most, least) = (*errors.iter().max().unwrap(), *errors.iter().min().unwrap());
-        let first = |error| errors.iter().position(|&other| other == error).unwrap() as u8 + 1;
+        let most = errors.iter().map(|&(_, error)| error).max().unwrap();
+        let least = errors.iter().map(|&(_, error)| error).min().unwrap();
+        let lowest = |wanted| {
+            errors
+                .iter()
+                .find(|&&(_, error)| error == wanted)
+                .unwrap()
+                .0
+        };
         let Some(size) = best_size(cap, -least, most) else {
             return (Ending::NoGain, rules);
         };
         if rules.len() == old.len() {
             return (Ending::Budget, rules);
         }
-        let suffix = held_wholly(k, size, &holders, first(most)).unwrap();
         rules.push(Rule {
-            suffix,
-            backend: first(least),
+            suffix: held_wholly(k, size, &holders, lowest(most)).unwrap(),
+            backend: lowest(least),
         });
     }
 }
 
-fn errors(k: u8, weights: &[u64], holders: &[u8]) -> Vec<i64> {
-    let error = |(index, &weight): (usize, &u64)| {
-        let own = |&&holder: &&u8| usize::from(holder) == index + 1;
-        let share = holders.iter().filter(own).count() as i64;
-        share * WHOLE as i64 - weight as i64 * (1 << k)
+/// The error of each backend, lowest id first.
+fn errors(k: u8, weights: &BTreeMap<u16, u64>, holders: &[u16]) -> Vec<(u16, i64)> {
+    let error = |(&id, &weight): (&u16, &u64)| {
+        let share = holders.iter().filter(|&&holder| holder == id).count() as i64;
+        (id, share * WHOLE as i64 - weight as i64 * (1 << k))
     };
-    weights.iter().enumerate().map(error).collect()
+    weights.iter().map(error).collect()
 }
 
 /// The term with the greatest reduction, the larger one if equal.
@@ -79,7 +93,7 @@ fn best_size(cap: usize, shortfall: i64, excess: i64) -> Option<usize> {
 }
 
 /// The suffix with the lowest place among those of a size held by one backend.
-fn held_wholly(k: u8, size: usize, holders: &[u8], giver: u8) -> Option<Suffix> {
+fn held_wholly(k: u8, size: usize, holders: &[u16], giver: u16) -> Option<Suffix> {
     let length = k - size.ilog2() as u8;
     let suffixes = (0..1 << length).map(|place| Suffix::at_place(length, place));
     let whole = |suffix: &Suffix| {

@@ -59,7 +59,8 @@ mod tests {
     use super::*;
     use crate::refusal::Reason;
 
-    const SAMPLE: &[u8] = b"SHEET 5 2 5\nSERVICE 55 16.6667 33.3333 50\nSERVICE 45 25 25 50\n";
+    const SAMPLE: &[u8] =
+        b"SHEET 5 2 5\nSERVICE 55 1:16.6667 2:33.3333 3:50\nSERVICE 45 1:25 2:25 3:50\n";
 
     /// The answer for buffers of so many 99, and the buffers afterwards.
     fn planned(sheet: &[u8], figures: usize, table: usize) -> (Option<PlanRefusal>, [Vec<u64>; 2]) {

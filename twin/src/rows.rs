@@ -1,5 +1,6 @@
 //! An order handed over in rows of numbers: the volume of each service, its
-//! size (how many weights it has), and the weights of all services in one row.
+//! size (how many backends it has), the ids of all services in one row, and
+//! their weights in another.
 
 use crate::limits::{MOST_BACKENDS, MOST_SERVICES};
 use crate::packing::{
@@ -7,11 +8,12 @@ use crate::packing::{
 };
 use crate::refusal::{Reason, Refusal};
 
-/// The three rows.
+/// The four rows.
 #[derive(Clone, Default, PartialEq, Eq, Debug)]
 pub struct Rows {
     pub volumes: Vec<u64>,
     pub sizes: Vec<u64>,
+    pub ids: Vec<u64>,
     pub weights: Vec<u64>,
 }
 
@@ -21,6 +23,7 @@ pub fn rows_of(services: &[Service]) -> Rows {
     for service in services {
         rows.volumes.push(service.volume);
         rows.sizes.push(service.weights.len() as u64);
+        rows.ids.extend(&service.ids);
         rows.weights.extend(&service.weights);
     }
     rows
@@ -40,39 +43,46 @@ pub fn pack_rows(k: u64, tolerance: u64, capacity: u64, rows: &Rows) -> Result<P
 }
 
 /// Adds the services of the rows: line 1 is checked, then service by service,
-/// then that no weight is left over, and what every sheet checks after its lines.
+/// then that nothing is left over, and what every sheet checks after its lines.
 fn fill(order: &mut Order, rows: &Rows) -> Result<(), Reason> {
     check_head(order)?;
+    let mut ids = rows.ids.as_slice();
     let mut weights = rows.weights.as_slice();
     for index in 0..rows.volumes.len().max(rows.sizes.len()) {
-        let service = take_service(index, rows, &mut weights)?;
+        let (volume, size) = measures(index, rows)?;
+        let service = Service {
+            volume,
+            ids: take(&mut ids, size)?,
+            weights: take(&mut weights, size)?,
+        };
         check_numbers(&service)?;
         order.services.push(service);
     }
-    if !weights.is_empty() {
+    if !ids.is_empty() || !weights.is_empty() {
         return Err(Reason::Malformed);
     }
     check_size(order)
 }
 
-/// Takes the weights of a service off their row: the 65th service, then the
-/// field count, where a 33rd weight is one too many.
-fn take_service(index: usize, rows: &Rows, weights: &mut &[u64]) -> Result<Service, Reason> {
+/// The volume and the size of a service: the 65th service, then the field count,
+/// where a 33rd backend is one too many.
+fn measures(index: usize, rows: &Rows) -> Result<(u64, usize), Reason> {
     if index as u64 >= MOST_SERVICES {
         return Err(Reason::TooMany);
     }
     let volume = *rows.volumes.get(index).ok_or(Reason::Malformed)?;
-    let size = match *rows.sizes.get(index).ok_or(Reason::Malformed)? {
-        0 => return Err(Reason::Malformed),
-        size if size > MOST_BACKENDS => return Err(Reason::TooMany),
-        size => size as usize,
-    };
-    let (own, rest) = weights.split_at_checked(size).ok_or(Reason::Malformed)?;
-    *weights = rest;
-    Ok(Service {
-        volume,
-        weights: own.to_vec(),
-    })
+    match *rows.sizes.get(index).ok_or(Reason::Malformed)? {
+        0 => Err(Reason::Malformed),
+        size if size > MOST_BACKENDS => Err(Reason::TooMany),
+        size => Ok((volume, size as usize)),
+    }
+}
+
+/// Takes the numbers of a service off their row.
+fn take(row: &mut &[u64], size: usize) -> Result<Vec<u64>, Reason> {
+    let (own, rest) = row.split_at_checked(size).ok_or(Reason::Malformed)?;
+    *row = rest;
+    Ok(own.to_vec())
 }
 
 #[cfg(test)]
@@ -81,7 +91,7 @@ mod tests {
     use crate::numerals::WHOLE;
     use crate::packing::pack;
     use crate::random::Random;
-    use crate::vectors::shapes::{order, OrderShape};
+    use crate::vectors::shapes::{self, first_ids, order, OrderShape};
 
     #[test]
     fn rows_are_packed_as_their_order_is() {
@@ -96,11 +106,12 @@ mod tests {
             if turn % 2 == 0 {
                 let at = random.below(shape.services) as usize;
                 let service = &mut order.services[at];
-                match random.below(5) {
+                match random.below(6) {
                     0 => service.volume = random.any_size(),
                     1 => service.weights[0] = random.any_size(),
-                    2 => service.weights.resize(random.below(40) as usize, 0),
-                    3 => order.capacity = random.below(9),
+                    2 => *service = shapes::service(1, &vec![0; random.below(40) as usize]),
+                    3 => service.ids[0] = random.any_size(),
+                    4 => order.capacity = random.below(9),
                     _ => order.services.clear(),
                 }
             }
@@ -111,13 +122,46 @@ mod tests {
     }
 
     /// The number of the refusal, or 0.
-    fn number(volumes: &[u64], sizes: &[u64], weights: &[u64]) -> u8 {
+    fn packed(volumes: &[u64], sizes: &[u64], ids: &[u64], weights: &[u64]) -> u8 {
         let rows = Rows {
             volumes: volumes.to_vec(),
             sizes: sizes.to_vec(),
+            ids: ids.to_vec(),
             weights: weights.to_vec(),
         };
         pack_rows(5, 0, 64, &rows).map_or_else(Refusal::number, |_| 0)
+    }
+
+    /// With as many ids as weights, which begin at 1 again with each size.
+    fn number(volumes: &[u64], sizes: &[u64], weights: &[u64]) -> u8 {
+        let ids = sizes.iter().flat_map(|&size| 1..=size).chain(1..);
+        let ids: Vec<u64> = ids.take(weights.len()).collect();
+        packed(volumes, sizes, &ids, weights)
+    }
+
+    #[test]
+    fn ids_that_do_not_fit_their_sizes() {
+        let half = [500_000; 2];
+        for (ids, expected) in [
+            (&[1, 2][..], 0),
+            (&[9_998, 9_999], 0),
+            (&[1], 1),
+            (&[], 1),
+            (&[1, 2, 3], 1),
+            (&[2, 1], 2),
+            (&[2, 1, 3], 2),
+            (&[0, 1], 2),
+            (&[1, 10_000], 2),
+        ] {
+            assert_eq!(packed(&[1], &[2], ids, &half), expected, "{ids:?}");
+        }
+        assert_eq!(packed(&[10_001], &[2], &[1], &half), 1);
+        assert_eq!(packed(&[10_001], &[2], &[2, 1], &[0; 2]), 2);
+        assert_eq!(packed(&[1], &[2], &[2, 1], &[0; 2]), 2);
+        assert_eq!(packed(&[1], &[33], &first_ids(2), &half), 4);
+        assert_eq!(packed(&[1, 1], &[1, 1], &[7, 3], &[WHOLE; 2]), 0);
+        assert_eq!(packed(&[1, 1], &[1, 1], &[7, 3, 9], &[WHOLE; 2]), 1);
+        assert_eq!(packed(&[], &[], &[1], &[]), 1);
     }
 
     #[test]

@@ -1,9 +1,7 @@
 //! The rule sheet: its reader and its writer (document 01, "Rule sheet").
 
 use crate::expansion::Rule;
-use crate::limits::{
-    MOST_BACKENDS, MOST_BITS, MOST_BYTES, MOST_CAPACITY, MOST_SERVICES, MOST_TOTAL,
-};
+use crate::limits::{MOST_BITS, MOST_BYTES, MOST_CAPACITY, MOST_ID, MOST_SERVICES, MOST_TOTAL};
 use crate::lines::fields;
 use crate::numerals::{push_number, read_number};
 use crate::refusal::{Reason, Refusal};
@@ -46,7 +44,7 @@ fn read_line(line: &[u8], k: u8, lines: &SheetLines) -> Result<RuleLine, Refusal
     let [service, suffix, backend] = three?;
     let service = lines.field(read_number(service, 1, MOST_SERVICES))? as u8;
     let suffix = lines.field(Suffix::read(suffix, u64::from(k)))?;
-    let backend = lines.field(read_number(backend, 1, MOST_BACKENDS))? as u8;
+    let backend = lines.field(read_number(backend, 1, MOST_ID))? as u16;
     let rule = Rule { suffix, backend };
     Ok(RuleLine { service, rule })
 }
@@ -147,7 +145,7 @@ mod tests {
             "65 * 1\n",
             "1 *000 1\n",
             "1 * 0\n",
-            "1 * 33\n",
+            "1 * 10000\n",
             "1  1\n",
             "1 ** 1\n",
             "1 * 01\n",
@@ -159,6 +157,20 @@ mod tests {
         assert_eq!(lines("1 * 1\n1 *0 1\n"), (9, 3));
         assert_eq!(lines("1 *0 1\n1 *00 1\n"), (9, 3));
         assert_eq!(lines("1 *0 1\n2 * 1\n"), (9, 3));
+    }
+
+    #[test]
+    fn ids_are_of_1_to_9_999() {
+        for id in ["1", "33", "9999"] {
+            let text = format!("TABLE 2 1 0\n1 * {id}\n");
+            let table = read(text.as_bytes()).unwrap();
+            assert_eq!(table.lines[0].rule.backend.to_string(), id);
+            assert_eq!(text_of(&table), text.as_bytes());
+        }
+        for id in ["0", "10000", "65537", "0001", "1:", ":1", "1:100", ""] {
+            let text = format!("TABLE 2 1 0\n1 * {id}\n");
+            assert_eq!(refused(&text), (2, 2), "{id:?}");
+        }
     }
 
     #[test]

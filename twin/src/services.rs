@@ -1,8 +1,8 @@
 //! One service of a sheet: the rules that a rule sheet has for it, or the
-//! weights that a percentage sheet has.
+//! backends that a percentage sheet has.
 
 use crate::expansion::Rule;
-use crate::packing::Order;
+use crate::packing::{Order, Service};
 use crate::refusal::{Reason, Refusal};
 use crate::table::Table;
 
@@ -14,23 +14,24 @@ pub fn rules_of(table: &Table, service: u64) -> Result<Vec<Rule>, Refusal> {
     }
 }
 
-/// The weights of a service, which are numbered from 1 by place, or refusal 8.
-pub fn weights_of(order: &Order, service: u64) -> Result<&[u64], Refusal> {
+/// A service of a percentage sheet, numbered from 1 by place, or refusal 8.
+pub fn service_of(order: &Order, service: u64) -> Result<&Service, Refusal> {
     let index = service.checked_sub(1);
     let index = index.and_then(|index| usize::try_from(index).ok());
     let found = index.and_then(|index| order.services.get(index));
-    let service = found.ok_or(Reason::UnknownService.at(0))?;
-    Ok(&service.weights)
+    found.ok_or(Reason::UnknownService.at(0))
 }
 
 #[cfg(test)]
 mod tests {
     use super::*;
     use crate::lists::numbers_of;
+    use crate::vectors::shapes::{named, service};
     use crate::{percentage_sheet, rule_sheet};
 
     const RULES: &[u8] = b"TABLE 5 5 293333920\n1 *0 2\n1 * 3\n3 *100 2\n3 *0 1\n3 * 3\n";
-    const SHEET: &[u8] = b"SHEET 5 2.5 5\nSERVICE 55 16.6667 33.3333 50\nSERVICE 45 25 75\n";
+    const SHEET: &[u8] =
+        b"SHEET 5 2.5 5\nSERVICE 55 1:16.6667 2:33.3333 3:50\nSERVICE 45 3:25 9999:75\n";
 
     #[test]
     fn the_rules_of_a_service() {
@@ -46,13 +47,14 @@ mod tests {
     }
 
     #[test]
-    fn the_weights_of_a_service() {
+    fn the_backends_of_a_service() {
         let order = percentage_sheet::read(SHEET).unwrap();
-        let sixths = [166_667, 333_333, 500_000];
-        assert_eq!(weights_of(&order, 1), Ok(&sixths[..]));
-        assert_eq!(weights_of(&order, 2), Ok(&[250_000, 750_000][..]));
+        let sixths = service(55, &[166_667, 333_333, 500_000]);
+        assert_eq!(service_of(&order, 1), Ok(&sixths));
+        let other = named(45, &[3, 9_999], &[250_000, 750_000]);
+        assert_eq!(service_of(&order, 2), Ok(&other));
         for service in [0, 3, 257, u64::MAX] {
-            let refused = weights_of(&order, service);
+            let refused = service_of(&order, service);
             assert_eq!(refused, Err(Reason::UnknownService.at(0)), "{service}");
         }
     }

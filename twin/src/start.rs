@@ -4,11 +4,14 @@ use crate::expansion::{Ending, Rule};
 use crate::holdings::Holdings;
 use crate::ledger::Ledger;
 use crate::numerals::WHOLE;
+use crate::suffix::Suffix;
 
-/// The rules so far, as a ledger and as holdings.
+/// The rules so far, as a ledger and as holdings. Both know a backend by its
+/// place among the ids, which ascend.
 #[derive(Clone)]
-pub struct Start {
+pub struct Start<'a> {
     k: u8,
+    ids: &'a [u64],
     ledger: Ledger,
     holdings: Holdings,
 }
@@ -21,29 +24,26 @@ pub struct Limits {
     pub terms: u8,
 }
 
-impl Start {
+impl<'a> Start<'a> {
     /// The rule `*` alone, to one backend.
-    pub fn new(k: u8, weights: &[u64], holder: usize) -> Start {
+    pub fn new(k: u8, ids: &'a [u64], weights: &[u64], holder: usize) -> Start<'a> {
         Start {
             k,
+            ids,
             ledger: Ledger::new(k, weights, holder),
             holdings: Holdings::new(k, holder),
         }
     }
 
-    /// Lays a rule whose suffix one backend holds, and returns the rule that
-    /// takes it back.
-    pub fn lay(&mut self, rule: Rule) -> Rule {
-        let receiver = usize::from(rule.backend) - 1;
-        let giver = self.holdings.lay(rule.suffix, receiver);
+    /// Gives a suffix that one backend holds to another, and returns which one
+    /// had it.
+    pub fn lay(&mut self, suffix: Suffix, receiver: usize) -> usize {
+        let giver = self.holdings.lay(suffix, receiver);
         if giver != receiver {
-            let count = 1 << (self.k - rule.suffix.length());
+            let count = 1 << (self.k - suffix.length());
             self.ledger.give(giver, receiver, count);
         }
-        Rule {
-            suffix: rule.suffix,
-            backend: giver as u8 + 1,
-        }
+        giver
     }
 
     /// Whether as many moves as these could end within the tolerance: a move
@@ -81,7 +81,7 @@ impl Start {
             self.ledger.give(ends.giver, ends.receiver, 1 << term);
             rules.push(Rule {
                 suffix,
-                backend: ends.receiver as u8 + 1,
+                backend: self.ids[ends.receiver] as u16,
             });
         }
     }

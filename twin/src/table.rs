@@ -30,15 +30,26 @@ impl Table {
     }
 
     /// The backend of the first matching line of a service.
-    pub fn backend(&self, service: u64, address: u32) -> Option<u8> {
+    pub fn backend(&self, service: u64, address: u32) -> Option<u16> {
         let mut rules = self.lines_of(service).iter().map(|line| line.rule);
         let first = rules.find(|rule| rule.suffix.matches(address))?;
         Some(first.backend)
     }
 
+    /// How many of the 2^k suffixes of a service the first matching line gives to
+    /// a backend.
+    pub fn share(&self, service: u64, backend: u16) -> u32 {
+        let lines = self.lines_of(service);
+        let given = |&s: &u32| {
+            let first = lines.iter().find(|line| line.rule.suffix.matches(s));
+            first.is_some_and(|line| line.rule.backend == backend)
+        };
+        (0..1 << self.k).filter(given).count() as u32
+    }
+
     /// The backend of each of the 2^k suffixes of a service, in the order of
     /// their tree places: older rules first, so that newer ones overwrite.
-    pub fn backends_by_place(&self, service: u64) -> Vec<u8> {
+    pub fn backends_by_place(&self, service: u64) -> Vec<u16> {
         let mut backends = vec![0; 1 << self.k];
         for line in self.lines_of(service).iter().rev() {
             let suffix = line.rule.suffix;

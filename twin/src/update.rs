@@ -1,4 +1,4 @@
-//! New weights on a loaded table (document 02, request 03).
+//! New weights on a loaded table (document 02, requests 03 and 04).
 
 use crate::calls::PairRefusal;
 use crate::expansion::{check_backends, Ending, Rule};
@@ -6,8 +6,9 @@ use crate::limits::MOST_BITS;
 use crate::lists::{lend, list_of, numbers_of};
 use crate::numerals::WHOLE;
 use crate::refusal::{Reason, Refusal};
-use crate::services::{rules_of, weights_of};
+use crate::services::{rules_of, service_of};
 use crate::start::{Limits, Start};
+use crate::suffix::Suffix;
 use crate::{percentage_sheet, rule_sheet};
 
 /// How many rules were kept, how many there are, and the suffixes that moved.
@@ -25,11 +26,14 @@ pub fn update(
     k: u64,
     tolerance: u64,
     old: &[u64],
+    ids: &[u64],
     weights: &[u64],
     room: &mut [u64],
 ) -> Result<Updated, Refusal> {
-    let rules = checked(k, tolerance, old, weights);
-    let updated = rules.and_then(|rules| updated_into(k as u8, tolerance, &rules, weights, room));
+    let updated = checked(k, tolerance, old, ids, weights).and_then(|rules| {
+        let known = Known::new(&rules, ids, weights);
+        updated_into(k as u8, tolerance, &rules, &known, room)
+    });
     updated.map_err(|reason| reason.at(0))
 }
 
@@ -46,32 +50,57 @@ pub fn update_sheets(
     let table = rule_sheet::read(old).map_err(about(1))?;
     let order = percentage_sheet::read(sheet).map_err(about(2))?;
     let rules = rules_of(&table, service).map_err(about(1))?;
-    let weights = weights_of(&order, service).map_err(about(2))?;
+    let new = service_of(&order, service).map_err(about(2))?;
     if u64::from(table.k) != order.k {
         return Err(neither(Reason::Depth));
     }
-    let updated = check_rules(&rules, weights)
-        .and_then(|()| updated_into(table.k, order.tolerance, &rules, weights, room));
+    let known = Known::new(&rules, &new.ids, &new.weights);
+    let updated = updated_into(table.k, order.tolerance, &rules, &known, room);
     Ok((table.k, updated.map_err(neither)?))
 }
 
 /// The rules of the old list, newest first, if all is within its limits.
-fn checked(k: u64, tolerance: u64, old: &[u64], weights: &[u64]) -> Result<Vec<Rule>, Reason> {
+fn checked(
+    k: u64,
+    tolerance: u64,
+    old: &[u64],
+    ids: &[u64],
+    weights: &[u64],
+) -> Result<Vec<Rule>, Reason> {
     if !(1..=MOST_BITS).contains(&k) || tolerance > WHOLE {
         return Err(Reason::BadField);
     }
     let rules = list_of(k, old)?;
-    check_backends(weights)?;
-    check_rules(&rules, weights)?;
+    check_backends(ids, weights)?;
     Ok(rules)
 }
 
-/// No rule is to a backend beyond the weights.
-fn check_rules(rules: &[Rule], weights: &[u64]) -> Result<(), Reason> {
-    let beyond = |rule: &Rule| usize::from(rule.backend) > weights.len();
-    match rules.iter().any(beyond) {
-        true => Err(Reason::BadField),
-        false => Ok(()),
+/// The backends that an update knows, those of the old list and those of the new
+/// weights, at most 64: their ids ascend, and one that has no new weight has
+/// weight 0.
+pub struct Known {
+    ids: Vec<u64>,
+    weights: Vec<u64>,
+}
+
+impl Known {
+    /// All of them, where the ids of the new weights ascend.
+    pub fn new(old: &[Rule], ids: &[u64], weights: &[u64]) -> Known {
+        let mut all = Vec::with_capacity(old.len() + ids.len());
+        all.extend(old.iter().map(|rule| u64::from(rule.backend)));
+        all.extend(ids);
+        all.sort_unstable();
+        all.dedup();
+        let mut new = ids.iter().zip(weights).peekable();
+        let weight = |id: &u64| new.next_if(|&(own, _)| own == id).map_or(0, |(_, &w)| w);
+        let weights = all.iter().map(weight).collect();
+        Known { ids: all, weights }
+    }
+
+    /// The place of a rule's backend among them.
+    fn place(&self, rule: &Rule) -> usize {
+        let id = u64::from(rule.backend);
+        self.ids.partition_point(|&other| other < id)
     }
 }
 
@@ -80,10 +109,10 @@ fn updated_into(
     k: u8,
     tolerance: u64,
     old: &[Rule],
-    weights: &[u64],
+    known: &Known,
     room: &mut [u64],
 ) -> Result<Updated, Reason> {
-    let (updated, list) = keep_most(k, tolerance, old, weights).ok_or(Reason::Stuck)?;
+    let (updated, list) = keep_most(k, tolerance, old, known).ok_or(Reason::Stuck)?;
     lend(&numbers_of(list.iter().rev()), room)?;
     Ok(updated)
 }
@@ -94,27 +123,27 @@ fn terms(k: u8, newest: Rule) -> u8 {
     k + 1 - newest.suffix.length().max(1)
 }
 
-/// The oldest `keep` rules laid out; also the rules that take back each but the
-/// oldest. From the oldest on no suffix covers more than the one before, so one
-/// backend has all of it.
-fn laid(k: u8, weights: &[u64], old: &[Rule], keep: usize) -> (Start, Vec<Rule>) {
+/// The oldest `keep` rules laid out; also who had the suffix of each but the
+/// oldest before. From the oldest on no suffix covers more than the one before,
+/// so one backend has all of it.
+fn laid<'a>(
+    k: u8,
+    known: &'a Known,
+    old: &[Rule],
+    keep: usize,
+) -> (Start<'a>, Vec<(Suffix, usize)>) {
     let mut oldest = old.iter().rev().take(keep);
     let star = oldest.next().expect("a list has its `*`");
-    let mut start = Start::new(k, weights, usize::from(star.backend) - 1);
-    let back = oldest.map(|&rule| start.lay(rule)).collect();
-    (start, back)
+    let mut start = Start::new(k, &known.ids, &known.weights, known.place(star));
+    let lay = |rule: &Rule| (rule.suffix, start.lay(rule.suffix, known.place(rule)));
+    let before = oldest.map(lay).collect();
+    (start, before)
 }
 
 /// One run: how it ended, and its list, oldest rule first. The old list is
 /// newest first.
-pub fn run(
-    k: u8,
-    tolerance: u64,
-    old: &[Rule],
-    keep: usize,
-    weights: &[u64],
-) -> (Ending, Vec<Rule>) {
-    let (mut start, _) = laid(k, weights, old, keep);
+pub fn run(k: u8, tolerance: u64, old: &[Rule], keep: usize, known: &Known) -> (Ending, Vec<Rule>) {
+    let (mut start, _) = laid(k, known, old, keep);
     let mut list: Vec<Rule> = old.iter().rev().take(keep).copied().collect();
     let limits = Limits {
         tolerance,
@@ -131,9 +160,9 @@ pub fn keep_most(
     k: u8,
     tolerance: u64,
     old: &[Rule],
-    weights: &[u64],
+    known: &Known,
 ) -> Option<(Updated, Vec<Rule>)> {
-    let (mut start, mut back) = laid(k, weights, old, old.len());
+    let (mut start, mut before) = laid(k, known, old, old.len());
     let whole = start.holdings().clone();
     let mut list = Vec::with_capacity(old.len());
     for keep in (1..=old.len()).rev() {
@@ -155,7 +184,9 @@ pub fn keep_most(
                 return Some((updated, list));
             }
         }
-        back.pop().map(|rule| start.lay(rule));
+        if let Some((suffix, holder)) = before.pop() {
+            start.lay(suffix, holder);
+        }
     }
     None
 }
@@ -166,18 +197,29 @@ mod tests {
     use crate::plain;
     use crate::random::Random;
     use crate::vectors::loaded::{loaded, Loaded};
+    use crate::vectors::shapes::first_ids;
 
     /// P1's list, k 5: `*`>3 `*0`>2 `*000`>1 `*00100`>1, newest first.
     const P1: [u64; 12] = [5, 4, 1, 3, 0, 1, 1, 0, 2, 0, 0, 3];
     const SIXTHS: [u64; 3] = [166_667, 333_333, 500_000];
 
-    /// The answer of `update` on P1's list and the numbers that it wrote.
-    fn p1(tolerance: u64, weights: &[u64]) -> (Result<[u64; 3], u8>, Vec<u64>) {
-        let mut room = [99; 14];
-        let answer = update(5, tolerance, &P1, weights, &mut room);
+    /// The answer of `update` for k 5 and the numbers that it wrote.
+    fn updated(
+        tolerance: u64,
+        old: &[u64],
+        ids: &[u64],
+        weights: &[u64],
+    ) -> (Result<[u64; 3], u8>, Vec<u64>) {
+        let mut room = [77_777; 96];
+        let answer = update(5, tolerance, old, ids, weights, &mut room);
         let answer = answer.map(|made| [made.keep as u64, made.rules as u64, made.churn]);
-        let written = room.iter().copied().take_while(|&number| number != 99);
+        let written = room.iter().copied().take_while(|&number| number != 77_777);
         (answer.map_err(Refusal::number), written.collect())
+    }
+
+    /// The answer on P1's list, with the ids 1, 2, ..
+    fn p1(tolerance: u64, weights: &[u64]) -> (Result<[u64; 3], u8>, Vec<u64>) {
+        updated(tolerance, &P1, &first_ids(weights.len()), weights)
     }
 
     #[test]
@@ -199,7 +241,8 @@ mod tests {
     /// `run` on a list in numbers; the new list is in numbers too, newest first.
     fn ran(k: u8, tolerance: u64, old: &[u64], keep: usize, weights: &[u64]) -> (Ending, Vec<u64>) {
         let rules = list_of(u64::from(k), old).unwrap();
-        let (ending, list) = run(k, tolerance, &rules, keep, weights);
+        let known = Known::new(&rules, &first_ids(weights.len()), weights);
+        let (ending, list) = run(k, tolerance, &rules, keep, &known);
         (ending, numbers_of(list.iter().rev()))
     }
 
@@ -234,7 +277,7 @@ mod tests {
         assert_eq!(ran(3, 0, &more, 2, &half), (Ending::Budget, eighths));
         let single = [0, 0, 1];
         let mut room = [99; 3];
-        let refusal = update(1, 0, &single, &half, &mut room).unwrap_err();
+        let refusal = update(1, 0, &single, &[1, 2], &half, &mut room).unwrap_err();
         assert_eq!(refusal, Reason::Stuck.at(0));
         assert_eq!(room, [99; 3]);
     }
@@ -242,7 +285,8 @@ mod tests {
     #[test]
     fn refusals_in_their_order() {
         let refused = |k, tolerance, old: &[u64], weights: &[u64]| {
-            let refusal = update(k, tolerance, old, weights, &mut []).unwrap_err();
+            let ids = first_ids(weights.len());
+            let refusal = update(k, tolerance, old, &ids, weights, &mut []).unwrap_err();
             assert_eq!(refusal.line, 0);
             refusal.number()
         };
@@ -257,10 +301,95 @@ mod tests {
         assert_eq!(refused(5, WHOLE, &P1, &[]), 2);
         assert_eq!(refused(5, WHOLE, &P1, &[high]), 2);
         assert_eq!(refused(5, WHOLE, &P1, &[WHOLE - 1]), 3);
-        assert_eq!(refused(5, WHOLE, &P1, &[500_000; 2]), 2);
-        assert_eq!(refused(5, WHOLE, &P1[3..], &[500_000; 2]), 2);
+        assert_eq!(refused(5, WHOLE, &P1, &[500_000; 2]), 7);
         assert_eq!(refused(5, 0, &P1, &SIXTHS), 13);
         assert_eq!(refused(5, WHOLE, &P1, &SIXTHS), 7);
+    }
+
+    #[test]
+    fn refusals_of_ids() {
+        let number = |old: &[u64], ids: &[u64], weights: &[u64]| {
+            update(5, WHOLE, old, ids, weights, &mut [0; 12]).map_or_else(Refusal::number, |_| 0)
+        };
+        assert_eq!(number(&P1, &[9_998, 9_999], &[500_000; 2]), 0);
+        for ids in [
+            &[][..],
+            &[1],
+            &[1, 2, 3],
+            &[0, 1],
+            &[2, 2],
+            &[2, 1],
+            &[1, 10_000],
+        ] {
+            let expected = if ids.len() == 2 { 2 } else { 1 };
+            assert_eq!(number(&P1, ids, &[500_000; 2]), expected, "{ids:?}");
+            assert_eq!(number(&P1, ids, &[1; 2]), expected, "{ids:?}");
+            assert_eq!(number(&P1, ids, &[1; 33]), 4, "{ids:?}");
+            assert_eq!(number(&P1[..9], ids, &[1; 33]), 9, "{ids:?}");
+        }
+        assert_eq!(number(&[0, 0, 10_000], &[1], &[1]), 2);
+        assert_eq!(number(&[0, 0, 9_999], &[1], &[1]), 3);
+    }
+
+    #[test]
+    fn a_missing_backend_has_weight_zero_and_gives_all() {
+        let old = [1, 0, 20, 0, 0, 30];
+        let all = vec![1, 0, 30, 0, 0, 30];
+        assert_eq!(
+            updated(0, &old, &[30], &[WHOLE]),
+            (Ok([1, 1, 16]), vec![0, 0, 30])
+        );
+        assert_eq!(
+            updated(499_999, &all, &[30], &[WHOLE]),
+            (Ok([2, 2, 0]), all.clone())
+        );
+        let new = vec![1, 0, 9, 0, 0, 30];
+        let half = [500_000; 2];
+        assert_eq!(updated(0, &old, &[9, 30], &half), (Ok([1, 2, 16]), new));
+        assert_eq!(updated(0, &[0, 0, 20], &[9], &[WHOLE]), (Err(13), vec![]));
+        let whole = (Ok([1, 1, 0]), vec![0, 0, 20]);
+        assert_eq!(updated(WHOLE, &[0, 0, 20], &[9], &[WHOLE]), whole);
+    }
+
+    /// Old ids below and above the new ones, of like errors.
+    #[test]
+    fn ties_go_to_the_lowest_id_of_all() {
+        let half = [500_000; 2];
+        let old = [2, 1, 9, 2, 0, 5, 1, 0, 7, 0, 0, 9];
+        for (id, other) in [(3, 4), (6, 8), (10, 11)] {
+            let (ending, list) = named_run(&old, 1, &[id, other], &half);
+            assert_eq!(ending, Ending::Within);
+            assert_eq!(list, [1, 1, other, 1, 0, id, 0, 0, 9]);
+        }
+        // A retired backend has *0, one of weight 0 the rest.
+        for (id, first, second) in [(5, 0, 1), (8, 1, 0)] {
+            let old = [2, 3, 6, 2, 3, 6, 1, 0, id, 0, 0, 6];
+            let (ending, list) = named_run(&old, 2, &[6, 9], &[0, WHOLE]);
+            assert_eq!(ending, Ending::Within);
+            assert_eq!(list, [1, second, 9, 1, first, 9, 1, 0, id, 0, 0, 6]);
+        }
+    }
+
+    fn named_run(old: &[u64], keep: usize, ids: &[u64], weights: &[u64]) -> (Ending, Vec<u64>) {
+        let rules = list_of(5, old).unwrap();
+        let known = Known::new(&rules, ids, weights);
+        let (ending, list) = run(5, 0, &rules, keep, &known);
+        (ending, numbers_of(list.iter().rev()))
+    }
+
+    #[test]
+    fn all_64_backends() {
+        let rule = |i: u64| [5, i, 2 * i + 1];
+        let old: Vec<u64> = (1..32).flat_map(rule).chain([0, 0, 1]).collect();
+        let rules = list_of(5, &old).unwrap();
+        let ids: Vec<u64> = (1..=32).map(|i| 2 * i).collect();
+        let known = Known::new(&rules, &ids, &[31_250; 32]);
+        assert_eq!(known.ids, first_ids(64));
+        assert_eq!(known.weights, [0, 31_250].repeat(32));
+        let (answer, list) = updated(31_250, &old, &ids, &[31_250; 32]);
+        assert_eq!((answer, list), (Ok([32, 32, 0]), old.clone()));
+        let (answer, list) = updated(31_249, &old, &ids, &[31_250; 32]);
+        assert_eq!((answer, list), (Err(13), vec![]));
     }
 
     #[test]
@@ -276,17 +405,17 @@ mod tests {
             }
         };
         let old = "TABLE 5 3 0\n1 *0 2\n1 * 1\n2 * 3\n";
-        let sheet = "SHEET 5 0 9\nSERVICE 1 75 25\nSERVICE 1 50 50\n";
+        let sheet = "SHEET 5 0 9\nSERVICE 1 1:75 2:25\nSERVICE 1 1:50 2:50\n";
         let (long, other) = ("\n".repeat(65_537), sheet.replace("SHEET 5", "SHEET 4"));
         let made = "5 Updated { keep: 1, rules: 2, churn: 8 } [2, 0, 2, 0, 0, 1]";
         assert_eq!(said(old, sheet, 1, 6), made);
         assert_eq!(said(old, sheet, 1, 5), "REFUSED 7 0 0");
         assert_eq!(said(old, &sheet.replace("75", "74"), 1, 6), "REFUSED 3 2 2");
         assert_eq!(
-            said(old, &sheet.replace("75 25", "30 70"), 1, 0),
+            said(old, &sheet.replace("1:75 2:25", "1:30 2:70"), 1, 0),
             "REFUSED 13 0 0"
         );
-        assert_eq!(said(old, sheet, 2, 6), "REFUSED 2 0 0");
+        assert_eq!(said(old, sheet, 2, 6), "REFUSED 13 0 0");
         assert_eq!(said(old, &other, 2, 6), "REFUSED 12 0 0");
         assert_eq!(said(old, &other, 3, 6), "REFUSED 8 0 1");
         assert_eq!(
@@ -297,7 +426,7 @@ mod tests {
         assert_eq!(said(&long, "", 3, 6), "REFUSED 11 0 1");
         assert_eq!(said("TABLE 5 1 0\n1 *0 1\n", "", 3, 6), "REFUSED 9 2 1");
         assert_eq!(
-            said(old, "SHEET 5 0 1\nSERVICE 1 100\nSERVICE 1 100\n", 3, 6),
+            said(old, "SHEET 5 0 1\nSERVICE 1 1:100\nSERVICE 1 1:100\n", 3, 6),
             "REFUSED 6 1 2"
         );
     }
@@ -308,12 +437,13 @@ mod tests {
             k,
             tolerance,
             old,
-            weights,
+            new,
         } = case;
+        let known = Known::new(old, &new.ids, &new.weights);
         let mut most = None;
         for keep in 1..=old.len() {
-            let expected = plain::run(*k, *tolerance, old, keep, weights);
-            let found = run(*k, *tolerance, old, keep, weights);
+            let expected = plain::run(*k, *tolerance, old, keep, new);
+            let found = run(*k, *tolerance, old, keep, &known);
             assert_eq!(found, expected, "{case:?} {keep}");
             let numbers = numbers_of(found.1.iter().rev());
             assert!(list_of(u64::from(*k), &numbers).is_ok());
@@ -330,7 +460,7 @@ mod tests {
             };
             (updated, list)
         });
-        assert_eq!(keep_most(*k, *tolerance, old, weights), expected);
+        assert_eq!(keep_most(*k, *tolerance, old, &known), expected);
         expected.map(|(updated, _)| updated.keep)
     }
 

@@ -125,13 +125,13 @@ pub record Gauges : Type 0 where
   pub rest : gauges thirteen "1" "32" "1" ≡ text "0.59375 19\n"
   pub whole-tree : gauges short "1" "10000" "1" ≡ text "1 10000\n"
   pub no-volume : gauges sample "2" "0" "1" ≡ text "0.25 0\n"
-  pub nothing-held : gauges thirteen "1" "55" "32" ≡ text "0 0\n"
-  pub unknown : gauges thirteen "2" "10001" "33" ≡ text "REFUSED 8 0\n"
+  pub nothing-held : gauges thirteen "1" "55" "9999" ≡ text "0 0\n"
+  pub unknown : gauges thirteen "2" "10001" "10000" ≡ text "REFUSED 8 0\n"
   pub volume : gauges thirteen "1" "10001" "2" ≡ text "REFUSED 2 0\n"
   pub volumes : gauges thirteen "1" "18446744073709551671" "2" ≡ text "REFUSED 2 0\n"
   pub backend : gauges thirteen "1" "55" "0" ≡ text "REFUSED 2 0\n"
   pub backends : gauges thirteen "1" "55" "18446744073709551618" ≡ text "REFUSED 2 0\n"
-  pub refused : gauges cut "2" "10001" "33" ≡ text "REFUSED 1 2\n"
+  pub refused : gauges cut "2" "10001" "10000" ≡ text "REFUSED 1 2\n"
   pub no-number : gauges cut "1" "05" "x" ≡ noNumber 3
 
 pub all-gauges : Gauges

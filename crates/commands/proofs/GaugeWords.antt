@@ -4,18 +4,15 @@ use mathlib.Core.Path.{_≡_, sym, ap, _∙_}
 use mathlib.Core.Bool.{false}
 use mathlib.Core.List.{List, [], _∷_, _++_}
 use native.Mathlib.Omega.{arith}
-use lib.Dec.{leb}
 use lib.ListN.{length, take, length-append}
-use borrow.Author.Tests.{lt-leb}
-use Rattle.numerals.specs.Limits.{mostBackends, mostServices, mostSuffixes, mostVolume}
+use Rattle.numerals.specs.Limits.{mostId, mostServices, mostSuffixes, mostVolume}
 use Rattle.numerals.specs.declared.digits.Number.the-variants.{Value, Bad}
-use Rattle.numerals.proofs.Choice.{both-false}
-use Rattle.expansion.specs.Answer.{inLimits}
 use Rattle.sheets.proofs.OneCall.{take-sets}
 use Rattle.sheets.proofs.OrderedLines.{read-proper}
+use Rattle.sheets.proofs.TableChecks.{above-most}
 use Rattle.gauges.specs.Binary64.{dyadic}
 use Rattle.gauges.specs.Gauges.{held, gaugesOf, inRange, gaugesIn, gaugesAnswer}
-use Rattle.gauges.proofs.Answers.{held-most, load-most}
+use Rattle.gauges.proofs.Answers.{over-volume, no-id, held-most, load-most}
 use Rattle.commands.specs.Said.{prints, noNumber, onNumber, outcome, filled}
 use Rattle.commands.specs.declared.answer.Outcome.{Outcome}
 use Rattle.commands.specs.declared.answer.Outcome.the-variants.{Answer, NoNumber}
@@ -29,14 +26,8 @@ use Rattle.commands.proofs.GaugeTexts.{gauge-exact, gauge-short}
 
 -- ---- numbers above their limits are answered as one more than the limit
 
-module _ (volume b : ℕ) where
-  over-volume : mostVolume < volume → inRange volume b ≡ false
-  unfolding inRange
-  over-volume h = rw (lt-leb volume mostVolume h)
-
-  over-backend : mostBackends < b → inRange volume b ≡ false
-  unfolding inRange inLimits
-  over-backend h = rw (lt-leb b mostBackends h, both-false (leb 1 b), both-false (leb volume mostVolume))
+over-backend : (volume b : ℕ) → mostId < b → inRange volume b ≡ false
+over-backend volume b h = no-id volume b (above-most 1 mostId b h)
 
 -- the numbers beside the text matter by their limits alone where they break them
 out-alike : (text : List ℕ) (n volume b volume′ b′ : ℕ) → inRange volume b ≡ false → inRange volume′ b′ ≡ false
@@ -49,16 +40,16 @@ volume-capped text n volume b =
     capped-same (λ (v : ℕ). gaugesAnswer text n v b) mostVolume volume
     (λ h. out-alike text n (mostVolume + 1) b volume b (over-volume (mostVolume + 1) b (omega arith)) (over-volume volume b h))
 
-backend-capped : (text : List ℕ) (n volume b : ℕ) → gaugesAnswer text n volume (min b (mostBackends + 1)) ≡ gaugesAnswer text n volume b
+backend-capped : (text : List ℕ) (n volume b : ℕ) → gaugesAnswer text n volume (min b (mostId + 1)) ≡ gaugesAnswer text n volume b
 backend-capped text n volume b =
-    capped-same (gaugesAnswer text n volume) mostBackends b
-    (λ h. out-alike text n volume (mostBackends + 1) volume b (over-backend volume (mostBackends + 1) (omega arith)) (over-backend volume b h))
+    capped-same (gaugesAnswer text n volume) mostId b
+    (λ h. out-alike text n volume (mostId + 1) volume b (over-backend volume (mostId + 1) (omega arith)) (over-backend volume b h))
 
 all-capped : (text : List ℕ) (n volume b : ℕ)
-    → gaugesAnswer text (min n (mostServices + 1)) (min volume (mostVolume + 1)) (min b (mostBackends + 1)) ≡ gaugesAnswer text n volume b
+    → gaugesAnswer text (min n (mostServices + 1)) (min volume (mostVolume + 1)) (min b (mostId + 1)) ≡ gaugesAnswer text n volume b
 all-capped text n volume b =
-    gauges-capped text n (min volume (mostVolume + 1)) (min b (mostBackends + 1))
-    ∙ volume-capped text n volume (min b (mostBackends + 1))
+    gauges-capped text n (min volume (mostVolume + 1)) (min b (mostId + 1))
+    ∙ volume-capped text n volume (min b (mostId + 1))
     ∙ backend-capped text n volume b
 
 -- ---- the words of the call
@@ -74,23 +65,23 @@ module _ (table service volume backend : List ℕ) where
     no-volume f = rw (capped-value mostServices n (numeral service) e .1, capped-bad mostVolume (numeral volume) f)
 
     module _ (v : ℕ) (f : capped mostVolume (numeral volume) ≡ Value v) where
-      pub no-backend : capped mostBackends (numeral backend) ≡ Bad → gaugeSays table service volume backend ≡ noNumber 4
+      pub no-backend : capped mostId (numeral backend) ≡ Bad → gaugeSays table service volume backend ≡ noNumber 4
       unfolding gaugeSays onNumber
       no-backend h =
-          rw (capped-value mostServices n (numeral service) e .1, capped-value mostVolume v (numeral volume) f .1, capped-bad mostBackends (numeral backend) h)
+          rw (capped-value mostServices n (numeral service) e .1, capped-value mostVolume v (numeral volume) f .1, capped-bad mostId (numeral backend) h)
 
-      pub says : (b : ℕ) → capped mostBackends (numeral backend) ≡ Value b
+      pub says : (b : ℕ) → capped mostId (numeral backend) ≡ Value b
           → gaugeSays table service volume backend ≡ prints (gaugesText (gaugesAnswer table n v b))
       unfolding gaugeSays onNumber
       says b h =
           let x = capped-value mostServices n (numeral service) e in
           let y = capped-value mostVolume v (numeral volume) f in
-          let z = capped-value mostBackends b (numeral backend) h in
+          let z = capped-value mostId b (numeral backend) h in
           rw (x .1, y .1, z .1)
           (ap (λ a. prints (gaugesText a))
           (sym (all-capped table (x .0) (y .0) (z .0))
-          ∙ ap (λ (i : ℕ). gaugesAnswer table i (min (y .0) (mostVolume + 1)) (min (z .0) (mostBackends + 1))) (sym (x .2))
-          ∙ ap (λ (i : ℕ). gaugesAnswer table n i (min (z .0) (mostBackends + 1))) (sym (y .2))
+          ∙ ap (λ (i : ℕ). gaugesAnswer table i (min (y .0) (mostVolume + 1)) (min (z .0) (mostId + 1))) (sym (x .2))
+          ∙ ap (λ (i : ℕ). gaugesAnswer table n i (min (z .0) (mostId + 1))) (sym (y .2))
           ∙ ap (gaugesAnswer table n v) (sym (z .2))))
 
 -- ---- what is printed is exact

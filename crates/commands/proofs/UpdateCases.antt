@@ -15,7 +15,7 @@ use Rattle.packing.specs.Count.{ownRules}
 use Rattle.sheets.specs.Cases.{bytes}
 use Rattle.sheets.specs.Reading.{then, unless, onField, same}
 use Rattle.sheets.specs.FirstLine.{firstLine, openingLines, openingFields}
-use Rattle.sheets.specs.PercentageSheet.{weightFields, sum, serviceFields, serviceLines, volumesOf, weightsOf, whole, sheetLine, readSheet}
+use Rattle.sheets.specs.PercentageSheet.{weightFields, sum, serviceFields, serviceLines, volumesOf, idsOf, weightsOf, whole, sheetLine, readSheet}
 use Rattle.sheets.specs.RuleSheet.{onSuffix, countOf, inOrder, placed, ruleFields, ruleLines, closed}
 use Rattle.sheets.specs.RuleSheet.{wholeTable, tableLine, readTable, lineText, linesText}
 use Rattle.sheets.specs.Calls.{hasService}
@@ -35,13 +35,13 @@ abbrev table : String
 table = "TABLE 1 2 0\n1 * 1\n2 * 1\n"
 
 abbrev sheet : String
-sheet = "SHEET 1 0 1\nSERVICE 7 100\n"
+sheet = "SHEET 1 0 1\nSERVICE 7 1:100\n"
 
 abbrev cutTable : String
 cutTable = "TABLE 1 2 0\n1 * 1\n2 * 1"
 
 abbrev cutSheet : String
-cutSheet = "SHEET 1 0 1\nSERVICE 7 100"
+cutSheet = "SHEET 1 0 1\nSERVICE 7 1:100"
 
 abbrev updates : String → String → String → Said
 updates old new service = updateSays (bytes old) (bytes new) (bytes service)
@@ -58,13 +58,13 @@ pub all-updates : Updates
 unfolding updateSays onNumber numeral updateText updatedText numberText refusedOfText refusal numberOf decimal width widthIn lowest sheetsAnswer
     sheetsIn hasService hasWeights inLimits ownRules bytes readTable textLimit tableLine firstLine openingLines openingFields wholeTable closed
     ruleLines ruleFields placed inOrder countOf onSuffix totalLimit same onField unless then number isNumeral noLeadingZero allDigits isDigit
-    value valueFrom suffix split onto readSheet sheetLine whole volumesOf weightsOf serviceLines serviceFields sum weightFields unit percentage
+    value valueFrom suffix split onto readSheet sheetLine whole volumesOf idsOf weightsOf serviceLines serviceFields sum weightFields unit percentage
     percentOf onValue fraction atMostAll
 all-updates = record { first = refl; second = refl; unknown = refl; no-weights = refl; depth = refl; no-number = refl }
 
 -- the lines of an update that was made, the newest rule first
 pub lines :
-    updatedText (Made (record { k = 5; kept = 1; rules = 3; churn = 8 })) 64 (rulesFrom (5 ∷ 3 ∷ 2 ∷ 3 ∷ 1 ∷ 32 ∷ 0 ∷ 0 ∷ 1 ∷ []))
-    ≡ bytes "UPDATE 5 1 3 8\n64 *00011 2\n64 *001 32\n64 * 1\n"
+    updatedText (Made (record { k = 5; kept = 1; rules = 3; churn = 8 })) 64 (rulesFrom (5 ∷ 3 ∷ 2 ∷ 3 ∷ 1 ∷ 9999 ∷ 0 ∷ 0 ∷ 1 ∷ []))
+    ≡ bytes "UPDATE 5 1 3 8\n64 *00011 2\n64 *001 9999\n64 * 1\n"
 unfolding updatedText updateHead bytes decimal width widthIn lowest rulesFrom linesOf linesText lineText suffixText
 lines = refl

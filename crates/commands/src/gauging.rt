@@ -58,7 +58,7 @@ pub fn gauge(
     let Number::Value(v) = traffic else {
         return Outcome::NoNumber(3);
     };
-    let holder = crate::numeral::read_numeral(backend, crate::numeral::MOST_BACKEND);
+    let holder = crate::numeral::read_numeral(backend, crate::numeral::MOST_ID);
     let Number::Value(b) = holder else {
         return Outcome::NoNumber(4);
     };

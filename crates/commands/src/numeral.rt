@@ -9,8 +9,8 @@ ghost use Rattle.commands.specs.Inner.Numeral.{capped};
 
 // The largest number of a service.
 pub const MOST_SERVICE: u64 = numerals::MOST_SERVICES as u64;
-// The largest number of a backend.
-pub const MOST_BACKEND: u64 = numerals::MOST_BACKENDS as u64;
+// The largest id of a backend.
+pub const MOST_ID: u64 = numerals::MOST_ID as u64;
 // The largest address of 32 bits.
 pub const MOST_ADDRESS: u64 = u32::MAX as u64;
 

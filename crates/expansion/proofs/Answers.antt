@@ -21,10 +21,10 @@ use Rattle.expansion.specs.declared.call.Checked.the-variants.{Sound as 
 use Rattle.expansion.specs.declared.call.Expanded.the-variants.{Made as Answered, Refused}
 use Rattle.expansion.proofs.Listing.{length-newest, column-newest}
 
-pub answer-refused : (k tolerance budget : ℕ) (ws : List ℕ) (at room : ℕ) (why : Refusal) → checkCall k tolerance budget ws ≡ Failed why
-    → answer k tolerance budget ws at room ≡ Refused why
+pub answer-refused : (k tolerance budget : ℕ) (ids ws : List ℕ) (at room : ℕ) (why : Refusal) → checkCall k tolerance budget ids ws ≡ Failed why
+    → answer k tolerance budget ids ws at room ≡ Refused why
 unfolding answer
-answer-refused k tolerance budget ws at room why e = rw e
+answer-refused k tolerance budget ids ws at room why e = rw e
 
 -- the first stairs of a listing
 stairs-taken : (F : Frame) (rs : List Rule) (xs : List ℕ) (c : ℕ) → c ≤ length xs
@@ -36,50 +36,50 @@ stairs-taken F rs xs (suc c) l h =
     ∙ ap₂ (λ (ys : List ℕ) (y : ℕ). ys ++ y ∷ []) (stairs-taken F rs xs c (omega arith) (λ i m. h i (omega arith))) (h c (omega arith))
 
 -- the list that was made, as the answer has it
-module _ (k tolerance budget : ℕ) (ws : List ℕ) (r : Run) (M : Made (frameMade k tolerance ws) budget r) where
-  made-rules : newestFirst (r .list .rules) (r .list .count) ≡ listMade k tolerance budget ws
+module _ (k tolerance budget : ℕ) (ids ws : List ℕ) (r : Run) (M : Made (frameMade k tolerance ids ws) budget r) where
+  made-rules : newestFirst (r .list .rules) (r .list .count) ≡ listMade k tolerance budget ids ws
   unfolding listMade
   made-rules = M .rules
 
-  made-stair : (c : ℕ) → c < r .list .count → getD (r .list .stairs) c 0 ≡ stair (frameMade k tolerance ws) (suc c) (listMade k tolerance budget ws)
+  made-stair : (c : ℕ) → c < r .list .count → getD (r .list .stairs) c 0 ≡ stair (frameMade k tolerance ids ws) (suc c) (listMade k tolerance budget ids ws)
   unfolding listMade frameMade frame firstRule
   made-stair c l =
       let same : c ≡ suc c - 1 = omega arith in
       ap (λ (i : ℕ). getD (r .list .stairs) i 0) same ∙ M .stairs (suc c) (omega arith) (omega arith)
 
-  pub made-count : r .list .count ≡ length (listMade k tolerance budget ws)
+  pub made-count : r .list .count ≡ length (listMade k tolerance budget ids ws)
   made-count = sym (length-newest (r .list .rules) (r .list .count)) ∙ ap length made-rules
 
-  pub made-record : recordMade k tolerance budget ws ≡ record { ended = r .ended; rules = r .list .count }
+  pub made-record : recordMade k tolerance budget ids ws ≡ record { ended = r .ended; rules = r .list .count }
   unfolding recordMade listMade
   made-record = rw (made-count, M .ended)
 
   pub made-column : (f : Rule → ℕ) → r .list .count ≤ length (r .list .rules)
-      → map f (take (r .list .count) (r .list .rules)) ≡ map f (reverse (listMade k tolerance budget ws))
+      → map f (take (r .list .count) (r .list .rules)) ≡ map f (reverse (listMade k tolerance budget ids ws))
   made-column f l =
       column-newest f (r .list .rules) (r .list .count) l ∙ ap (λ (rs : List Rule). map f (reverse rs)) made-rules
 
   pub made-stairs : r .list .count ≤ length (r .list .stairs)
-      → take (r .list .count) (r .list .stairs) ≡ stairsMade k tolerance budget ws
+      → take (r .list .count) (r .list .stairs) ≡ stairsMade k tolerance budget ids ws
   unfolding stairsMade
   made-stairs l =
-      stairs-taken (frameMade k tolerance ws) (listMade k tolerance budget ws) (r .list .stairs) (r .list .count) l made-stair
-      ∙ ap (stairsTo (frameMade k tolerance ws) (listMade k tolerance budget ws)) made-count
+      stairs-taken (frameMade k tolerance ids ws) (listMade k tolerance budget ids ws) (r .list .stairs) (r .list .count) l made-stair
+      ∙ ap (stairsTo (frameMade k tolerance ids ws) (listMade k tolerance budget ids ws)) made-count
 
   -- too little room, or enough
-  pub answer-short : (at room : ℕ) → checkCall k tolerance budget ws ≡ Passed → leb (at + r .list .count) room ≡ false
-      → answer k tolerance budget ws at room ≡ Refused ShortLoan
+  pub answer-short : (at room : ℕ) → checkCall k tolerance budget ids ws ≡ Passed → leb (at + r .list .count) room ≡ false
+      → answer k tolerance budget ids ws at room ≡ Refused ShortLoan
   unfolding answer
   answer-short at room e short =
-      let none : leb (at + length (listMade k tolerance budget ws)) room ≡ false =
-      lt-leb (at + length (listMade k tolerance budget ws)) room
+      let none : leb (at + length (listMade k tolerance budget ids ws)) room ≡ false =
+      lt-leb (at + length (listMade k tolerance budget ids ws)) room
       (omega (arith, made-count, leb-false (at + r .list .count) room short)) in
       rw (e, none)
 
-  pub answer-made : (at room : ℕ) → checkCall k tolerance budget ws ≡ Passed → at + r .list .count ≤ room
-      → answer k tolerance budget ws at room ≡ Answered (record { ended = r .ended; rules = r .list .count })
+  pub answer-made : (at room : ℕ) → checkCall k tolerance budget ids ws ≡ Passed → at + r .list .count ≤ room
+      → answer k tolerance budget ids ws at room ≡ Answered (record { ended = r .ended; rules = r .list .count })
   unfolding answer
   answer-made at room e l =
-      let some : leb (at + length (listMade k tolerance budget ws)) room ≡ true =
-      le-leb (at + length (listMade k tolerance budget ws)) room (omega (arith, made-count)) in
+      let some : leb (at + length (listMade k tolerance budget ids ws)) room ≡ true =
+      le-leb (at + length (listMade k tolerance budget ids ws)) room (omega (arith, made-count)) in
       rw (e, some) (ap Answered made-record)

@@ -24,7 +24,7 @@ unfolding sumTo
 parts-there zero f h = h
 parts-there (suc n) f h = omega arith
 
--- backends that are labelled by their number from 1
+-- the ids 1, 2, .., as worked cases have them
 pub numbers-distinct : (n : ℕ) → Distinct (λ b. getD (listTo n suc) b nobody) n
 numbers-distinct n a b l m e = omega (arith, list-at n suc a nobody l, list-at n suc b nobody m)
 

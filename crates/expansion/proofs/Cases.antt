@@ -18,7 +18,7 @@ use Rattle.expansion.specs.Steps.{firstRule, frame, isWithin, reduction,
 use Rattle.expansion.specs.Steps.{Frame, step, after, endOf, listOf, oldest, stair, stairsTo}
 use Rattle.expansion.specs.KeptShares.{entryOf, Keeps, OthersStay, SharesKept}
 use Rattle.expansion.specs.Cases.{AllShow, p1, p6, worked, p1-ledger}
-use Rattle.expansion.specs.Answer.{checkCall, checkWeights, inLimits}
+use Rattle.expansion.specs.Answer.{checkCall, checkWeights, isBackend, idBefore, inLimits}
 use Rattle.expansion.specs.Inner.Sound.{Complete, Lengths}
 use Rattle.expansion.specs.Inner.Run.{framed, Fits}
 use Rattle.expansion.specs.declared.rule.Rule.{Rule}
@@ -127,9 +127,9 @@ halved-complete s = go (eqb (s % 2) 0) refl
 pub p1-resumed : Fits resumed × (listOf resumed 4 ≡ p1 .rules)
 unfolding listTo sumTo countTo allTo firstTo argmax lastmax matches firstMatch gives share backends label weight has wants excess shortfall
     imbalance giver receiver largestExcess largestShortfall frame isWithin reduction reductionAt term isNoGain isWhole termLength
-    lowestPlace newRule step after listOf place value valueFrom lowest unit checkCall checkWeights inLimits Lengths
+    lowestPlace newRule step after listOf place value valueFrom lowest unit checkCall checkWeights isBackend idBefore inLimits Lengths
 p1-resumed =
-    let valid = call-passed 5 20000 32 (T .weights) refl .0 in (
+    let valid = call-passed 5 20000 32 (T .labels) (T .weights) refl .0 in (
       record {
         millionths = refl;
         few-bits = valid .few-bits;

@@ -13,7 +13,7 @@ use lib.ListN.{length, getD, set, replicate, getD-replicate, length-set}
 use lib.Seq.{getD-set-same, getD-set-other}
 use lib.Pow.{pow-pos}
 use borrow.Author.Tests.{eqb-true, eq-eqb, ne-eqb}
-use Rattle.numerals.specs.Limits.{mostBits, mostSuffixes, mostBackends}
+use Rattle.numerals.specs.Limits.{mostBits, mostSuffixes, mostKnown}
 use Rattle.numerals.specs.Pick.{pick}
 use Rattle.numerals.specs.Suffix.{place}
 use Rattle.numerals.specs.Sums.{firstTo, argmax}
@@ -211,7 +211,7 @@ alike (suc n) (suc b) a = alike n b a
 
 pub holds-first : (T : Targets) → T .k ≤ mostBits → (first : ℕ) → first < backends T
     → first ≡ argmax (λ b. getD (T .weights) b 0) (length (T .weights))
-    → Holds T (firstRule (T .labels) (T .weights)) (replicate mostSuffixes first) (replicate mostBackends 0)
+    → Holds T (firstRule (T .labels) (T .weights)) (replicate mostSuffixes first) (replicate mostKnown 0)
 unfolding firstRule matches label
 holds-first T few first known e =
     record {
@@ -220,7 +220,7 @@ holds-first T few first known e =
           gives-matched star [] (place (T .k) p) (label T (getD (replicate mostSuffixes first) p 0))
           (eq-eqb (place (T .k) p % 2 ^ 0) 0 (mod-one (place (T .k) p)))
           ∙ eq-eqb (star .backend) (label T (getD (replicate mostSuffixes first) p 0)) (ap (label T) (sym (all p m ∙ e)));
-      lows = λ b p m n d. omega (arith, alike mostBackends b 0);
+      lows = λ b p m n d. omega (arith, alike mostKnown b 0);
     }
   where
     star : Rule

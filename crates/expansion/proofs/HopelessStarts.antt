@@ -16,13 +16,12 @@ use Rattle.numerals.proofs.Sums.{sum-two, sum-zero, count-ext, one-most}
 use Rattle.expansion.specs.FirstMatch.{share}
 use Rattle.expansion.specs.Imbalance.{backends, label, weight, has, wants, excess, shortfall, giver, receiver}
 use Rattle.expansion.specs.Steps.{Frame, isWithin, newRule, after, step, listOf}
-use Rattle.expansion.specs.Answer.{targetsMade}
 use Rattle.expansion.specs.Resume.{frameFrom}
 use Rattle.expansion.specs.Inner.Hopeless.{isApart, beyondTo}
 use Rattle.expansion.specs.Inner.Laying.{Starts}
 use Rattle.expansion.specs.Inner.Lists.{newestFirst}
 use Rattle.expansion.specs.Inner.Resume.{foundOf, Tried}
-use Rattle.expansion.specs.Inner.Run.{Made}
+use Rattle.expansion.specs.Inner.Run.{labelledBy, Made}
 use Rattle.expansion.specs.Inner.Sound.{Sound}
 use Rattle.expansion.specs.declared.rule.Rule.{Rule}
 use Rattle.expansion.specs.declared.rule.Ended.{Ended}
@@ -33,7 +32,6 @@ use Rattle.expansion.proofs.Balance.{giver-lt, receiver-lt}
 use Rattle.expansion.proofs.Bounds.{share-le, weight-le}
 use Rattle.expansion.proofs.KeptLists.{sound-kept, within-ended}
 use Rattle.expansion.proofs.KeptStart.{count-is}
-use Rattle.expansion.proofs.LaidRules.{label-made}
 use Rattle.expansion.proofs.Moves.{apart, has-other}
 use Rattle.expansion.proofs.Turns.{Turn, turn, after-suc, good-after, ended-within}
 
@@ -93,37 +91,39 @@ module _ (F : Frame) (S : Sound F) where
       omega (arith, turns-two x, within-none F (after F x) w)
 
 -- the same of a start, by its weights and shares
-module _ (k tolerance : ℕ) (ws : List ℕ) (list : RuleList) (holder shares : List ℕ) (budget : ℕ) (S : Starts k tolerance ws list holder shares budget) where
+module _ (k tolerance : ℕ) (labels ws : List ℕ) (list : RuleList) (holder shares : List ℕ) (budget : ℕ)
+    (S : Starts k tolerance labels ws list holder shares budget) where
   abbrev kept : List Rule
   kept = newestFirst (list .rules) (list .count)
 
   abbrev F : Frame
-  F = frameFrom (targetsMade k ws) tolerance kept
+  F = frameFrom (labelledBy k labels ws) tolerance kept
 
   sound : Sound F
-  sound = sound-kept k tolerance ws kept (S .valid) (S .proper)
+  sound = sound-kept k tolerance labels ws kept (S .valid) (S .proper)
 
-  share-is : (b : ℕ) → b < length ws → getD shares b 0 ≡ share k kept (label (targetsMade k ws) b)
-  share-is b l = S .held .each b (omega (arith, S .valid .few)) ∙ ap (share k kept) (sym (label-made k ws b l))
+  share-is : (b : ℕ) → b < length ws → getD shares b 0 ≡ share k kept (label (labelledBy k labels ws) b)
+  unfolding label
+  share-is b l = S .held .each b (omega (arith, S .valid .labelled))
 
   beyond-is : beyondTo k tolerance ws shares (length ws) ≡ beyond F (F .start)
-  unfolding frameFrom targetsMade backends has wants weight
+  unfolding frameFrom backends has wants weight
   beyond-is =
       count-ext (length ws) (λ b. isApart (getD shares b 0 * unit) (getD ws b 0 * 2 ^ k) (tolerance * 2 ^ k)) (beyondAt F kept) (λ b l.
       ap (λ (y : ℕ). isApart (y * unit) (getD ws b 0 * 2 ^ k) (tolerance * 2 ^ k)) (share-is b l))
 
   -- what the test asks for
   pub small : (b : ℕ) → b < length ws → (getD ws b 0 ≤ unit) × (getD shares b 0 ≤ mostSuffixes)
-  unfolding frameFrom targetsMade weight
+  unfolding frameFrom weight
   small b l = (
     weight-le F sound b,
-    omega (arith, share-is b l, share-le k kept (label (targetsMade k ws) b), pow-few k (S .valid .few-bits)),
+    omega (arith, share-is b l, share-le k kept (label (labelledBy k labels ws) b), pow-few k (S .valid .few-bits)),
   )
 
   starts-enough : isWithin F (listOf F budget) ≡ true → beyondTo k tolerance ws shares (length ws) ≤ 2 * (budget - list .count)
   unfolding frameFrom
   starts-enough w =
-      omega (arith, beyond-is, enough-turns F sound budget w, count-is k tolerance ws list holder shares budget S)
+      omega (arith, beyond-is, enough-turns F sound budget w, count-is k tolerance labels ws list holder shares budget S)
 
   few-kept : list .count ≤ mostRules
   few-kept = omega (arith, S .within, S .few)

@@ -7,18 +7,17 @@ use native.Mathlib.Decide.{ℕ-discrete}
 use native.Mathlib.Omega.{arith}
 use lib.ListN.{length, getD, drop, set, replicate, length-set}
 use lib.Seq.{getD-set-same, getD-set-other, drop-length}
-use Rattle.numerals.specs.Limits.{mostBits, mostBackends, mostRules, mostSuffixes}
-use Rattle.numerals.specs.Sums.{listTo}
+use Rattle.numerals.specs.Limits.{mostBits, mostKnown, mostRules, mostSuffixes}
 use Rattle.expansion.specs.Imbalance.{Targets}
 use Rattle.expansion.specs.Steps.{oldest}
-use Rattle.expansion.specs.Answer.{targetsMade}
 use Rattle.expansion.specs.OldList.{rulesFrom}
 use Rattle.expansion.specs.Resume.{frameFrom, frameKept, listKept, endsWithin, largestTo}
-use Rattle.expansion.specs.Inner.Laying.{Held, Had, LaidTo, Starts}
+use Rattle.expansion.specs.Inner.Known.{Ascending}
+use Rattle.expansion.specs.Inner.Laying.{Placed, Held, Had, LaidTo, Starts}
 use Rattle.expansion.specs.Inner.Lists.{noRule, newestFirst}
 use Rattle.expansion.specs.Inner.OldList.{ruleAt, Known, Proper}
 use Rattle.expansion.specs.Inner.Resume.{Found, Tried}
-use Rattle.expansion.specs.Inner.Run.{Valid}
+use Rattle.expansion.specs.Inner.Run.{labelledBy, Valid}
 use Rattle.expansion.specs.Inner.Sound.{Lengths, Falling}
 use Rattle.expansion.specs.declared.rule.Rule.{Rule}
 use Rattle.expansion.specs.declared.list.RuleList.{RuleList}
@@ -39,7 +38,7 @@ head-same r q rs qs e = ap (λ (l : List Rule). getD l 0 noRule) e
 tail-same : (r q : Rule) (rs qs : List Rule) → r ∷ rs ≡ q ∷ qs → rs ≡ qs
 tail-same r q rs qs e = ap (drop 1) e
 
-module _ (k n : ℕ) (cs : List ℕ) (proper : Proper k n (rulesFrom cs)) where
+module _ (k : ℕ) (labels cs : List ℕ) (proper : Proper k labels (rulesFrom cs)) where
   abbrev R : List Rule
   R = rulesFrom cs
 
@@ -60,10 +59,10 @@ module _ (k n : ℕ) (cs : List ℕ) (proper : Proper k n (rulesFrom cs)) where
       ∙ ap (λ (rs : List Rule). next i ∷ rs) (sym (oldest-rules cs m i refl (omega arith)))
 
   module _ (i : ℕ) (l : i < length R) where
-    next-proper : Proper k n (next i ∷ oldest i R)
-    next-proper = subst (Proper k n) (oldest-next i l) (oldest-proper k n (suc i) R proper (omega arith) l)
+    next-proper : Proper k labels (next i ∷ oldest i R)
+    next-proper = subst (Proper k labels) (oldest-next i l) (oldest-proper k labels (suc i) R proper (omega arith) l)
 
-    pub next-known : Known k n (next i)
+    pub next-known : Known k labels (next i)
     next-known = next-proper .each 0 (omega arith)
 
     pub next-lengths : Lengths (next i .len) (oldest i R)
@@ -81,8 +80,8 @@ module _ (k n : ℕ) (cs : List ℕ) (proper : Proper k n (rulesFrom cs)) where
 
   -- the `*` alone
   pub laid-star : (holder shares : List ℕ) (rules : List Rule) (had : List ℕ)
-      → (length rules ≡ mostRules) × (length had ≡ mostRules) → Held k (oldest 1 R) holder shares → getD rules 0 noRule ≡ next 0
-      → LaidTo k R 1 holder shares rules had
+      → (length rules ≡ mostRules) × (length had ≡ mostRules) → Held k labels (oldest 1 R) holder shares → getD rules 0 noRule ≡ next 0
+      → LaidTo k labels R 1 holder shares rules had
   unfolding newestFirst
   laid-star holder shares rules had long H e =
       record {
@@ -96,16 +95,16 @@ module _ (k n : ℕ) (cs : List ℕ) (proper : Proper k n (rulesFrom cs)) where
 
   module _ (i : ℕ) (holder shares : List ℕ) (rules : List Rule) (had holder′ shares′ : List ℕ) where
     -- one rule more
-    pub laid-more : (b : ℕ) → i < length R → LaidTo k R i holder shares rules had
-        → Held k (next i ∷ oldest i R) holder′ shares′ → Had k (oldest i R) (next i) b
-        → LaidTo k R (i + 1) holder′ shares′ (set rules i (next i)) (set had i b)
+    pub laid-more : (b : ℕ) → i < length R → LaidTo k labels R i holder shares rules had
+        → Held k labels (next i ∷ oldest i R) holder′ shares′ → Had k labels (oldest i R) (next i) b
+        → LaidTo k labels R (i + 1) holder′ shares′ (set rules i (next i)) (set had i b)
     laid-more b l t H B =
         let e : suc i ≡ i + 1 = omega arith in
         record {
           some = omega arith;
           inside = omega arith;
           long = (length-set rules i (next i) ∙ t .long .0, length-set had i b ∙ t .long .1);
-          held = subst (λ (rs : List Rule). Held k rs holder′ shares′) (sym (oldest-next i l) ∙ ap (λ (j : ℕ). oldest j R) e) H;
+          held = subst (λ (rs : List Rule). Held k labels rs holder′ shares′) (sym (oldest-next i l) ∙ ap (λ (j : ℕ). oldest j R) e) H;
           kept =
               ap (newestFirst (set rules i (next i))) (sym e)
               ∙ newest-more rules i (next i) (omega (arith, t .long .0, proper .few))
@@ -115,28 +114,28 @@ module _ (k n : ℕ) (cs : List ℕ) (proper : Proper k n (rulesFrom cs)) where
           before = λ j a m. before j a m (ℕ-discrete j i);
         }
       where
-        before : (j : ℕ) → 1 ≤ j → j < i + 1 → Dec (j ≡ i) → Had k (oldest j R) (getD (set rules i (next i)) j noRule) (getD (set had i b) j 0)
+        before : (j : ℕ) → 1 ≤ j → j < i + 1 → Dec (j ≡ i) → Had k labels (oldest j R) (getD (set rules i (next i)) j noRule) (getD (set had i b) j 0)
         before j a m (yes e) =
-            subst (λ (x : ℕ). Had k (oldest x R) (getD (set rules i (next i)) x noRule) (getD (set had i b) x 0)) (sym e)
-            (subst (λ (r : Rule). Had k (oldest i R) r (getD (set had i b) i 0))
+            subst (λ (x : ℕ). Had k labels (oldest x R) (getD (set rules i (next i)) x noRule) (getD (set had i b) x 0)) (sym e)
+            (subst (λ (r : Rule). Had k labels (oldest i R) r (getD (set had i b) i 0))
             (sym (getD-set-same rules i (next i) noRule (omega (arith, t .long .0, proper .few))))
-            (subst (Had k (oldest i R) (next i)) (sym (getD-set-same had i b 0 (omega (arith, t .long .1, proper .few)))) B))
+            (subst (Had k labels (oldest i R) (next i)) (sym (getD-set-same had i b 0 (omega (arith, t .long .1, proper .few)))) B))
         before j a m (no d) =
-            subst (λ (r : Rule). Had k (oldest j R) r (getD (set had i b) j 0)) (sym (getD-set-other rules i j (next i) noRule d))
-            (subst (Had k (oldest j R) (getD rules j noRule)) (sym (getD-set-other had i j b 0 d)) (t .before j a (omega arith)))
+            subst (λ (r : Rule). Had k labels (oldest j R) r (getD (set had i b) j 0)) (sym (getD-set-other rules i j (next i) noRule d))
+            (subst (Had k labels (oldest j R) (getD rules j noRule)) (sym (getD-set-other had i j b 0 d)) (t .before j a (omega arith)))
 
     -- one rule less
-    module _ (t : LaidTo k R (suc i) holder shares rules had) where
+    module _ (t : LaidTo k labels R (suc i) holder shares rules had) where
       pub newest-is : getD rules i noRule ≡ next i
       unfolding newestFirst
       newest-is = head-same (getD rules i noRule) (next i) (newestFirst rules i) (oldest i R) (t .kept ∙ oldest-next i (t .inside))
 
-      pub newest-held : Held k (getD rules i noRule ∷ oldest i R) holder shares
+      pub newest-held : Held k labels (getD rules i noRule ∷ oldest i R) holder shares
       newest-held =
-          subst (λ (rs : List Rule). Held k rs holder shares)
+          subst (λ (rs : List Rule). Held k labels rs holder shares)
           (oldest-next i (t .inside) ∙ ap (λ (r : Rule). r ∷ oldest i R) (sym newest-is)) (t .held)
 
-      pub laid-less : 1 ≤ i → Held k (oldest i R) holder′ shares′ → LaidTo k R i holder′ shares′ rules had
+      pub laid-less : 1 ≤ i → Held k labels (oldest i R) holder′ shares′ → LaidTo k labels R i holder′ shares′ rules had
       unfolding newestFirst
       laid-less some H =
           record {
@@ -149,30 +148,30 @@ module _ (k n : ℕ) (cs : List ℕ) (proper : Proper k n (rulesFrom cs)) where
           }
 
 -- the `*` has everything
-pub held-first : (k : ℕ) (cs : List ℕ) → k ≤ mostBits → Proper k mostBackends (rulesFrom cs) → (star : Rule) → star ≡ ruleAt cs (length cs / 3 - 1)
-    → Held k (oldest 1 (rulesFrom cs)) (replicate mostSuffixes (star .backend - 1)) (set (replicate mostBackends 0) (star .backend - 1) (2 ^ k))
-held-first k cs few proper star e =
+pub held-first : (k : ℕ) (labels cs : List ℕ) → k ≤ mostBits → Ascending labels → Proper k labels (rulesFrom cs)
+    → (star : Rule) → star ≡ ruleAt cs (length cs / 3 - 1) → (to : ℕ) → Placed k labels star to
+    → Held k labels (oldest 1 (rulesFrom cs)) (replicate mostSuffixes to) (set (replicate mostKnown 0) to (2 ^ k))
+held-first k labels cs few A proper star e to P =
     let l : 0 < length (rulesFrom cs) = proper .some in
     let is : ruleAt cs (length cs / 3 - 1 - 0) ≡ star = ap (ruleAt cs) (omega arith) ∙ sym e in
-    subst (λ (rs : List Rule). Held k rs (replicate mostSuffixes (star .backend - 1)) (set (replicate mostBackends 0) (star .backend - 1) (2 ^ k)))
-    (sym (oldest-one k mostBackends cs proper ∙ ap (λ (r : Rule). r ∷ []) is))
-    (held-star k star (subst (Known k mostBackends) is (next-known k mostBackends cs proper 0 l)) few
-    (ap (λ (r : Rule). r .len) (sym is) ∙ first-star k mostBackends cs proper))
+    subst (λ (rs : List Rule). Held k labels rs (replicate mostSuffixes to) (set (replicate mostKnown 0) to (2 ^ k)))
+    (sym (oldest-one k labels cs proper ∙ ap (λ (r : Rule). r ∷ []) is))
+    (held-star k star (P .rule) few (ap (λ (r : Rule). r .len) (sym is) ∙ first-star k labels cs proper) labels A to P)
 
 -- the search has come down to the rules of a list: with more none ends within
-pub record Searched (k tolerance : ℕ) (ws cs : List ℕ) (holder shares : List ℕ) (list : RuleList) (had : List ℕ) : Type 0 where
-  pub laid : LaidTo k (rulesFrom cs) (list .count) holder shares (list .rules) had
+pub record Searched (k tolerance : ℕ) (labels ws cs : List ℕ) (holder shares : List ℕ) (list : RuleList) (had : List ℕ) : Type 0 where
+  pub laid : LaidTo k labels (rulesFrom cs) (list .count) holder shares (list .rules) had
   pub none :
-      largestTo (length (rulesFrom cs)) (endsWithin (targetsMade k ws) tolerance (rulesFrom cs))
-      ≡ largestTo (list .count) (endsWithin (targetsMade k ws) tolerance (rulesFrom cs))
+      largestTo (length (rulesFrom cs)) (endsWithin (labelledBy k labels ws) tolerance (rulesFrom cs))
+      ≡ largestTo (list .count) (endsWithin (labelledBy k labels ws) tolerance (rulesFrom cs))
 
-module _ (k tolerance : ℕ) (ws cs : List ℕ) (valid : Valid k tolerance (listTo (length ws) suc) ws) (proper : Proper k (length ws) (rulesFrom cs))
-    (holder shares : List ℕ) (list : RuleList) (had : List ℕ) (S : Searched k tolerance ws cs holder shares list had) where
+module _ (k tolerance : ℕ) (labels ws cs : List ℕ) (valid : Valid k tolerance labels ws) (proper : Proper k labels (rulesFrom cs))
+    (holder shares : List ℕ) (list : RuleList) (had : List ℕ) (S : Searched k tolerance labels ws cs holder shares list had) where
   abbrev old : List Rule
   old = rulesFrom cs
 
   abbrev T : Targets
-  T = targetsMade k ws
+  T = labelledBy k labels ws
 
   abbrev ends : ℕ → Bool
   ends = endsWithin T tolerance old
@@ -180,12 +179,12 @@ module _ (k tolerance : ℕ) (ws cs : List ℕ) (valid : Valid k tolerance (list
   abbrev c : ℕ
   c = list .count
 
-  pub starts-at : Starts k tolerance ws list holder shares (length cs / 3)
+  pub starts-at : Starts k tolerance labels ws list holder shares (length cs / 3)
   starts-at =
       record {
         valid = valid;
-        proper = subst (Proper k (length ws)) (sym (S .laid .kept)) (oldest-proper k (length ws) c old proper (S .laid .some) (S .laid .inside));
-        held = subst (λ (rs : List Rule). Held k rs holder shares) (sym (S .laid .kept)) (S .laid .held);
+        proper = subst (Proper k labels) (sym (S .laid .kept)) (oldest-proper k labels c old proper (S .laid .some) (S .laid .inside));
+        held = subst (λ (rs : List Rule). Held k labels rs holder shares) (sym (S .laid .kept)) (S .laid .held);
         within = omega (arith, rules-count cs, S .laid .inside);
         few = omega (arith, rules-count cs, proper .few);
       }

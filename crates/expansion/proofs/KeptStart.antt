@@ -12,25 +12,23 @@ use borrow.Author.Tests.{eq-eqb}
 use Rattle.numerals.specs.Limits.{mostRules}
 use Rattle.numerals.specs.Pick.{pick}
 use Rattle.numerals.specs.Suffix.{place}
-use Rattle.numerals.specs.Sums.{listTo}
 use Rattle.numerals.proofs.Place.{place-lt, place-involution}
-use Rattle.numerals.proofs.Sums.{length-list}
-use Rattle.expansion.specs.FirstMatch.{isRule, matches, firstMatch, gives, share}
+use Rattle.expansion.specs.FirstMatch.{isRule, matches, firstMatch, gives}
 use Rattle.expansion.specs.Imbalance.{backends, label, weight, imbalance}
 use Rattle.expansion.specs.Steps.{Frame, after}
-use Rattle.expansion.specs.Answer.{targetsMade}
 use Rattle.expansion.specs.Resume.{longest, capFrom}
 use Rattle.expansion.specs.Inner.Sound.{Lengths, Complete}
 use Rattle.expansion.specs.Inner.Holders.{Holds}
 use Rattle.expansion.specs.Inner.Lists.{noRule, newestFirst, Listed}
 use Rattle.expansion.specs.Inner.OldList.{Known, Proper}
-use Rattle.expansion.specs.Inner.Run.{framed, Fits, Shared}
+use Rattle.expansion.specs.Inner.Known.{Among}
+use Rattle.expansion.specs.Inner.Run.{labelledBy, framed, Fits, Shared}
 use Rattle.expansion.specs.Inner.Laying.{Starts}
 use Rattle.expansion.specs.declared.rule.Rule.{Rule}
 use Rattle.expansion.specs.declared.list.RuleList.{RuleList}
 use Rattle.expansion.proofs.Checks.{some-unit}
 use Rattle.expansion.proofs.FirstMatch.{rule-short, rule-bits, gives-low, lengths-mono}
-use Rattle.expansion.proofs.LaidRules.{noLows, label-made, holds-held}
+use Rattle.expansion.proofs.LaidRules.{noLows, holds-held}
 use Rattle.expansion.proofs.Listing.{length-newest}
 
 -- rules by their place, and all of them
@@ -49,7 +47,7 @@ unfolding Lengths longest
 lengths-longest [] = tt
 lengths-longest (r ∷ rs) = (omega arith, lengths-mono (longest rs) (max (r .len) (longest rs)) rs (omega arith) (lengths-longest rs))
 
--- the first match of rules for the backends 1 to n, the last a `*`
+-- the first match of rules for backends with these labels, the last a `*`
 
 star-matches : (k : ℕ) (r : Rule) → isRule k r ≡ true → r .len ≡ 0 → (s : ℕ) → matches r s ≡ true
 unfolding matches
@@ -60,34 +58,36 @@ star-matches k r e star s =
     eq-eqb (s % 2 ^ (r .len)) (r .value) (rw one (mod-one s) ∙ sym none)
 
 first-among :
-    (k n : ℕ) (rs : List Rule) → ((i : ℕ) → i < length rs → Known k n (getD rs i noRule)) → 0 < length rs → getD rs (length rs - 1) noRule .len ≡ 0
-    → (s : ℕ) → (1 ≤ firstMatch rs s) × (firstMatch rs s ≤ n)
+    (k : ℕ) (labels : List ℕ) (rs : List Rule) → ((i : ℕ) → i < length rs → Known k labels (getD rs i noRule)) → 0 < length rs
+    → getD rs (length rs - 1) noRule .len ≡ 0 → (s : ℕ) → Among (firstMatch rs s) labels
 unfolding firstMatch
-first-among k n [] each some star s = absurd (omega arith)
-first-among k n (r ∷ []) each some star s =
+first-among k labels [] each some star s = absurd (omega arith)
+first-among k labels (r ∷ []) each some star s =
     let K = each 0 some in
+    let a = K .known in
     let e : pick (matches r s) (r .backend) 0 ≡ r .backend = ap (λ (m : Bool). pick m (r .backend) 0) (star-matches k r (K .rule) star s) in
-    (omega (arith, K .least, e), omega (arith, K .most, e))
-first-among k n (r ∷ q ∷ rs) each some star s =
+    (a .0, a .1, e ∙ a .2)
+first-among k labels (r ∷ q ∷ rs) each some star s =
     let last : length (r ∷ q ∷ rs) - 1 ≡ suc (length rs) = omega arith in
     let last′ : length (q ∷ rs) - 1 ≡ length rs = omega arith in
     let star′ : getD (q ∷ rs) (length (q ∷ rs) - 1) noRule .len ≡ 0 =
     ap (λ (i : ℕ). getD (q ∷ rs) i noRule .len) last′ ∙ ap (λ (i : ℕ). getD (r ∷ q ∷ rs) i noRule .len) (sym last) ∙ star in
-    go (matches r s) (each 0 some) (first-among k n (q ∷ rs) (λ i l. each (suc i) (omega arith)) (omega arith) star′ s)
+    go (matches r s) (each 0 some) (firstMatch (q ∷ rs) s) (first-among k labels (q ∷ rs) (λ i l. each (suc i) (omega arith)) (omega arith) star′ s)
   where
-    go : (m : Bool) → Known k n r → {f : ℕ} → (1 ≤ f) × (f ≤ n) → (1 ≤ pick m (r .backend) f) × (pick m (r .backend) f ≤ n)
-    go true K h = (K .least, K .most)
-    go false K h = h
+    go : (m : Bool) → Known k labels r → (f : ℕ) → Among f labels → Among (pick m (r .backend) f) labels
+    go true K f h = K .known
+    go false K f h = h
 
-pub first-known : (k n : ℕ) (rs : List Rule) → Proper k n rs → (s : ℕ) → (1 ≤ firstMatch rs s) × (firstMatch rs s ≤ n)
-first-known k n rs P = first-among k n rs (P .each) (P .some) (P .star)
+pub first-known : (k : ℕ) (labels : List ℕ) (rs : List Rule) → Proper k labels rs → (s : ℕ) → Among (firstMatch rs s) labels
+first-known k labels rs P = first-among k labels rs (P .each) (P .some) (P .star)
 
-module _ (k tolerance : ℕ) (ws : List ℕ) (list : RuleList) (holder shares : List ℕ) (budget : ℕ) (S : Starts k tolerance ws list holder shares budget) where
+module _ (k tolerance : ℕ) (labels ws : List ℕ) (list : RuleList) (holder shares : List ℕ) (budget : ℕ)
+    (S : Starts k tolerance labels ws list holder shares budget) where
   abbrev kept : List Rule
   kept = newestFirst (list .rules) (list .count)
 
   abbrev F : Frame
-  F = framed k (capFrom k kept) tolerance (listTo (length ws) suc) ws kept
+  F = framed k (capFrom k kept) tolerance labels ws kept
 
   pub count-is : length kept ≡ list .count
   count-is = length-newest (list .rules) (list .count)
@@ -109,16 +109,11 @@ module _ (k tolerance : ℕ) (ws : List ℕ) (list : RuleList) (holder shares : 
   unfolding capFrom
   short = lengths-mono (longest kept) (k - min (k - longest kept) (k - 1)) kept (omega (arith, longest-few)) (lengths-longest kept)
 
-  holder-known : (p : ℕ) → p < 2 ^ k → getD holder p 0 < length ws
-  holder-known p m =
-      omega (arith, S .held .holders p m, first-known k (length ws) kept (S .proper) (place k p))
-
-  pub holds : Holds (targetsMade k ws) kept holder noLows
-  holds = holds-held k ws kept holder shares (S .held) holder-known
+  pub holds : Holds (labelledBy k labels ws) kept holder noLows
+  holds = holds-held k labels ws kept holder shares (S .valid .labelled) (S .held)
 
   -- every suffix has a holder
   complete : Complete (label (F .targets)) (backends (F .targets)) kept
-  unfolding targetsMade
   complete s =
       let v = s % 2 ^ k in
       let m : v < 2 ^ k = mod-lt s (pow-pos k) in
@@ -138,7 +133,7 @@ module _ (k tolerance : ℕ) (ws : List ℕ) (list : RuleList) (holder shares : 
         few-bits = S .valid .few-bits;
         tolerable = S .valid .tolerable;
         few = S .valid .few;
-        labelled = length-list (length ws) suc;
+        labelled = S .valid .labelled;
         sound =
             record {
               positive = some-unit;
@@ -152,11 +147,11 @@ module _ (k tolerance : ℕ) (ws : List ℕ) (list : RuleList) (holder shares : 
       }
 
   pub shared : Shared F shares
-  unfolding backends targetsMade
+  unfolding backends label
   shared =
       record {
         long = omega (arith, S .valid .few, S .held .long);
-        each = λ b l. S .held .each b (omega (arith, S .valid .few)) ∙ ap (share k kept) (sym (label-made k ws b l));
+        each = λ b l. S .held .each b (omega (arith, S .valid .labelled));
       }
 
   -- the kept rules, with the imbalance after them

@@ -7,33 +7,36 @@ use mathlib.Core.Path.{_≡_, refl, ap, sym, _∙_, subst}
 use native.Mathlib.Nat.{mod-one}
 use native.Mathlib.Decide.{ℕ-discrete}
 use native.Mathlib.Omega.{arith}
-use lib.Dec.{eqb, eqb·suc-suc}
+use lib.Dec.{eqb}
 use lib.ListN.{length, getD, set, replicate, length-replicate, length-set, getD-replicate}
 use lib.Pow.{pow-pos}
 use lib.Seq.{getD-set-same, getD-set-other}
 use borrow.Author.Tests.{eqb-true, eq-eqb, ne-eqb}
-use Rattle.numerals.specs.Limits.{mostBits, mostBackends, mostSuffixes}
+use Rattle.numerals.specs.Limits.{mostBits, mostKnown, mostSuffixes}
 use Rattle.numerals.specs.Suffix.{place}
 use Rattle.numerals.specs.Sums.{countTo}
 use Rattle.numerals.specs.Pick.{pick}
 use Rattle.numerals.proofs.Powers.{pow-few}
 use Rattle.numerals.proofs.Place.{place-lt}
-use Rattle.numerals.proofs.Sums.{list-at, count-ext, count-le, sum-le, bit}
-use Rattle.expansion.specs.FirstMatch.{nobody, matches, firstMatch, gives, share}
-use Rattle.expansion.specs.Imbalance.{Targets, backends, label}
+use Rattle.numerals.proofs.Sums.{count-ext, count-le, sum-le, bit}
+use Rattle.expansion.specs.FirstMatch.{nobody, isRule, matches, firstMatch, gives, share}
+use Rattle.expansion.specs.Imbalance.{backends, label}
 use Rattle.expansion.specs.Steps.{isWhole}
-use Rattle.expansion.specs.Answer.{targetsMade}
 use Rattle.expansion.specs.Resume.{longest}
-use Rattle.expansion.specs.Inner.Sound.{Lengths}
+use Rattle.expansion.specs.Inner.Sound.{Lengths, Distinct}
 use Rattle.expansion.specs.Inner.Lists.{noRule, newestFirst}
 use Rattle.expansion.specs.Inner.Holders.{Holds, Given}
 use Rattle.expansion.specs.Inner.OldList.{Known}
-use Rattle.expansion.specs.Inner.Laying.{passedOn, Passable, Held, Had}
+use Rattle.expansion.specs.Inner.Known.{placeIn, Ascending}
+use Rattle.expansion.specs.Inner.Laying.{passedOn, Passable, Placed, Held, Had}
+use Rattle.expansion.specs.Inner.Run.{labelledBy}
 use Rattle.expansion.specs.declared.rule.Rule.{Rule}
 use Rattle.expansion.proofs.Base.{star-share}
 use Rattle.expansion.proofs.Count.{covers, whole-gives, whole-of-one, share-giver, share-receiver, share-other}
 use Rattle.expansion.proofs.FirstMatch.{rule-short, rule-bits, gives-matched, gives-passed}
 use Rattle.expansion.proofs.Holdings.{alike}
+use Rattle.expansion.proofs.Ids.{rises-distinct}
+use Rattle.expansion.proofs.KnownIds.{above-rises, place-found}
 use Rattle.expansion.proofs.Nodes.{rule-place, rule-inside, given-at}
 
 -- the longest of one rule more
@@ -43,28 +46,36 @@ longest-more rs c = let e : c + 1 ≡ suc c = omega arith in ap (λ (i : ℕ). l
 
 -- of the lows nothing is known
 abbrev pub noLows : List ℕ
-noLows = replicate mostBackends 0
+noLows = replicate mostKnown 0
 
--- backends that are labelled by their number
-module _ (k : ℕ) (ws : List ℕ) where
-  abbrev T : Targets
-  T = targetsMade k ws
+-- who holds what, by the labels of the run
+pub holds-held : (k : ℕ) (labels ws : List ℕ) (rs : List Rule) (holder shares : List ℕ) → length labels ≡ length ws → Held k labels rs holder shares
+    → Holds (labelledBy k labels ws) rs holder noLows
+unfolding gives backends label
+holds-held k labels ws rs holder shares paired H =
+    record {
+      known = λ p m. omega (arith, H .known p m);
+      holders = λ p m. eq-eqb (firstMatch rs (place k p)) (getD labels (getD holder p 0) nobody) (H .holders p m);
+      lows = λ b p m n. absurd (omega (arith, alike mostKnown b 0));
+    }
 
-  pub label-made : (b : ℕ) → b < length ws → label T b ≡ suc b
-  unfolding label targetsMade
-  label-made b l = list-at (length ws) suc b nobody l
+-- ascending labels differ
+module _ (labels : List ℕ) (A : Ascending labels) where
+  pub labels-differ : Distinct (λ b. getD labels b nobody) (length labels)
+  labels-differ = rises-distinct labels (length labels) (above-rises labels (A .above))
 
-  -- who holds what, by the labels of the run
-  pub holds-held : (rs : List Rule) (holder shares : List ℕ) → Held k rs holder shares
-      → ((p : ℕ) → p < 2 ^ k → getD holder p 0 < length ws) → Holds T rs holder noLows
-  unfolding targetsMade gives backends
-  holds-held rs holder shares H known =
-      record {
-        known = known;
-        holders = λ p m.
-            eq-eqb (firstMatch rs (place k p)) (label T (getD holder p 0)) (H .holders p m ∙ sym (label-made (getD holder p 0) (known p m)));
-        lows = λ b p m n. absurd (omega (arith, alike mostBackends b 0));
-      }
+  same-label : (b c : ℕ) → b < length labels → c < length labels → eqb (getD labels b nobody) (getD labels c nobody) ≡ eqb b c
+  same-label b c l m = go (ℕ-discrete b c)
+    where
+      go : Dec (b ≡ c) → eqb (getD labels b nobody) (getD labels c nobody) ≡ eqb b c
+      go (yes e) = eq-eqb _ _ (ap (λ (x : ℕ). getD labels x nobody) e) ∙ sym (eq-eqb b c e)
+      go (no d) = ne-eqb _ _ (λ e. d (labels-differ b c l m e)) ∙ sym (ne-eqb b c d)
+
+  -- a rule for one of them is for the one at its id's place
+  pub placed : (k : ℕ) (r : Rule) → Known k labels r → Placed k labels r (placeIn (r .backend) labels)
+  placed k r K =
+      let p = place-found 0 (r .backend) labels (A .above) (K .known) in
+      record { rule = K .rule; inside = p .0; is = p .1 }
 
 -- counts that were passed on
 
@@ -74,7 +85,7 @@ part-is size b c e = ap (λ (t : Bool). pick {A = ℕ} t size 0) (eq-eqb b c e)
 part-not : (size b c : ℕ) → b ≢ c → pick (eqb b c) size 0 ≡ 0
 part-not size b c d = ap (λ (t : Bool). pick {A = ℕ} t size 0) (ne-eqb b c d)
 
-module _ (shares : List ℕ) (from to size : ℕ) (long : length shares ≡ mostBackends) (from-known : from < mostBackends) (to-known : to < mostBackends)
+module _ (shares : List ℕ) (from to size : ℕ) (long : length shares ≡ mostKnown) (from-known : from < mostKnown) (to-known : to < mostKnown)
     (enough : size ≤ getD shares from 0) where
   abbrev less : List ℕ
   less = set shares from (getD shares from 0 - size)
@@ -111,14 +122,14 @@ module _ (shares : List ℕ) (from to size : ℕ) (long : length shares ≡ most
           )
       go (no d) = omega (arith, getD-set-other less to c (getD less to 0 + size) 0 d, part-not size to c (λ e. d (sym e)), less-at c)
 
-  passed-long : length (passedOn shares from to size) ≡ mostBackends
+  passed-long : length (passedOn shares from to size) ≡ mostKnown
   passed-long = length-set less to (getD less to 0 + size) ∙ length-set shares from (getD shares from 0 - size) ∙ long
 
   pub less-few : (c : ℕ) → getD less c 0 ≤ getD shares c 0
   less-few c = omega (arith, less-at c)
 
 -- a rule of k bits
-module _ (k : ℕ) (r : Rule) (K : Known k mostBackends r) where
+module _ (k : ℕ) (r : Rule) (K : isRule k r ≡ true) where
   abbrev size : ℕ
   size = 2 ^ (k - r .len)
 
@@ -126,23 +137,24 @@ module _ (k : ℕ) (r : Rule) (K : Known k mostBackends r) where
   at = place (r .len) (r .value) * 2 ^ (k - r .len)
 
   short : r .len ≤ k
-  short = rule-short k r (K .rule)
+  short = rule-short k r K
 
   bits : r .value < 2 ^ (r .len)
-  bits = rule-bits k r (K .rule)
-
-  label-back : suc (r .backend - 1) ≡ r .backend
-  label-back = let least = K .least in omega arith
+  bits = rule-bits k r K
 
   -- the places of the suffix are in the listing
   pub at-inside : at < 2 ^ k
-  at-inside = omega (arith, rule-place k r (K .rule) 0 (pow-pos (k - r .len)))
+  at-inside = omega (arith, rule-place k r K 0 (pow-pos (k - r .len)))
 
   at-few : k ≤ mostBits → at + size ≤ mostSuffixes
   at-few few =
       let some = pow-pos (k - r .len) in
       let last : size - 1 < size = omega arith in
-      omega (arith, rule-place k r (K .rule) (size - 1) last, pow-few k few)
+      omega (arith, rule-place k r K (size - 1) last, pow-few k few)
+
+  -- the rule matches the suffix at its first place
+  at-matches : matches r (place k at) ≡ true
+  at-matches = rule-inside k r K at at-inside (omega arith) (omega (arith, pow-pos (k - r .len)))
 
   -- who has all that the suffix covers has as much
   most-of : (t : ℕ → Bool) → ((s : ℕ) → s < 2 ^ k → matches r s ≡ true → t s ≡ true) → size ≤ countTo (2 ^ k) t
@@ -155,11 +167,11 @@ module _ (k : ℕ) (r : Rule) (K : Known k mostBackends r) where
       le s l false e = omega (arith, ap bit e)
 
   -- whoever gets the suffix, every place has a holder
-  known-after : (holder holder′ : List ℕ) (b : ℕ) → b < mostBackends → Given at size b holder holder′
-      → ((q : ℕ) → q < 2 ^ k → getD holder q 0 < mostBackends) → (q : ℕ) → q < 2 ^ k → getD holder′ q 0 < mostBackends
-  known-after holder holder′ b l G h q m = rw (given-at k r (K .rule) b holder holder′ G q m) (go (matches r (place k q)))
+  known-after : (n : ℕ) (holder holder′ : List ℕ) (b : ℕ) → b < n → Given at size b holder holder′
+      → ((q : ℕ) → q < 2 ^ k → getD holder q 0 < n) → (q : ℕ) → q < 2 ^ k → getD holder′ q 0 < n
+  known-after n holder holder′ b l G h q m = rw (given-at k r K b holder holder′ G q m) (go (matches r (place k q)))
     where
-      go : (t : Bool) → pick t b (getD holder q 0) < mostBackends
+      go : (t : Bool) → pick t b (getD holder q 0) < n
       go true = l
       go false = h q m
 
@@ -197,144 +209,154 @@ module _ (k : ℕ) (r : Rule) (K : Known k mostBackends r) where
             omega (arith, not g e, is (r .backend) f, share-receiver k rs r g short bits W d, ap (share k (r ∷ rs)) f, ap (share k rs) f)
         go (no d) (no e) (no f) = omega (arith, not g e, not (r .backend) f, share-other k rs r g short bits W d c e f)
 
-  -- one rule more, and one rule less
-  module _ (few : k ≤ mostBits) (rs : List Rule) (holder shares : List ℕ) where
-    last : r .backend - 1 < mostBackends
-    last = omega (arith, K .least, K .most)
+  -- backends with ascending labels: one rule more, and one rule less
+  module _ (few : k ≤ mostBits) (labels : List ℕ) (A : Ascending labels) (rs : List Rule) (holder shares : List ℕ) where
+    abbrev named : ℕ → ℕ
+    named b = getD labels b nobody
 
     -- no rule is longer, so whoever has the first place has all
-    pub had-first : Held k rs holder shares → Lengths (r .len) rs → Had k rs r (getD holder at 0)
+    pub had-first : Held k labels rs holder shares → Lengths (r .len) rs → Had k labels rs r (getD holder at 0)
     unfolding gives matches
     had-first H short-all =
-        let one : firstMatch rs (place k at) ≡ suc (getD holder at 0) = H .holders at at-inside in
-        let low : place k at % 2 ^ (r .len) ≡ r .value = low-bits in
+        let one : firstMatch rs (place k at) ≡ named (getD holder at 0) = H .holders at at-inside in
+        let low : place k at % 2 ^ (r .len) ≡ r .value = eqb-true (place k at % 2 ^ (r .len)) (r .value) at-matches in
         record {
           known = H .known at at-inside;
           wholly =
-              subst (λ (v : ℕ). isWhole k rs (r .len) v (suc (getD holder at 0)) ≡ true) low
-              (whole-of-one k (r .len) rs (suc (getD holder at 0)) (place k at) short-all (eq-eqb _ _ one));
+              subst (λ (v : ℕ). isWhole k rs (r .len) v (named (getD holder at 0)) ≡ true) low
+              (whole-of-one k (r .len) rs (named (getD holder at 0)) (place k at) short-all (eq-eqb _ _ one));
         }
-      where
-        low-bits : place k at % 2 ^ (r .len) ≡ r .value
-        low-bits = eqb-true (place k at % 2 ^ (r .len)) (r .value) (rule-inside k r (K .rule) at at-inside (omega arith) (omega (arith, pow-pos (k - r .len))))
 
-    few-shares : (os : List Rule) → Held k os holder shares → (b : ℕ) → b < mostBackends → getD shares b 0 ≤ mostSuffixes
+    -- the rule is the first match at its first place, so its backend has that
+    pub has-first : Held k labels (r ∷ rs) holder shares → Placed k labels r (getD holder at 0)
+    unfolding firstMatch
+    has-first H =
+        record {
+          rule = K;
+          inside = H .known at at-inside;
+          is = sym (ap (λ (t : Bool). pick t (r .backend) (firstMatch rs (place k at))) at-matches) ∙ H .holders at at-inside;
+        }
+
+    few-shares : (os : List Rule) → Held k labels os holder shares → (b : ℕ) → b < length labels → getD shares b 0 ≤ mostSuffixes
     unfolding share
-    few-shares os H b l = omega (arith, H .each b l, count-le (2 ^ k) (λ s. gives os s (suc b)), pow-few k few)
+    few-shares os H b l = omega (arith, H .each b l, count-le (2 ^ k) (λ s. gives os s (named b)), pow-few k few)
 
-    module _ (b : ℕ) (B : Had k rs r b) where
-      suffixes : (c : ℕ) → share k (r ∷ rs) (suc c) + pick (eqb b c) size 0 ≡ share k rs (suc c) + pick (eqb (r .backend - 1) c) size 0
-      suffixes c =
+    -- the suffix between the backend at place b, which had it, and the rule's at place `to`
+    module _ (b to : ℕ) (B : Had k labels rs r b) (P : Placed k labels r to) where
+      suffixes : (c : ℕ) → c < length labels
+          → share k (r ∷ rs) (named c) + pick (eqb b c) size 0 ≡ share k rs (named c) + pick (eqb to c) size 0
+      suffixes c l =
           omega (
             arith,
-            share-moved rs (suc b) (B .wholly) (suc c),
-            ap (λ (t : Bool). pick {A = ℕ} t size 0) (eqb·suc-suc b c),
-            ap (λ (t : Bool). pick {A = ℕ} t size 0) (sym (ap (λ (x : ℕ). eqb x (suc c)) (sym label-back) ∙ eqb·suc-suc (r .backend - 1) c)),
+            share-moved rs (named b) (B .wholly) (named c),
+            ap (λ (t : Bool). pick {A = ℕ} t size 0) (same-label labels A b c (B .known) l),
+            ap (λ (x : ℕ). pick {A = ℕ} (eqb x (named c)) size 0) (P .is),
+            ap (λ (t : Bool). pick {A = ℕ} t size 0) (same-label labels A to c (P .inside) l),
           )
 
-      pub lay-passable : Held k rs holder shares → Passable holder shares at size b (r .backend - 1)
+      pub lay-passable : Held k labels rs holder shares → Passable holder shares at size b to
       unfolding share gives
       lay-passable H =
           record {
             inside = omega (arith, at-few few, H .wide);
             long = H .long;
-            from-known = B .known;
-            to-known = last;
+            from-known = omega (arith, B .known, A .few);
+            to-known = omega (arith, P .inside, A .few);
             enough =
                 omega (
                   arith,
                   H .each b (B .known),
-                  most-of (λ s. gives rs s (suc b)) (λ s l e. whole-gives k rs r (suc b) short (B .wholly) s l e),
+                  most-of (λ s. gives rs s (named b)) (λ s l e. whole-gives k rs r (named b) short (B .wholly) s l e),
                 );
-            few = few-shares rs H;
+            few = (few-shares rs H b (B .known), few-shares rs H to (P .inside));
           }
 
-      pub back-passable : Held k (r ∷ rs) holder shares → Passable holder shares at size (r .backend - 1) b
+      pub back-passable : Held k labels (r ∷ rs) holder shares → Passable holder shares at size to b
       unfolding share
       back-passable H =
           record {
             inside = omega (arith, at-few few, H .wide);
             long = H .long;
-            from-known = last;
-            to-known = B .known;
+            from-known = omega (arith, P .inside, A .few);
+            to-known = omega (arith, B .known, A .few);
             enough =
                 omega (
                   arith,
-                  H .each (r .backend - 1) last,
-                  ap (share k (r ∷ rs)) label-back,
+                  H .each to (P .inside),
+                  ap (share k (r ∷ rs)) (P .is),
                   most-of (λ s. gives (r ∷ rs) s (r .backend)) (λ s l e.
                       gives-matched r rs s (r .backend) e ∙ eq-eqb (r .backend) (r .backend) refl),
                 );
-            few = few-shares (r ∷ rs) H;
+            few = (few-shares (r ∷ rs) H to (P .inside), few-shares (r ∷ rs) H b (B .known));
           }
 
       module _ (holder′ shares′ : List ℕ) where
-        pub held-laid : Held k rs holder shares → Given at size (r .backend - 1) holder holder′ → shares′ ≡ passedOn shares b (r .backend - 1) size
-            → Held k (r ∷ rs) holder′ shares′
+        pub held-laid : Held k labels rs holder shares → Given at size to holder holder′ → shares′ ≡ passedOn shares b to size
+            → Held k labels (r ∷ rs) holder′ shares′
         unfolding firstMatch
         held-laid H G e =
-            let P = lay-passable H in
+            let Q = lay-passable H in
             record {
               wide = G .long ∙ H .wide;
-              long = ap length e ∙ passed-long shares b (r .backend - 1) size (P .long) (P .from-known) (P .to-known) (P .enough);
-              known = known-after holder holder′ (r .backend - 1) last G (H .known);
+              long = ap length e ∙ passed-long shares b to size (Q .long) (Q .from-known) (Q .to-known) (Q .enough);
+              known = known-after (length labels) holder holder′ to (P .inside) G (H .known);
               holders = λ q m. holders q m (matches r (place k q)) refl;
               each = λ c l.
                   omega (
                     arith,
                     ap (λ (xs : List ℕ). getD xs c 0) e,
-                    passed-at shares b (r .backend - 1) size (P .long) (P .from-known) (P .to-known) (P .enough) c,
+                    passed-at shares b to size (Q .long) (Q .from-known) (Q .to-known) (Q .enough) c,
                     H .each c l,
-                    suffixes c,
+                    suffixes c l,
                   );
             }
           where
-            holders : (q : ℕ) → q < 2 ^ k → (t : Bool) → matches r (place k q) ≡ t → firstMatch (r ∷ rs) (place k q) ≡ suc (getD holder′ q 0)
-            holders q m true e = rw (given-at k r (K .rule) (r .backend - 1) holder holder′ G q m, e) (sym label-back)
-            holders q m false e = rw (given-at k r (K .rule) (r .backend - 1) holder holder′ G q m, e) (H .holders q m)
+            holders : (q : ℕ) → q < 2 ^ k → (t : Bool) → matches r (place k q) ≡ t → firstMatch (r ∷ rs) (place k q) ≡ named (getD holder′ q 0)
+            holders q m true e = rw (given-at k r K to holder holder′ G q m, e) (P .is)
+            holders q m false e = rw (given-at k r K to holder holder′ G q m, e) (H .holders q m)
 
-        pub held-back : Held k (r ∷ rs) holder shares → Given at size b holder holder′ → shares′ ≡ passedOn shares (r .backend - 1) b size
-            → Held k rs holder′ shares′
+        pub held-back : Held k labels (r ∷ rs) holder shares → Given at size b holder holder′ → shares′ ≡ passedOn shares to b size
+            → Held k labels rs holder′ shares′
         unfolding firstMatch
         held-back H G e =
-            let P = back-passable H in
+            let Q = back-passable H in
             record {
               wide = G .long ∙ H .wide;
-              long = ap length e ∙ passed-long shares (r .backend - 1) b size (P .long) (P .from-known) (P .to-known) (P .enough);
-              known = known-after holder holder′ b (B .known) G (H .known);
+              long = ap length e ∙ passed-long shares to b size (Q .long) (Q .from-known) (Q .to-known) (Q .enough);
+              known = known-after (length labels) holder holder′ b (B .known) G (H .known);
               holders = λ q m. holders q m (matches r (place k q)) refl;
               each = λ c l.
                   omega (
                     arith,
                     ap (λ (xs : List ℕ). getD xs c 0) e,
-                    passed-at shares (r .backend - 1) b size (P .long) (P .from-known) (P .to-known) (P .enough) c,
+                    passed-at shares to b size (Q .long) (Q .from-known) (Q .to-known) (Q .enough) c,
                     H .each c l,
-                    suffixes c,
+                    suffixes c l,
                   );
             }
           where
-            holders : (q : ℕ) → q < 2 ^ k → (t : Bool) → matches r (place k q) ≡ t → firstMatch rs (place k q) ≡ suc (getD holder′ q 0)
-            holders q m true e = rw (given-at k r (K .rule) b holder holder′ G q m, e) (given rs (suc b) (B .wholly) (place k q) (place-lt k q) e)
+            holders : (q : ℕ) → q < 2 ^ k → (t : Bool) → matches r (place k q) ≡ t → firstMatch rs (place k q) ≡ named (getD holder′ q 0)
+            holders q m true e = rw (given-at k r K b holder holder′ G q m, e) (given rs (named b) (B .wholly) (place k q) (place-lt k q) e)
             holders q m false e =
                 sym (ap (λ (t : Bool). pick t (r .backend) (firstMatch rs (place k q))) e)
                 ∙ H .holders q m
-                ∙ ap suc (sym (given-at k r (K .rule) b holder holder′ G q m ∙ ap (λ (t : Bool). pick t b (getD holder q 0)) e))
+                ∙ ap named (sym (given-at k r K b holder holder′ G q m ∙ ap (λ (t : Bool). pick t b (getD holder q 0)) e))
 
   -- the rule `*` alone
-  pub held-star : k ≤ mostBits → r .len ≡ 0
-      → Held k (r ∷ []) (replicate mostSuffixes (r .backend - 1)) (set (replicate mostBackends 0) (r .backend - 1) (2 ^ k))
+  pub held-star : k ≤ mostBits → r .len ≡ 0 → (labels : List ℕ) → Ascending labels → (to : ℕ) → Placed k labels r to
+      → Held k labels (r ∷ []) (replicate mostSuffixes to) (set (replicate mostKnown 0) to (2 ^ k))
   unfolding firstMatch matches
-  held-star few star =
+  held-star few star labels A to P =
       record {
-        wide = length-replicate {A = ℕ} mostSuffixes (r .backend - 1);
-        long = length-set (replicate mostBackends 0) (r .backend - 1) (2 ^ k) ∙ length-replicate {A = ℕ} mostBackends 0;
-        known = λ q m. omega (arith, all q m, K .least, K .most);
-        holders = λ q m. one (place k q) ∙ sym label-back ∙ ap suc (sym (all q m));
-        each = λ b l. each b l (ℕ-discrete b (r .backend - 1));
+        wide = length-replicate {A = ℕ} mostSuffixes to;
+        long = length-set (replicate mostKnown 0) to (2 ^ k) ∙ length-replicate {A = ℕ} mostKnown 0;
+        known = λ q m. omega (arith, all q m, P .inside);
+        holders = λ q m. one (place k q) ∙ P .is ∙ ap (λ (b : ℕ). getD labels b nobody) (sym (all q m));
+        each = λ b l. each b l (ℕ-discrete b to);
       }
     where
-      all : (q : ℕ) → q < 2 ^ k → getD (replicate mostSuffixes (r .backend - 1)) q 0 ≡ r .backend - 1
-      all q m = getD-replicate mostSuffixes q (r .backend - 1) 0 (omega (arith, pow-few k few))
+      all : (q : ℕ) → q < 2 ^ k → getD (replicate mostSuffixes to) q 0 ≡ to
+      all q m = getD-replicate mostSuffixes q to 0 (omega (arith, pow-few k few))
 
       is-star : record { len = 0; value = 0; backend = r .backend } ≡ r
       is-star =
@@ -350,13 +372,18 @@ module _ (k : ℕ) (r : Rule) (K : Known k mostBackends r) where
       shares : (c : ℕ) → share k (r ∷ []) c ≡ pick (eqb (r .backend) c) (2 ^ k) 0
       shares c = subst (λ (o : Rule). share k (o ∷ []) c ≡ pick (eqb (o .backend) c) (2 ^ k) 0) is-star (star-share k (r .backend) c)
 
-      each : (b : ℕ) → b < mostBackends → Dec (b ≡ r .backend - 1)
-          → getD (set (replicate mostBackends 0) (r .backend - 1) (2 ^ k)) b 0 ≡ share k (r ∷ []) (suc b)
+      share-at : (b : ℕ) → b < length labels → (t : Bool) → eqb to b ≡ t → share k (r ∷ []) (getD labels b nobody) ≡ pick t (2 ^ k) 0
+      share-at b l t e =
+          shares (getD labels b nobody)
+          ∙ ap (λ (x : ℕ). pick {A = ℕ} (eqb x (getD labels b nobody)) (2 ^ k) 0) (P .is)
+          ∙ ap (λ (u : Bool). pick {A = ℕ} u (2 ^ k) 0) (same-label labels A to b (P .inside) l ∙ e)
+
+      each : (b : ℕ) → b < length labels → Dec (b ≡ to) → getD (set (replicate mostKnown 0) to (2 ^ k)) b 0 ≡ share k (r ∷ []) (getD labels b nobody)
       each b l (yes e) =
-          ap (λ (x : ℕ). getD (set (replicate mostBackends 0) (r .backend - 1) (2 ^ k)) x 0) e
-          ∙ getD-set-same (replicate mostBackends 0) (r .backend - 1) (2 ^ k) 0 (omega (arith, length-replicate {A = ℕ} mostBackends 0))
-          ∙ sym (shares (suc b) ∙ ap (λ (t : Bool). pick {A = ℕ} t (2 ^ k) 0) (eq-eqb (r .backend) (suc b) (omega (arith, label-back))))
+          ap (λ (x : ℕ). getD (set (replicate mostKnown 0) to (2 ^ k)) x 0) e
+          ∙ getD-set-same (replicate mostKnown 0) to (2 ^ k) 0 (omega (arith, P .inside, A .few, length-replicate {A = ℕ} mostKnown 0))
+          ∙ sym (share-at b l true (eq-eqb to b (sym e)))
       each b l (no d) =
-          getD-set-other (replicate mostBackends 0) (r .backend - 1) b (2 ^ k) 0 d
-          ∙ alike mostBackends b 0
-          ∙ sym (shares (suc b) ∙ ap (λ (t : Bool). pick {A = ℕ} t (2 ^ k) 0) (ne-eqb (r .backend) (suc b) (λ e. d (omega arith))))
+          getD-set-other (replicate mostKnown 0) to b (2 ^ k) 0 d
+          ∙ alike mostKnown b 0
+          ∙ sym (share-at b l false (ne-eqb to b (λ e. d (sym e))))

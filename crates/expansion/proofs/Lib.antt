@@ -17,6 +17,10 @@ pub mod KeptAlong
 pub mod Surveys
 pub mod Nodes
 pub mod Holdings
+pub mod Ids
+pub mod LowestId
+pub mod KnownIds
+pub mod KnownPlaces
 pub mod LaidRules
 pub mod Found
 pub mod Walk
@@ -33,6 +37,7 @@ pub mod KeptStart
 pub mod Answers
 pub mod Largest
 pub mod KeptLists
+pub mod WithinIds
 pub mod HopelessStarts
 pub mod KeptSearch
 pub mod ResumeAnswers

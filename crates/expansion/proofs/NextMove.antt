@@ -14,7 +14,7 @@ use Rattle.numerals.specs.Sums.{lastmax}
 use Rattle.expansion.specs.Imbalance.{backends, label, giver, receiver, largestExcess, largestShortfall}
 use Rattle.expansion.specs.Steps.{Frame, reduction, isWithin, isNoGain, term, termLength, lowestPlace, newRule, step, endOf}
 use Rattle.expansion.specs.Inner.Sound.{Sound}
-use Rattle.numerals.specs.Limits.{mostBackends, unit}
+use Rattle.numerals.specs.Limits.{mostKnown, unit}
 use Rattle.expansion.specs.KeptShares.{Keeps}
 use Rattle.expansion.specs.Inner.Ledger.{over, movedOf, Movable}
 use Rattle.expansion.specs.Inner.Terms.{nextFor}
@@ -117,7 +117,7 @@ pub record Feasible (F : Frame) (holder low : List ℕ) (rs : List Rule) (L : Le
 
 -- a move with a gain
 module _ (F : Frame) (fits : Fits F) (holder low : List ℕ) (rs : List Rule) (L : Ledger)
-    (H : Holds (F .targets) rs holder low) (long : length low ≡ mostBackends) (K : Keeps (F .targets) rs L)
+    (H : Holds (F .targets) rs holder low) (long : length low ≡ mostKnown) (K : Keeps (F .targets) rs L)
     (G : Good F rs) (gain : isNoGain F rs ≡ false) where
   pub feasible : Feasible F holder low rs L (moveOf F rs)
   unfolding moveOf nodeOf termLength newRule largestExcess largestShortfall

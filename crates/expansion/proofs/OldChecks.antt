@@ -1,23 +1,25 @@
 -- The checks of an old list, one test after the other, and what they leave.
 use Prim.Native.Nat.{ℕ, zero, suc, _+_, _-_, _*_, _/_, _≤_, _<_}
 use mathlib.Core.Bool.{true, false}
-use mathlib.Core.List.{List, [], _∷_}
-use mathlib.Core.Path.{_≡_, refl, ap, sym, _∙_}
+use mathlib.Core.List.{List, [], _∷_, map}
+use mathlib.Core.Logic.{inl, inr}
+use mathlib.Core.Path.{_≡_, refl, ap, sym, _∙_, subst}
 use native.Mathlib.Numerals.{add-one}
 use native.Mathlib.Omega.{arith}
 use lib.Dec.{leb, ltb, eqb}
-use lib.ListN.{length, getD, drop}
+use lib.ListN.{length, getD, drop, length-map}
 use borrow.Author.Tests.{leb-true, ltb-true, eqb-true, lt-ltb, le-ltb, lt-leb, le-leb}
-use Rattle.numerals.specs.Sums.{listTo}
 use Rattle.numerals.specs.Pick.{both}
-use Rattle.numerals.specs.Limits.{mostBits, mostBackends, mostRules, unit}
+use Rattle.numerals.specs.Limits.{mostBits, mostRules, mostId, unit}
 use Rattle.numerals.specs.declared.refusal.Refusal.{Refusal}
 use Rattle.numerals.specs.declared.refusal.Refusal.the-variants.{Malformed, BadField, TooMany, Order}
 use Rattle.expansion.specs.FirstMatch.{isRule}
 use Rattle.expansion.specs.Steps.{oldest}
 use Rattle.expansion.specs.Answer.{andThen, orElse, inLimits, checkWeights}
+use Rattle.expansion.specs.Known.{knownIds, weightOf}
 use Rattle.expansion.specs.OldList.{rulesFrom, isProper, checkRules, checkList}
-use Rattle.expansion.specs.Resume.{allKnown, checkOld}
+use Rattle.expansion.specs.Resume.{checkOld}
+use Rattle.expansion.specs.Inner.Known.{Above, Ascending, Knowable}
 use Rattle.expansion.specs.Inner.Lists.{noRule}
 use Rattle.expansion.specs.Inner.OldList.{ruleAt, Proper}
 use Rattle.expansion.specs.Inner.Run.{Valid}
@@ -26,7 +28,9 @@ use Rattle.expansion.specs.declared.rule.Rule.{Rule}
 use Rattle.expansion.specs.declared.call.Checked.the-variants.{Sound as Passed, Refused as Failed}
 use Rattle.numerals.proofs.Searches.{both-true}
 use Rattle.expansion.proofs.FirstMatch.{lengths-mono}
-use Rattle.expansion.proofs.Checks.{both-passed, test-passed, limits, call-weights, call-passed}
+use Rattle.expansion.proofs.Checks.{both-passed, test-passed, limits, Weighed, weights-passed}
+use Rattle.expansion.proofs.Ids.{Rises, rises-distinct, rises-named}
+use Rattle.expansion.proofs.KnownIds.{Mentioned, known-exactly, known-count, known-above, above-rises, rises-above, sum-known}
 use Rattle.expansion.proofs.OldNumbers.{three-more, rules-more, oldest-length, oldest-at}
 
 -- the rules from rule i on, the tests of this one after the other
@@ -70,16 +74,6 @@ pub rules-over : (k n last : ℕ) (cs : List ℕ) → length cs ≡ 0 → checkR
 unfolding checkRules
 rules-over k n last [] e = refl
 rules-over k n last (l ∷ cs) e = absurd (omega arith)
-
--- the rules against the weights, from rule i on
-module _ (n : ℕ) (cs : List ℕ) (i : ℕ) (h : i < length cs / 3) where
-  pub rule-unknown : n < (ruleAt cs i) .backend → allKnown n (rulesFrom (drop (3 * i) cs)) ≡ false
-  unfolding allKnown
-  rule-unknown l = ap (allKnown n) (rules-more cs i h) ∙ simp (lt-leb ((ruleAt cs i) .backend) n l)
-
-  pub rule-known : (ruleAt cs i) .backend ≤ n → allKnown n (rulesFrom (drop (3 * i) cs)) ≡ allKnown n (rulesFrom (drop (3 * (i + 1)) cs))
-  unfolding allKnown
-  rule-known l = ap (allKnown n) (rules-more cs i h) ∙ simp (le-leb ((ruleAt cs i) .backend) n l)
 
 -- the length of the last rule behind one with `last` bits
 unfoldable endLen : ℕ → List Rule → ℕ
@@ -131,71 +125,117 @@ rules-passed k n last (l ∷ v ∷ b ∷ cs) h e =
     both-ends r rs a f zero m = a
     both-ends r rs a f (suc i) m = f i (omega arith)
 
-all-known : (n : ℕ) (rs : List Rule) → allKnown n rs ≡ true → (i : ℕ) → i < length rs → (getD rs i noRule) .backend ≤ n
-unfolding allKnown
-all-known n [] e i h = absurd (omega arith)
-all-known n (r ∷ rs) e zero h = leb-true (r .backend) n (both-true (leb (r .backend) n) (allKnown n rs) e .0)
-all-known n (r ∷ rs) e (suc i) h = all-known n rs (both-true (leb (r .backend) n) (allKnown n rs) e .1) i (omega arith)
-
-proper : (k : ℕ) (r : Rule) → isProper k r ≡ true → (isRule k r ≡ true) × (1 ≤ r .backend)
+proper : (k : ℕ) (r : Rule) → isProper k r ≡ true → (isRule k r ≡ true) × ((1 ≤ r .backend) × (r .backend ≤ mostId))
 unfolding isProper
 proper k r e =
-    let p = both-true (isRule k r) (inLimits 1 mostBackends (r .backend)) e in
-    (p .0, limits 1 mostBackends (r .backend) (p .1) .0)
+    let p = both-true (isRule k r) (inLimits 1 mostId (r .backend)) e in
+    (p .0, limits 1 mostId (r .backend) (p .1))
 
-rules-proper : (k n : ℕ) (rs : List Rule) → 1 ≤ k → Passing k 0 k rs → allKnown n rs ≡ true → Proper k n rs
+rules-proper : (k : ℕ) (ids : List ℕ) (rs : List Rule) → 1 ≤ k → Passing k 0 k rs → Proper k (knownIds rs ids) rs
 unfolding endLen
-rules-proper k n [] h P e = absurd (omega (arith, P .star))
-rules-proper k n (r ∷ rs) h P e =
+rules-proper k ids [] h P = absurd (omega (arith, P .star))
+rules-proper k ids (r ∷ rs) h P =
     let last : length (r ∷ rs) - 1 ≡ length rs = omega arith in
     record {
       some = omega arith;
       few = omega (arith, P .few);
       each = λ i l.
-          let p = proper k (getD (r ∷ rs) i noRule) (P .each i l) in
-          record { rule = p .0; least = p .1; most = all-known n (r ∷ rs) e i l };
+          record {
+            rule = proper k (getD (r ∷ rs) i noRule) (P .each i l) .0;
+            known = known-exactly (r ∷ rs) ids (getD (r ∷ rs) i noRule .backend) .1 (inl (i, l, refl));
+          };
       falling = P .falling .1;
       star = ap (λ (i : ℕ). (getD (r ∷ rs) i noRule) .len) last ∙ sym (end-last k r rs) ∙ P .star;
     }
 
-pub old-passed :
-    (k tolerance : ℕ) (cs ws : List ℕ) → checkOld k tolerance cs ws ≡ Passed
-    → Valid k tolerance (listTo (length ws) suc) ws × (((b : ℕ) → b < length ws → getD ws b 0 ≤ unit) × Proper k (length ws) (rulesFrom cs))
-unfolding checkOld checkList inLimits
-old-passed k tolerance cs ws e =
-    let known = orElse (allKnown (length ws) (rulesFrom cs)) BadField in
-    let weighed = andThen (checkWeights ws) known in
-    let listed = andThen (checkList k cs) weighed in
+-- what the checks of an old list and of new weights leave: the backends that are known are as the run wants them, and each rule is for one of them
+pub record OldPassed (k tolerance : ℕ) (rs : List Rule) (ids ws : List ℕ) : Type 0 where
+  pub knowable : Knowable rs ids ws
+  pub valid : Valid k tolerance (knownIds rs ids) (map (weightOf ids ws) (knownIds rs ids))
+  pub ascending : Ascending (knownIds rs ids)
+  pub most : (b : ℕ) → b < length (knownIds rs ids) → getD (knownIds rs ids) b 0 ≤ mostId
+  pub proper : Proper k (knownIds rs ids) rs
+
+module _ (k tolerance : ℕ) (rs : List Rule) (ids ws : List ℕ) (bits : inLimits 1 mostBits k ≡ true) (tolerable : tolerance ≤ unit)
+    (P : Passing k 0 k rs) (W : Weighed ids ws) where
+  abbrev labels : List ℕ
+  labels = knownIds rs ids
+
+  named : (i : ℕ) → i < length rs → (1 ≤ getD rs i noRule .backend) × (getD rs i noRule .backend ≤ mostId)
+  named i l = proper k (getD rs i noRule) (P .each i l) .1
+
+  rising : Above 0 ids
+  rising = rises-above ids (subst (Rises ids) (sym (W .paired)) (W .rises))
+
+  above : Above 0 labels
+  above = known-above ids rising rs (λ i l. named i l .0)
+
+  count : length (map (weightOf ids ws) labels) ≡ length labels
+  count = length-map labels (weightOf ids ws)
+
+  most-known : (b : ℕ) → b < length labels → getD labels b 0 ≤ mostId
+  most-known b l = go (known-exactly rs ids (getD labels b 0) .0 (b, l, refl))
+    where
+      go : Mentioned (getD labels b 0) rs ids → getD labels b 0 ≤ mostId
+      go (inl h) = omega (arith, named (h .0) (h .1) .1, h .2)
+      go (inr h) = omega (arith, W .most (h .0) (omega (arith, h .1, W .paired)), h .2)
+
+  passed : OldPassed k tolerance rs ids ws
+  passed =
+      let c = known-count rs ids in
+      record {
+        knowable =
+            record {
+              few-rules = omega (arith, P .few);
+              few-ids = omega (arith, W .few, W .paired);
+              paired = W .paired;
+              above = rising;
+              named = λ i l. named i l .0;
+            };
+        valid =
+            record {
+              some-bits = limits 1 mostBits k bits .0;
+              few-bits = limits 1 mostBits k bits .1;
+              tolerable = tolerable;
+              someone = omega (arith, W .someone, W .paired, c .0, count);
+              few = omega (arith, P .few, W .few, W .paired, c .1, count);
+              balanced = sum-known ids ws rising (W .paired) rs (λ i l. named i l .0) ∙ W .balanced;
+              labelled = sym count;
+              distinct = rw count (rises-distinct labels (length labels) (above-rises labels above));
+              named = rw count (rises-named labels (length labels) (above-rises labels above));
+            };
+        ascending = record { few = omega (arith, P .few, W .few, W .paired, c .1); above = above };
+        most = most-known;
+        proper = rules-proper k ids rs (limits 1 mostBits k bits .0) P;
+      }
+
+pub old-passed : (k tolerance : ℕ) (cs ids ws : List ℕ) → checkOld k tolerance cs ids ws ≡ Passed → OldPassed k tolerance (rulesFrom cs) ids ws
+unfolding checkOld checkList
+old-passed k tolerance cs ids ws e =
+    let listed = andThen (checkList k cs) (checkWeights ids ws) in
     let p = both-passed (orElse (inLimits 1 mostBits k) BadField) (andThen (orElse (leb tolerance unit) BadField) listed) e in
     let q = both-passed (orElse (leb tolerance unit) BadField) listed (p .1) in
-    let r = both-passed (checkList k cs) weighed (q .1) in
-    let w = both-passed (checkWeights ws) known (r .1) in
+    let r = both-passed (checkList k cs) (checkWeights ids ws) (q .1) in
     let l = both-passed (orElse (ltb 0 (length cs)) BadField) (checkRules k 0 k cs) (r .0) in
-    let bits = test-passed (inLimits 1 mostBits k) BadField (p .0) in
-    let tolerable = leb-true tolerance unit (test-passed (leb tolerance unit) BadField (q .0)) in
-    let call = call-passed k tolerance 1 ws (call-weights k tolerance 1 ws bits tolerable refl ∙ w .0) in
-    let rules = rules-passed k 0 k cs (omega arith) (l .1) in (
-      call .0,
-      (call .3, rules-proper k (length ws) (rulesFrom cs) (limits 1 mostBits k bits .0) rules (test-passed _ BadField (w .1))),
-    )
+    passed k tolerance (rulesFrom cs) ids ws (test-passed (inLimits 1 mostBits k) BadField (p .0))
+    (leb-true tolerance unit (test-passed (leb tolerance unit) BadField (q .0))) (rules-passed k 0 k cs (omega arith) (l .1)) (weights-passed ids ws (r .1))
 
 -- the checks of a call with an old list, one after the other
-module _ (k tolerance : ℕ) (cs ws : List ℕ) where
-  pub old-bits : inLimits 1 mostBits k ≡ false → checkOld k tolerance cs ws ≡ Failed BadField
+module _ (k tolerance : ℕ) (cs ids ws : List ℕ) where
+  pub old-bits : inLimits 1 mostBits k ≡ false → checkOld k tolerance cs ids ws ≡ Failed BadField
   unfolding checkOld
   old-bits e = simp e
 
-  pub old-tolerance : inLimits 1 mostBits k ≡ true → unit < tolerance → checkOld k tolerance cs ws ≡ Failed BadField
+  pub old-tolerance : inLimits 1 mostBits k ≡ true → unit < tolerance → checkOld k tolerance cs ids ws ≡ Failed BadField
   unfolding checkOld
   old-tolerance e l = simp (e, lt-leb tolerance unit l)
 
-  pub old-none : inLimits 1 mostBits k ≡ true → tolerance ≤ unit → length cs ≡ 0 → checkOld k tolerance cs ws ≡ Failed BadField
+  pub old-none : inLimits 1 mostBits k ≡ true → tolerance ≤ unit → length cs ≡ 0 → checkOld k tolerance cs ids ws ≡ Failed BadField
   unfolding checkOld checkList
   old-none e l z = simp (e, le-leb tolerance unit l, le-ltb 0 (length cs) (omega arith))
 
   pub old-rules : inLimits 1 mostBits k ≡ true → tolerance ≤ unit → 0 < length cs
-      → checkOld k tolerance cs ws
-      ≡ andThen (checkRules k 0 k cs) (andThen (checkWeights ws) (orElse (allKnown (length ws) (rulesFrom cs)) BadField))
+      → checkOld k tolerance cs ids ws ≡ andThen (checkRules k 0 k cs) (checkWeights ids ws)
   unfolding checkOld checkList
   old-rules e l s = simp (e, le-leb tolerance unit l, lt-ltb 0 (length cs) s)
 
@@ -205,21 +245,10 @@ falling-drop zero rs h = h
 falling-drop (suc n) [] h = h
 falling-drop (suc n) (r ∷ rs) h = falling-drop n rs (h .1)
 
--- proper rules for n backends are so for more
-pub proper-more : (k n m : ℕ) (rs : List Rule) → n ≤ m → Proper k n rs → Proper k m rs
-proper-more k n m rs h P =
-    record {
-      some = P .some;
-      few = P .few;
-      each = λ i l. let K = P .each i l in record { rule = K .rule; least = K .least; most = omega (arith, K .most) };
-      falling = P .falling;
-      star = P .star;
-    }
-
 -- the oldest of proper rules are proper
-pub oldest-proper : (k n r : ℕ) (rs : List Rule) → Proper k n rs → 1 ≤ r → r ≤ length rs → Proper k n (oldest r rs)
+pub oldest-proper : (k : ℕ) (labels : List ℕ) (r : ℕ) (rs : List Rule) → Proper k labels rs → 1 ≤ r → r ≤ length rs → Proper k labels (oldest r rs)
 unfolding oldest
-oldest-proper k n r rs P some few =
+oldest-proper k labels r rs P some few =
     let long = oldest-length r rs few in
     let at : length rs - r + (length (oldest r rs) - 1) ≡ length rs - 1 = omega (arith, long) in
     record {

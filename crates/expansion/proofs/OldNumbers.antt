@@ -74,6 +74,14 @@ rules-drop cs (suc i) h =
     rw (← one)
     (sym (drop-drop 1 i (rulesFrom cs)) ∙ ap (drop 1) (rules-drop cs i (omega arith) ∙ rules-more cs i (omega arith)))
 
+-- rule i
+pub rule-is : (cs : List ℕ) (i : ℕ) → i < length cs / 3 → getD (rulesFrom cs) i noRule ≡ ruleAt cs i
+rule-is cs i h =
+    let here : i + 0 ≡ i = omega arith in
+    ap (λ (j : ℕ). getD (rulesFrom cs) j noRule) (sym here)
+    ∙ sym (getD-drop i (rulesFrom cs) 0 noRule)
+    ∙ ap (λ (rs : List Rule). getD rs 0 noRule) (rules-drop cs i (omega arith) ∙ rules-more cs i h)
+
 -- the last c rules in a listing of the oldest first: one, and one more
 pub last-one : (cs : List ℕ) (n : ℕ) → n ≡ length cs / 3 → 1 ≤ n
     → newestFirst (replicate mostRules (ruleAt cs (n - 1))) 1 ≡ rulesFrom (drop (3 * (n - 1)) cs)

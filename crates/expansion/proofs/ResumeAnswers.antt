@@ -11,7 +11,8 @@ use Rattle.numerals.specs.Pick.{pick}
 use Rattle.numerals.specs.declared.refusal.Refusal.{Refusal}
 use Rattle.numerals.specs.declared.refusal.Refusal.the-variants.{ShortLoan, Stuck}
 use Rattle.expansion.specs.Imbalance.{Targets}
-use Rattle.expansion.specs.Answer.{onChecked, targetsMade}
+use Rattle.expansion.specs.Answer.{onChecked}
+use Rattle.expansion.specs.Known.{targetsKnown}
 use Rattle.expansion.specs.OldList.{rulesFrom, numbersOf}
 use Rattle.expansion.specs.Resume.{keptOf, listKept, listResumed, numbersResumed, checkOld, resumeOf, resumeAnswer}
 use Rattle.expansion.specs.Inner.Lists.{newestFirst}
@@ -25,27 +26,27 @@ use Rattle.expansion.specs.declared.resuming.Resumed.the-variants.{Made,
 use Rattle.expansion.proofs.Listing.{length-newest}
 use Rattle.expansion.proofs.OldNumbers.{numbers-count}
 
-module _ (k tolerance : ℕ) (ws cs : List ℕ) (room : ℕ) where
+module _ (k tolerance : ℕ) (ids ws cs : List ℕ) (room : ℕ) where
   abbrev R : List Rule
   R = rulesFrom cs
 
   abbrev T : Targets
-  T = targetsMade k ws
+  T = targetsKnown k R ids ws
 
-  pub resume-refused : (why : Refusal) → checkOld k tolerance cs ws ≡ Failed why → resumeAnswer k tolerance ws cs room ≡ Refused why
+  pub resume-refused : (why : Refusal) → checkOld k tolerance cs ids ws ≡ Failed why → resumeAnswer k tolerance ids ws cs room ≡ Refused why
   unfolding resumeAnswer
   resume-refused why e = ap (λ (c : Checked). onChecked Refused c (resumeOf T tolerance R room)) e
 
-  passed-on : checkOld k tolerance cs ws ≡ Passed → resumeAnswer k tolerance ws cs room ≡ resumeOf T tolerance R room
+  passed-on : checkOld k tolerance cs ids ws ≡ Passed → resumeAnswer k tolerance ids ws cs room ≡ resumeOf T tolerance R room
   unfolding resumeAnswer
   passed-on e = ap (λ (c : Checked). onChecked Refused c (resumeOf T tolerance R room)) e
 
-  module _ (passed : checkOld k tolerance cs ws ≡ Passed) (best : Attempt) (F : Found T tolerance R (length R) best) where
+  module _ (passed : checkOld k tolerance cs ids ws ≡ Passed) (best : Attempt) (F : Found T tolerance R (length R) best) where
     kept-is : best .kept ≡ keptOf T tolerance R
     unfolding keptOf
     kept-is = F .kept
 
-    pub resume-stuck : best .kept ≡ 0 → resumeAnswer k tolerance ws cs room ≡ Refused Stuck
+    pub resume-stuck : best .kept ≡ 0 → resumeAnswer k tolerance ids ws cs room ≡ Refused Stuck
     unfolding resumeOf
     resume-stuck e =
         passed-on passed
@@ -56,7 +57,7 @@ module _ (k tolerance : ℕ) (ws cs : List ℕ) (room : ℕ) where
       unfolding listResumed
       list-is = F .rules some ∙ ap (λ (r : ℕ). listKept T tolerance R r) kept-is
 
-      pub numbers-are : numbersOf (newestFirst (best .list .rules) (best .list .count)) ≡ numbersResumed k tolerance ws cs
+      pub numbers-are : numbersOf (newestFirst (best .list .rules) (best .list .count)) ≡ numbersResumed k tolerance ids ws cs
       unfolding numbersResumed
       numbers-are = ap numbersOf list-is
 
@@ -66,7 +67,7 @@ module _ (k tolerance : ℕ) (ws cs : List ℕ) (room : ℕ) where
       size-is : length (numbersOf (listResumed T tolerance R)) ≡ 3 * best .list .count
       size-is = omega (arith, numbers-count (listResumed T tolerance R), count-is)
 
-      found-one : resumeAnswer k tolerance ws cs room
+      found-one : resumeAnswer k tolerance ids ws cs room
           ≡ pick (leb (length (numbersOf (listResumed T tolerance R))) room)
           (Made (record { kept = keptOf T tolerance R; rules = length (listResumed T tolerance R) })) (Refused ShortLoan)
       unfolding resumeOf
@@ -74,11 +75,11 @@ module _ (k tolerance : ℕ) (ws cs : List ℕ) (room : ℕ) where
           passed-on passed
           ∙ simp (ne-eqb (keptOf T tolerance R) 0 (λ e. omega (arith, kept-is)))
 
-      pub resume-short : room < 3 * best .list .count → resumeAnswer k tolerance ws cs room ≡ Refused ShortLoan
+      pub resume-short : room < 3 * best .list .count → resumeAnswer k tolerance ids ws cs room ≡ Refused ShortLoan
       resume-short l = found-one ∙ simp (lt-leb (length (numbersOf (listResumed T tolerance R))) room (omega (arith, size-is)))
 
       pub resume-made : 3 * best .list .count ≤ room
-          → resumeAnswer k tolerance ws cs room ≡ Made (record { kept = best .kept; rules = best .list .count })
+          → resumeAnswer k tolerance ids ws cs room ≡ Made (record { kept = best .kept; rules = best .list .count })
       resume-made l =
           found-one
           ∙ ap (λ (t : Bool). pick t (Made (record { kept = keptOf T tolerance R; rules = length (listResumed T tolerance R) })) (Refused ShortLoan))

@@ -18,7 +18,7 @@ use Rattle.numerals.specs.Sums.{sumTo, argmax}
 use Rattle.expansion.specs.FirstMatch.{nobody, firstMatch, gives, share}
 use Rattle.expansion.specs.Imbalance.{backends, label, weight, imbalance}
 use Rattle.expansion.specs.Steps.{Frame, firstRule, frame, newRule, after, endOf, stair, listOf}
-use Rattle.numerals.specs.Limits.{mostBackends, mostRules, mostSuffixes, unit}
+use Rattle.numerals.specs.Limits.{mostKnown, mostRules, mostSuffixes, unit}
 use Rattle.expansion.specs.KeptShares.{noBackend, entryAt, entryOf, Keeps, OthersStay, SharesKept}
 use Rattle.expansion.specs.Inner.Ledger.{over, Small, errorAt}
 use Rattle.expansion.specs.Inner.Terms.{nextOf}
@@ -90,7 +90,7 @@ module _ (F : Frame) (fits : Fits F) where
       }
 
   pub stands-start : (L : Ledger) → Keeps (F .targets) (F .start) L
-      → (holder low : List ℕ) → Holds (F .targets) (F .start) holder low → length holder ≡ mostSuffixes → length low ≡ mostBackends
+      → (holder low : List ℕ) → Holds (F .targets) (F .start) holder low → length holder ≡ mostSuffixes → length low ≡ mostKnown
       → (sum : ℕ) → sum ≡ sumTo (backends (F .targets)) (λ b. over (errorAt L b))
       → (next : Next) → next ≡ nextOf L (backends (F .targets)) (F .targets .k) (F .tolerance) (F .cap)
       → (r : Rule)
@@ -271,11 +271,11 @@ module _ (F : Frame) (x : ℕ) (holder low : List ℕ) (st : State) (S : Stands 
 
 -- the start of document 01: everything goes to the largest weight
 module _ (k tolerance : ℕ) (labels ws : List ℕ) (valid : Valid k tolerance labels ws) (first : ℕ) (e : first ≡ argmax (λ b. getD ws b 0) (length ws)) where
-  pub shared-first : Shared (frame k unit tolerance labels ws) (set (replicate mostBackends 0) first (2 ^ k))
+  pub shared-first : Shared (frame k unit tolerance labels ws) (set (replicate mostKnown 0) first (2 ^ k))
   unfolding frame backends label firstRule
   shared-first =
       record {
-        long = omega (arith, valid .few, length-set (replicate mostBackends 0) first (2 ^ k), length-replicate {A = ℕ} mostBackends 0);
+        long = omega (arith, valid .few, length-set (replicate mostKnown 0) first (2 ^ k), length-replicate {A = ℕ} mostKnown 0);
         each = λ b l. each b l (ℕ-discrete b first) ∙ sym (star-share k (getD labels most nobody) (getD labels b nobody));
       }
     where
@@ -284,15 +284,15 @@ module _ (k tolerance : ℕ) (labels ws : List ℕ) (valid : Valid k tolerance l
 
       each :
           (b : ℕ) → b < length ws → Dec (b ≡ first)
-          → getD (set (replicate mostBackends 0) first (2 ^ k)) b 0 ≡ pick (eqb (getD labels most nobody) (getD labels b nobody)) (2 ^ k) 0
+          → getD (set (replicate mostKnown 0) first (2 ^ k)) b 0 ≡ pick (eqb (getD labels most nobody) (getD labels b nobody)) (2 ^ k) 0
       each b l (yes d) =
-          ap (λ (i : ℕ). getD (set (replicate mostBackends 0) first (2 ^ k)) i 0) d
-          ∙ getD-set-same (replicate mostBackends 0) first (2 ^ k) 0 (omega (arith, valid .few, length-replicate {A = ℕ} mostBackends 0))
+          ap (λ (i : ℕ). getD (set (replicate mostKnown 0) first (2 ^ k)) i 0) d
+          ∙ getD-set-same (replicate mostKnown 0) first (2 ^ k) 0 (omega (arith, valid .few, length-replicate {A = ℕ} mostKnown 0))
           ∙ sym (ap (λ (t : Bool). pick t (2 ^ k) 0)
           (eq-eqb (getD labels most nobody) (getD labels b nobody) (ap (λ (i : ℕ). getD labels i nobody) (sym (d ∙ e)))))
       each b l (no d) =
-          getD-set-other (replicate mostBackends 0) first b (2 ^ k) 0 d
-          ∙ getD-replicate mostBackends b 0 0 (omega (arith, valid .few))
+          getD-set-other (replicate mostKnown 0) first b (2 ^ k) 0 d
+          ∙ getD-replicate mostKnown b 0 0 (omega (arith, valid .few))
           ∙ sym (ap (λ (t : Bool). pick t (2 ^ k) 0)
           (ne-eqb (getD labels most nobody) (getD labels b nobody)
           (λ is. d (sym (e ∙ valid .distinct most b (first-lt k tolerance labels ws valid) l is)))))

@@ -8,7 +8,7 @@ use Rattle.numerals.specs.Suffix.{isSuffix}
 use Rattle.numerals.specs.Sums.{countTo}
 use Rattle.expansion.specs.declared.rule.Rule.{Rule}
 
--- the label that no backend has: labels count from 1
+-- the label that no backend has: ids are from 1 on
 abbrev pub nobody : ℕ
 nobody = 0
 
@@ -33,6 +33,6 @@ gives rs s b = eqb (firstMatch rs s) b
 unfoldable pub share : ℕ → List Rule → ℕ → ℕ
 share k rs b = countTo (2 ^ k) (λ s. gives rs s b)
 
--- churn: of the suffixes below `all`, the number of those that two lists give to unlike backends
+-- churn: of the suffixes below `all`, the number of those that two lists give to backends of unlike ids
 unfoldable pub differing : ℕ → List Rule → List Rule → ℕ
 differing all old new = countTo all (λ s. not (eqb (firstMatch old s) (firstMatch new s)))

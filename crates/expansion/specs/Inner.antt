@@ -6,6 +6,7 @@ pub mod Holders
 pub mod Lists
 pub mod Run
 pub mod OldList
+pub mod Known
 pub mod Laying
 pub mod Hopeless
 pub mod Resume

@@ -1,12 +1,12 @@
 -- An old list in numbers (document 02, Req 03): as its rule sheet would have it, the newest rule first, of each the length and the value of its suffix
--- and the label of its backend. It is checked as its sheet would be.
+-- and the id of its backend. It is checked as its sheet would be.
 use Prim.Native.Nat.{ℕ, suc}
 use mathlib.Core.Bool.{Bool}
 use mathlib.Core.List.{List, [], _∷_}
 use lib.Dec.{leb, ltb, eqb}
 use lib.ListN.{length}
 use Rattle.numerals.specs.Pick.{both}
-use Rattle.numerals.specs.Limits.{mostBackends, mostRules}
+use Rattle.numerals.specs.Limits.{mostId, mostRules}
 use Rattle.numerals.specs.Refusals.{no1, no2, no4, no9}
 use Rattle.expansion.specs.FirstMatch.{isRule}
 use Rattle.expansion.specs.Answer.{andThen, orElse, inLimits}
@@ -28,7 +28,7 @@ numbersOf (r ∷ rs) = r .len ∷ r .value ∷ r .backend ∷ numbersOf rs
 
 -- the numbers of a rule are within the limits of a rule line
 unfoldable pub isProper : ℕ → Rule → Bool
-isProper k r = both (isRule k r) (inLimits 1 mostBackends (r .backend))
+isProper k r = both (isRule k r) (inLimits 1 mostId (r .backend))
 
 -- The rules behind n others, the last of which has `last` bits; the first rule of all may have k. Rule by rule: too few numbers, then a number out of its
 -- limits, then a 33rd rule, then the order: nothing stands behind a `*`, and the suffix doesn't lengthen. After the rules: the last has to be a `*`.

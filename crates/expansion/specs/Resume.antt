@@ -5,12 +5,13 @@ use mathlib.Core.Bool.{Bool, true, false}
 use mathlib.Core.List.{List, [], _∷_}
 use lib.Dec.{leb, eqb}
 use lib.ListN.{length}
-use Rattle.numerals.specs.Pick.{pick, both}
+use Rattle.numerals.specs.Pick.{pick}
 use Rattle.numerals.specs.Limits.{mostBits, unit}
 use Rattle.numerals.specs.Refusals.{no2, no7, no13}
 use Rattle.expansion.specs.Imbalance.{Targets}
 use Rattle.expansion.specs.Steps.{Frame, isWithin, oldest, listOf}
-use Rattle.expansion.specs.Answer.{andThen, onChecked, orElse, inLimits, checkWeights, targetsMade}
+use Rattle.expansion.specs.Answer.{andThen, onChecked, orElse, inLimits, checkWeights}
+use Rattle.expansion.specs.Known.{targetsKnown}
 use Rattle.expansion.specs.OldList.{rulesFrom, numbersOf, checkList}
 use Rattle.expansion.specs.declared.rule.Rule.{Rule}
 use Rattle.expansion.specs.declared.call.Checked.{Checked}
@@ -55,23 +56,17 @@ keptOf T tolerance old = largestTo (length old) (endsWithin T tolerance old)
 unfoldable pub listResumed : Targets → ℕ → List Rule → List Rule
 listResumed T tolerance old = listKept T tolerance old (keptOf T tolerance old)
 
--- no rule goes to a backend beyond the weights
-unfoldable pub allKnown : ℕ → List Rule → Bool
-allKnown n [] = true
-allKnown n (r ∷ rs) = both (leb (r .backend) n) (allKnown n rs)
-
--- k, tolerance, the old list, the weights, then its rules, kept or dropped, against them
-unfoldable pub checkOld : ℕ → ℕ → List ℕ → List ℕ → Checked
-checkOld k tolerance old ws =
+-- k, tolerance, the old list, then the ids and weights
+unfoldable pub checkOld : ℕ → ℕ → List ℕ → List ℕ → List ℕ → Checked
+checkOld k tolerance old ids ws =
     andThen (orElse (inLimits 1 mostBits k) no2)
     (andThen (orElse (leb tolerance unit) no2)
     (andThen (checkList k old)
-    (andThen (checkWeights ws)
-    (orElse (allKnown (length ws) (rulesFrom old)) no2))))
+    (checkWeights ids ws)))
 
 -- the list of a call in numbers, the newest rule first
-unfoldable pub numbersResumed : ℕ → ℕ → List ℕ → List ℕ → List ℕ
-numbersResumed k tolerance ws old = numbersOf (listResumed (targetsMade k ws) tolerance (rulesFrom old))
+unfoldable pub numbersResumed : ℕ → ℕ → List ℕ → List ℕ → List ℕ → List ℕ
+numbersResumed k tolerance ids ws old = numbersOf (listResumed (targetsKnown k (rulesFrom old) ids ws) tolerance (rulesFrom old))
 
 -- after the checks: 13 where no r ends within; 7 last, where the lent buffer, of `room` places, is too short
 unfoldable pub resumeOf : Targets → ℕ → List Rule → ℕ → Resumed
@@ -81,9 +76,9 @@ resumeOf T tolerance old room =
     (Made (record { kept = keptOf T tolerance old; rules = length (listResumed T tolerance old) }))
     (Refused no7))
 
-unfoldable pub resumeAnswer : ℕ → ℕ → List ℕ → List ℕ → ℕ → Resumed
-resumeAnswer k tolerance ws old room =
-    onChecked Refused (checkOld k tolerance old ws) (resumeOf (targetsMade k ws) tolerance (rulesFrom old) room)
+unfoldable pub resumeAnswer : ℕ → ℕ → List ℕ → List ℕ → List ℕ → ℕ → Resumed
+resumeAnswer k tolerance ids ws old room =
+    onChecked Refused (checkOld k tolerance old ids ws) (resumeOf (targetsKnown k (rulesFrom old) ids ws) tolerance (rulesFrom old) room)
 
 -- a list was made; only then is the lent buffer filled
 abbrev pub isResumed : Resumed → Bool

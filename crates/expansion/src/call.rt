@@ -3,16 +3,18 @@ use crate::list::RuleList;
 use crate::rule::Record;
 use numerals::MOST_BACKENDS;
 use numerals::MOST_BITS;
+use numerals::MOST_ID;
 use numerals::MOST_RULES;
 use numerals::Refusal;
 use numerals::UNIT;
 ghost use mathlib.Core.Path.{_≡_};
 ghost use mathlib.Core.List.{map};
-ghost use Prim.Native.Nat.{_+_, _≤_, min};
+ghost use Prim.Native.Nat.{suc, _+_, _≤_, min};
 ghost use lib.Dec.{leb};
 ghost use lib.ListN.{length, take};
 ghost use lib.Seq.{sets};
-ghost use Rattle.numerals.specs.Limits.{mostRules};
+ghost use Rattle.numerals.specs.Limits.{mostRules, mostId, unit};
+ghost use Rattle.numerals.specs.Pick.{both};
 ghost use Rattle.numerals.specs.Buffer.{filled};
 ghost use Rattle.expansion.specs.Answer.{inLimits, checkWeights, checkCall, answer, isMade, lensMade, valuesMade, backendsMade, stairsMade};
 
@@ -28,23 +30,31 @@ pub enum Checked {
     Refused(Refusal),
 }
 
-// The weights: 1 to MOST_BACKENDS of them, each at most the unit, which they sum to.
-pub fn check_weights(weights: &[u64]) -> Checked
-    ensures { λ r. ⌜ r ≡ checkWeights (now (weights .entry)) ⌝ }
+// The backends: 1 to MOST_BACKENDS of them, an id for each weight; ids ascend, and each weight is at most the unit, which they
+// sum to.
+pub fn check_weights(ids: &[usize], weights: &[u64]) -> Checked
+    ensures { λ r. ⌜ r ≡ checkWeights (now (ids .entry)) (now (weights .entry)) ⌝ }
 {
-    if weights.len() == 0 {
+    let n = weights.len();
+    if n == 0 {
         return Checked::Refused(Refusal::BadField);
     }
-    if MOST_BACKENDS < weights.len() {
+    if MOST_BACKENDS < n {
         return Checked::Refused(Refusal::TooMany);
     }
+    if ids.len() != n {
+        return Checked::Refused(Refusal::Malformed);
+    }
     let mut sum: u64 = 0;
+    let mut before = 0;
     let mut b = 0;
-    while b < weights.len() {
+    while b < n {
+        let id = ids[b];
         let w = weights[b];
-        if UNIT < w {
+        if !is_backend(before, id, w) {
             return Checked::Refused(Refusal::BadField);
         }
+        before = id;
         sum += w;
         b += 1;
     }
@@ -53,6 +63,19 @@ pub fn check_weights(weights: &[u64]) -> Checked
     } else {
         Checked::Refused(Refusal::Unbalanced)
     }
+}
+
+// Whether a backend may stand behind one with the id `before`.
+fn is_backend(before: usize, id: usize, weight: u64) -> bool
+    ensures { λ r. ⌜ r ≡ both (inLimits (suc before) mostId id) (leb weight unit) ⌝ }
+{
+    if id <= before {
+        return false;
+    }
+    if MOST_ID < id {
+        return false;
+    }
+    weight <= UNIT
 }
 
 // Whether least ≤ x ≤ most.
@@ -65,9 +88,9 @@ pub fn in_limits(least: usize, most: usize, x: usize) -> bool
     x <= most
 }
 
-// k, tolerance and budget, then the weights.
-fn check_call(k: usize, tolerance: u64, budget: usize, weights: &[u64]) -> Checked
-    ensures { λ r. ⌜ r ≡ checkCall k tolerance budget (now (weights .entry)) ⌝ }
+// k, tolerance and budget, then the backends.
+fn check_call(k: usize, tolerance: u64, budget: usize, ids: &[usize], weights: &[u64]) -> Checked
+    ensures { λ r. ⌜ r ≡ checkCall k tolerance budget (now (ids .entry)) (now (weights .entry)) ⌝ }
 {
     if !in_limits(1, MOST_BITS, k) {
         return Checked::Refused(Refusal::BadField);
@@ -78,7 +101,7 @@ fn check_call(k: usize, tolerance: u64, budget: usize, weights: &[u64]) -> Check
     if !in_limits(1, MOST_RULES, budget) {
         return Checked::Refused(Refusal::BadField);
     }
-    check_weights(weights)
+    check_weights(ids, weights)
 }
 
 // The rules and stairs of a list, copied into lent buffers from a position on; there is room for them.
@@ -122,12 +145,13 @@ fn has_room(len: usize, at: usize, n: usize) -> bool
     if len < at { false } else { n <= len - at }
 }
 
-// The list of one service: its rules, the oldest first, by length, value and backend, which has its printed number, and the
+// The list of one service: its rules, the oldest first, by length, value and id of the backend, and the
 // imbalance after each, into lent buffers from a position on.
 pub fn expand(
     k: usize,
     tolerance: u64,
     budget: usize,
+    ids: &[usize],
     weights: &[u64],
     at: usize,
     lens: &mut [usize],
@@ -135,18 +159,22 @@ pub fn expand(
     backends: &mut [usize],
     stairs: &mut [u64],
 ) -> Expanded
-    ensures answer { λ r. ⌜ r ≡ answer k tolerance budget (now (weights .entry)) at
+    ensures answer { λ r. ⌜ r ≡ answer k tolerance budget (now (ids .entry)) (now (weights .entry)) at
         (min (min (length (now (lens .entry))) (length (now (values .entry)))) (min (length (now (backends .entry))) (length (now (stairs .entry))))) ⌝ }
-    ensures lens { λ r. ⌜ now (lens .exit) ≡ filled (isMade r) (now (lens .entry)) at (lensMade k tolerance budget (now (weights .entry))) ⌝ }
-    ensures values { λ r. ⌜ now (values .exit) ≡ filled (isMade r) (now (values .entry)) at (valuesMade k tolerance budget (now (weights .entry))) ⌝ }
-    ensures backends { λ r. ⌜ now (backends .exit) ≡ filled (isMade r) (now (backends .entry)) at (backendsMade k tolerance budget (now (weights .entry))) ⌝ }
-    ensures stairs { λ r. ⌜ now (stairs .exit) ≡ filled (isMade r) (now (stairs .entry)) at (stairsMade k tolerance budget (now (weights .entry))) ⌝ }
+    ensures lens { λ r. ⌜ now (lens .exit) ≡ filled (isMade r) (now (lens .entry)) at
+        (lensMade k tolerance budget (now (ids .entry)) (now (weights .entry))) ⌝ }
+    ensures values { λ r. ⌜ now (values .exit) ≡ filled (isMade r) (now (values .entry)) at
+        (valuesMade k tolerance budget (now (ids .entry)) (now (weights .entry))) ⌝ }
+    ensures backends { λ r. ⌜ now (backends .exit) ≡ filled (isMade r) (now (backends .entry)) at
+        (backendsMade k tolerance budget (now (ids .entry)) (now (weights .entry))) ⌝ }
+    ensures stairs { λ r. ⌜ now (stairs .exit) ≡ filled (isMade r) (now (stairs .entry)) at
+        (stairsMade k tolerance budget (now (ids .entry)) (now (weights .entry))) ⌝ }
 {
-    let checked = check_call(k, tolerance, budget, weights);
+    let checked = check_call(k, tolerance, budget, ids, weights);
     if let Checked::Refused(why) = checked {
         return Expanded::Refused(why);
     }
-    let made = crate::run::make_numbered(k, tolerance, budget, weights);
+    let made = crate::run::make_list(k, tolerance, budget, ids, weights);
     let list = made.list;
     let ended = made.ended;
     let n = list.count;

@@ -5,7 +5,7 @@ use numerals::MOST_BITS;
 ghost use mathlib.Core.Path.{_≡_};
 ghost use Prim.Native.Nat.{ℕ, _+_, _-_, _*_, _^_, _≤_, _<_};
 ghost use lib.ListN.{length};
-ghost use Rattle.numerals.specs.Limits.{mostBits, mostSuffixes, mostBackends};
+ghost use Rattle.numerals.specs.Limits.{mostBits, mostSuffixes, mostKnown};
 ghost use Rattle.numerals.specs.Suffix.{place, Places};
 ghost use Rattle.expansion.specs.Inner.Holders as held;
 
@@ -74,8 +74,8 @@ pub fn suffix_at(places: &[u16], k: usize, at: usize) -> usize
 // Step 6: of the suffixes that cover 2^index and that the giver holds wholly, the one with the lowest tree place goes to
 // the receiver. Its value.
 pub fn hand_over(holder: &mut [u16], low: &mut [u16], places: &[u16], k: usize, m: Move) -> usize
-    requires { ⌜ (k ≤ mostBits) × ((m .index ≤ k) × ((m .giver < mostBackends) × (m .receiver < mostBackends))) ⌝ }
-    requires { ⌜ (length (now holder) ≡ mostSuffixes) × ((length (now low) ≡ mostBackends) × Places mostBits (now places)) ⌝ }
+    requires { ⌜ (k ≤ mostBits) × ((m .index ≤ k) × ((m .giver < mostKnown) × (m .receiver < mostKnown))) ⌝ }
+    requires { ⌜ (length (now holder) ≡ mostSuffixes) × ((length (now low) ≡ mostKnown) × Places mostBits (now places)) ⌝ }
     requires { ⌜ held.nodeOf k m (now holder) (now low) < 2 ^ (k - m .index) ⌝ }
     ensures { λ r. ⌜ held.Handed k m r (now (holder .entry)) (now (low .entry)) (now (holder .exit)) (now (low .exit)) ⌝ }
 {

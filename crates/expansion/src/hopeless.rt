@@ -4,7 +4,7 @@ ghost use mathlib.Core.Path.{_≡_};
 ghost use Prim.Native.Nat.{ℕ, _*_, _^_, _≤_, _<_};
 ghost use lib.Dec.{ltb};
 ghost use lib.ListN.{length, getD};
-ghost use Rattle.numerals.specs.Limits.{mostBits, mostSuffixes, mostBackends, mostRules, unit};
+ghost use Rattle.numerals.specs.Limits.{mostBits, mostSuffixes, mostKnown, mostRules, unit};
 ghost use Rattle.expansion.specs.Inner.Hopeless.{isApart, beyondTo};
 
 // Whether the error of a backend is beyond the tolerance.
@@ -24,7 +24,7 @@ fn is_beyond(weight: u64, share: u64, k: usize, tolerance: u64) -> bool
 // Whether more backends are beyond the tolerance than so many moves can bring within.
 pub fn is_hopeless(weights: &[u64], shares: &[u64], k: usize, tolerance: u64, moves: usize) -> bool
     requires { ⌜ ((k ≤ mostBits) × ((tolerance ≤ unit) × (moves ≤ mostRules)))
-        × ((length (now weights) ≤ mostBackends) × (length (now weights) ≤ length (now shares))) ⌝ }
+        × ((length (now weights) ≤ mostKnown) × (length (now weights) ≤ length (now shares))) ⌝ }
     requires { ⌜ ((b : ℕ) → b < length (now weights) → (getD (now weights) b 0 ≤ unit) × (getD (now shares) b 0 ≤ mostSuffixes)) ⌝ }
     ensures { λ r. ⌜ r ≡ ltb (2 * moves)
         (beyondTo k tolerance (now (weights .entry)) (now (shares .entry)) (length (now (weights .entry)))) ⌝ }

@@ -5,12 +5,13 @@ use crate::rule::Rule;
 ghost use mathlib.Core.List.{List, _∷_};
 ghost use mathlib.Core.Path.{_≡_};
 ghost use mathlib.Core.Bool.{true};
-ghost use Prim.Native.Nat.{_-_, _*_, _^_, _≤_};
-ghost use Rattle.numerals.specs.Limits.{mostBits, mostBackends, mostRules};
+ghost use Prim.Native.Nat.{ℕ, _-_, _*_, _^_, _≤_};
+ghost use Rattle.numerals.specs.Limits.{mostBits, mostRules};
 ghost use Rattle.numerals.specs.Suffix.{place, Places};
 ghost use Rattle.expansion.specs.FirstMatch.{isRule};
 ghost use Rattle.expansion.specs.Resume.{longest, capFrom};
 ghost use Rattle.expansion.specs.Inner.Holders.{Given};
+ghost use Rattle.expansion.specs.Inner.Known.{Ascending};
 ghost use Rattle.expansion.specs.Inner.Laying.{passedOn, Passable, Held, Had};
 ghost use Rattle.expansion.specs.Inner.Lists.{newestFirst};
 ghost use Rattle.expansion.specs.Inner.OldList.{Known};
@@ -38,22 +39,23 @@ fn first_place(places: &[u16], k: usize, rule: Rule) -> usize
 }
 
 // One rule more: its suffix goes to its backend. Answers the one that had it wholly: no rule behind has a longer suffix.
-pub fn lay(holder: &mut [u16], shares: &mut [u64], places: &[u16], k: usize, rule: Rule) -> usize
-    requires { ⌜ ((rs : List rules.Rule) × (Held k rs (now holder) (now shares) × Lengths (rule .len) rs)) ⌝ }
-    requires { ⌜ (k ≤ mostBits) × (Known k mostBackends rule × Places mostBits (now places)) ⌝ }
-    ensures { λ r. ⌜ ((rs : List rules.Rule) → Held k rs (now (holder .entry)) (now (shares .entry)) → Lengths (rule .len) rs
-        → Held k (rule ∷ rs) (now (holder .exit)) (now (shares .exit)) × Had k rs rule r) ⌝ }
+pub fn lay(
+    holder: &mut [u16],
+    shares: &mut [u64],
+    places: &[u16],
+    k: usize,
+    ids: &[usize],
+    rule: Rule,
+) -> usize
+    requires { ⌜ ((rs : List rules.Rule) × (Held k (now ids) rs (now holder) (now shares) × Lengths (rule .len) rs)) ⌝ }
+    requires { ⌜ (k ≤ mostBits) × (Ascending (now ids) × (Known k (now ids) rule × Places mostBits (now places))) ⌝ }
+    ensures { λ r. ⌜ ((rs : List rules.Rule) → Held k (now (ids .entry)) rs (now (holder .entry)) (now (shares .entry)) → Lengths (rule .len) rs
+        → Held k (now (ids .entry)) (rule ∷ rs) (now (holder .exit)) (now (shares .exit)) × Had k (now (ids .entry)) rs rule r) ⌝ }
 {
+    let to = crate::known::place_of(ids, ids.len(), rule.backend);
     let at = first_place(places, k, rule);
     let had = holder[at] as usize;
-    pass_on(
-        holder,
-        shares,
-        at,
-        1 << (k - rule.len),
-        had,
-        rule.backend - 1,
-    );
+    pass_on(holder, shares, at, 1 << (k - rule.len), had, to);
     had
 }
 
@@ -66,20 +68,15 @@ pub fn take_back(
     rule: Rule,
     had: usize,
 )
-    requires { ⌜ ((rs : List rules.Rule) × (Held k (rule ∷ rs) (now holder) (now shares) × Had k rs rule had)) ⌝ }
-    requires { ⌜ (k ≤ mostBits) × (Known k mostBackends rule × Places mostBits (now places)) ⌝ }
-    ensures { λ _. ⌜ ((rs : List rules.Rule) → Held k (rule ∷ rs) (now (holder .entry)) (now (shares .entry)) → Had k rs rule had
-        → Held k rs (now (holder .exit)) (now (shares .exit))) ⌝ }
+    requires { ⌜ ((labels : List ℕ) × (rs : List rules.Rule)
+        × (Ascending labels × (Held k labels (rule ∷ rs) (now holder) (now shares) × Had k labels rs rule had))) ⌝ }
+    requires { ⌜ (k ≤ mostBits) × ((isRule k rule ≡ true) × Places mostBits (now places)) ⌝ }
+    ensures { λ _. ⌜ ((labels : List ℕ) (rs : List rules.Rule) → Ascending labels → Held k labels (rule ∷ rs) (now (holder .entry)) (now (shares .entry))
+        → Had k labels rs rule had → Held k labels rs (now (holder .exit)) (now (shares .exit))) ⌝ }
 {
     let at = first_place(places, k, rule);
-    pass_on(
-        holder,
-        shares,
-        at,
-        1 << (k - rule.len),
-        rule.backend - 1,
-        had,
-    );
+    let from = holder[at] as usize;
+    pass_on(holder, shares, at, 1 << (k - rule.len), from, had);
 }
 
 // The length of the longest suffix of a list's rules.

@@ -1,11 +1,11 @@
 // The ledger of a service: weight, share and error of each backend.
-use numerals::MOST_BACKENDS;
+use numerals::MOST_KNOWN;
 use numerals::UNIT;
 ghost use mathlib.Core.Path.{_≡_};
 ghost use Prim.Native.Nat.{ℕ, _≤_, _<_};
 ghost use lib.IntN.{pos};
 ghost use lib.ListN.{length, getD};
-ghost use Rattle.numerals.specs.Limits.{mostBits, mostSuffixes, mostBackends, unit};
+ghost use Rattle.numerals.specs.Limits.{mostBits, mostSuffixes, mostKnown, unit};
 ghost use Rattle.expansion.specs.KeptShares.{entryAt, entryOf};
 ghost use Rattle.expansion.specs.Inner.Ledger as kept;
 
@@ -17,7 +17,7 @@ pub struct Backend {
 }
 
 pub struct Ledger {
-    pub at: [Backend; MOST_BACKENDS],
+    pub at: [Backend; MOST_KNOWN],
 }
 
 // The backend of the largest excess or shortfall, and its size.
@@ -26,7 +26,7 @@ pub struct Extreme {
     pub size: i64,
 }
 
-// The largest excess, the largest shortfall, each with the lowest number if equal, and the sum of the excesses.
+// The largest excess, the largest shortfall, each of the lowest place if equal, which is the lowest id, and the sum of the excesses.
 pub struct Survey {
     pub give: Extreme,
     pub take: Extreme,
@@ -47,13 +47,13 @@ pub fn entry(weight: u64, share: u64, k: usize) -> Backend
 
 // The ledger where each backend holds its share of the 2^k suffixes.
 pub fn opened(weights: &[u64], shares: &[u64], k: usize) -> Ledger
-    requires { ⌜ (k ≤ mostBits) × ((length (now weights) ≤ mostBackends) × (length (now weights) ≤ length (now shares))) ⌝ }
+    requires { ⌜ (k ≤ mostBits) × ((length (now weights) ≤ mostKnown) × (length (now weights) ≤ length (now shares))) ⌝ }
     requires { ⌜ ((b : ℕ) → b < length (now weights) → (getD (now weights) b 0 ≤ unit) × (getD (now shares) b 0 ≤ mostSuffixes)) ⌝ }
     ensures { λ r. ⌜ ((b : ℕ) → b < length (now (weights .entry)) → entryAt r b
         ≡ entryOf unit k (getD (now (weights .entry)) b 0) (getD (now (shares .entry)) b 0)) ⌝ }
 {
     let mut ledger = Ledger {
-        at: [entry(0, 0, 0); MOST_BACKENDS],
+        at: [entry(0, 0, 0); MOST_KNOWN],
     };
     let mut b = 0;
     while b < weights.len() {
@@ -77,7 +77,7 @@ fn raised(best: Extreme, b: usize, size: i64) -> Extreme
 
 // One walk over the first n backends. An error that is above zero is an excess, and otherwise a shortfall.
 pub fn survey_of(ledger: Ledger, n: usize) -> Survey
-    requires { ⌜ (0 < n) × (n ≤ mostBackends) ⌝ }
+    requires { ⌜ (0 < n) × (n ≤ mostKnown) ⌝ }
     requires { ⌜ ((b : ℕ) → b < n → kept.Small (kept.errorAt ledger b)) ⌝ }
     ensures { λ r. ⌜ kept.Surveyed ledger n r ⌝ }
 {

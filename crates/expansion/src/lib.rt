@@ -2,6 +2,7 @@
 mod call;
 mod holders;
 mod hopeless;
+mod known;
 mod laying;
 mod ledger;
 mod list;

@@ -1,23 +1,20 @@
 // An old list in numbers, as its rule sheet would have it: the newest rule first, of each the length and the value of its
-// suffix and the label of its backend. It is checked as its sheet would be.
+// suffix and the id of its backend. It is checked as its sheet would be.
 use crate::call::Checked;
 use crate::list::RuleList;
 use crate::rule::Rule;
-use numerals::MOST_BACKENDS;
 use numerals::MOST_BITS;
+use numerals::MOST_ID;
 use numerals::MOST_RULES;
 use numerals::Refusal;
 use numerals::UNIT;
 ghost use mathlib.Core.Path.{_≡_};
-ghost use mathlib.Core.Bool.{true};
 ghost use Prim.Native.Nat.{_*_, _/_, _≤_, _<_};
 ghost use lib.ListN.{length};
 ghost use lib.Seq.{sets};
 ghost use Rattle.numerals.specs.Limits.{mostBits, mostRules};
-ghost use Rattle.numerals.specs.Refusals.{no2};
-ghost use Rattle.expansion.specs.Answer.{andThen, orElse, checkWeights};
-ghost use Rattle.expansion.specs.OldList.{rulesFrom, numbersOf, isProper, checkRules};
-ghost use Rattle.expansion.specs.Resume.{allKnown, checkOld};
+ghost use Rattle.expansion.specs.OldList.{numbersOf, isProper, checkRules};
+ghost use Rattle.expansion.specs.Resume.{checkOld};
 ghost use Rattle.expansion.specs.Inner.Lists.{newestFirst};
 ghost use Rattle.expansion.specs.Inner.OldList.{ruleAt};
 
@@ -51,7 +48,7 @@ fn is_proper(k: usize, rule: Rule) -> bool
     if all <= rule.value {
         return false;
     }
-    crate::call::in_limits(1, MOST_BACKENDS, rule.backend)
+    crate::call::in_limits(1, MOST_ID, rule.backend)
 }
 
 // Rule by rule, then the end: numbers left over are a last rule of too few.
@@ -88,39 +85,9 @@ fn check_rules(k: usize, old: &[usize]) -> Checked
     }
 }
 
-// Whether no rule goes to a backend beyond n.
-fn all_known(old: &[usize], n: usize) -> bool
-    ensures { λ r. ⌜ r ≡ allKnown n (rulesFrom (now (old .entry))) ⌝ }
-{
-    let mut i = 0;
-    while i < old.len() / PER_RULE {
-        if n < rule_at(old, i).backend {
-            return false;
-        }
-        i += 1;
-    }
-    true
-}
-
-// The weights, then the rules against them.
-fn check_against(old: &[usize], weights: &[u64]) -> Checked
-    ensures { λ r. ⌜ r ≡ andThen (checkWeights (now (weights .entry)))
-        (orElse (allKnown (length (now (weights .entry))) (rulesFrom (now (old .entry)))) no2) ⌝ }
-{
-    let weighed = crate::call::check_weights(weights);
-    if let Checked::Refused(why) = weighed {
-        return Checked::Refused(why);
-    }
-    if all_known(old, weights.len()) {
-        Checked::Sound
-    } else {
-        Checked::Refused(Refusal::BadField)
-    }
-}
-
-// k, tolerance, the old list, the weights, then its rules against them.
-pub fn check_old(k: usize, tolerance: u64, old: &[usize], weights: &[u64]) -> Checked
-    ensures { λ r. ⌜ r ≡ checkOld k tolerance (now (old .entry)) (now (weights .entry)) ⌝ }
+// k, tolerance, the old list, then the ids and weights.
+pub fn check_old(k: usize, tolerance: u64, old: &[usize], ids: &[usize], weights: &[u64]) -> Checked
+    ensures { λ r. ⌜ r ≡ checkOld k tolerance (now (old .entry)) (now (ids .entry)) (now (weights .entry)) ⌝ }
 {
     if !crate::call::in_limits(1, MOST_BITS, k) {
         return Checked::Refused(Refusal::BadField);
@@ -135,7 +102,7 @@ pub fn check_old(k: usize, tolerance: u64, old: &[usize], weights: &[u64]) -> Ch
     if let Checked::Refused(why) = ruled {
         return Checked::Refused(why);
     }
-    check_against(old, weights)
+    crate::call::check_weights(ids, weights)
 }
 
 // The rules of a list in numbers, the newest first, into a lent buffer that has room for them.

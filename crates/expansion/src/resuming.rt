@@ -4,7 +4,7 @@ use crate::list::RuleList;
 use crate::old_list::PER_RULE;
 use crate::rule::Ended;
 use crate::run::Run;
-use numerals::MOST_BACKENDS;
+use numerals::MOST_KNOWN;
 use numerals::MOST_RULES;
 use numerals::MOST_SUFFIXES;
 use numerals::Refusal;
@@ -12,16 +12,17 @@ ghost use mathlib.Core.Path.{_≡_};
 ghost use Prim.Native.Nat.{_≤_};
 ghost use lib.ListN.{length};
 ghost use Rattle.numerals.specs.Buffer.{filled};
-ghost use Rattle.numerals.specs.Limits.{mostBits, mostBackends};
+ghost use Rattle.numerals.specs.Limits.{mostBits};
 ghost use Rattle.numerals.specs.Suffix.{Places};
 ghost use Rattle.expansion.specs.Steps.{oldest, listOf};
 ghost use Rattle.expansion.specs.KeptShares.{SharesKept};
-ghost use Rattle.expansion.specs.Answer.{targetsMade};
+ghost use Rattle.expansion.specs.Known.{targetsKnown};
 ghost use Rattle.expansion.specs.OldList.{rulesFrom};
 ghost use Rattle.expansion.specs.Resume.{frameFrom, checkOld, numbersResumed, resumeAnswer, isResumed};
 ghost use Rattle.expansion.specs.Inner.Lists.{newestFirst};
 ghost use Rattle.expansion.specs.Inner.OldList.{Proper};
-ghost use Rattle.expansion.specs.Inner.Run.{Made};
+ghost use Rattle.expansion.specs.Inner.Known.{Ascending};
+ghost use Rattle.expansion.specs.Inner.Run.{labelledBy, Valid, Made};
 ghost use Rattle.expansion.specs.Inner.Laying.{Held, LaidTo, Starts};
 ghost use Rattle.expansion.specs.Inner.Resume.{Found, foundOf, Tried};
 ghost use Rattle.expansion.specs.declared.call.Checked.the-variants as checked;
@@ -57,33 +58,33 @@ fn run_kept(
     shares: &[u64],
     places: &[u16],
     kept: RuleList,
+    ids: &[usize],
     weights: &[u64],
     k: usize,
     tolerance: u64,
     budget: usize,
 ) -> Run
-    requires { ⌜ Starts k tolerance (now weights) kept holder (now shares) budget × Places mostBits (now places) ⌝ }
-    ensures made { λ r. ⌜ Made (frameFrom (targetsMade k (now (weights .entry))) tolerance (newestFirst (kept .rules) (kept .count))) budget r ⌝ }
-    ensures shares { λ r. ⌜ (let F = frameFrom (targetsMade k (now (weights .entry))) tolerance (newestFirst (kept .rules) (kept .count))
-        in (L : ledger.Ledger) × SharesKept (F .targets) (listOf F budget) (kept .count) L (r .kept)) ⌝ }
+    requires { ⌜ Starts k tolerance (now ids) (now weights) kept holder (now shares) budget × Places mostBits (now places) ⌝ }
+    ensures made { λ r. ⌜ Made (frameFrom (labelledBy k (now (ids .entry)) (now (weights .entry))) tolerance
+        (newestFirst (kept .rules) (kept .count))) budget r ⌝ }
+    ensures shares { λ r. ⌜ (let F = frameFrom (labelledBy k (now (ids .entry)) (now (weights .entry))) tolerance
+        (newestFirst (kept .rules) (kept .count)) in (L : ledger.Ledger) × SharesKept (F .targets) (listOf F budget) (kept .count) L (r .kept)) ⌝ }
 {
     let mut list = kept;
     let mut work = holder;
-    let mut low = [0u16; MOST_BACKENDS];
+    let mut low = [0u16; MOST_KNOWN];
     let cap = crate::laying::cap_from(k, kept);
     let last = kept.count - 1;
     let newest = list.rules[last];
     let state = crate::run::begin(weights, shares, k, tolerance, cap, newest);
     list.stairs[last] = state.imbalance;
-    let labels = crate::run::numbers();
-    let n = weights.len();
     crate::run::go_on(
         &mut work,
         &mut low,
         places,
         state,
         list,
-        &labels[..n],
+        ids,
         weights,
         k,
         tolerance,
@@ -112,31 +113,49 @@ fn try_kept(
     shares: &[u64],
     places: &[u16],
     list: RuleList,
+    ids: &[usize],
     weights: &[u64],
     k: usize,
     tolerance: u64,
     budget: usize,
 ) -> Attempt
-    requires { ⌜ Starts k tolerance (now weights) list holder (now shares) budget × Places mostBits (now places) ⌝ }
-    ensures { λ r. ⌜ Tried (frameFrom (targetsMade k (now (weights .entry))) tolerance (newestFirst (list .rules) (list .count))) budget
-        (list .count) r ⌝ }
+    requires { ⌜ Starts k tolerance (now ids) (now weights) list holder (now shares) budget × Places mostBits (now places) ⌝ }
+    ensures { λ r. ⌜ Tried (frameFrom (labelledBy k (now (ids .entry)) (now (weights .entry))) tolerance
+        (newestFirst (list .rules) (list .count))) budget (list .count) r ⌝ }
 {
     let kept = list.count;
     let none = Attempt { kept: 0, list };
     if crate::hopeless::is_hopeless(weights, shares, k, tolerance, budget - kept) {
         return none;
     }
-    let run = run_kept(holder, shares, places, list, weights, k, tolerance, budget);
+    let run = run_kept(
+        holder,
+        shares,
+        places,
+        list,
+        ids,
+        weights,
+        k,
+        tolerance,
+        budget,
+    );
     found(run, kept, none)
 }
 
 // All rules of an old list laid on top of its `*`.
-fn lay_all(holder: &mut [u16], shares: &mut [u64], places: &[u16], k: usize, old: &[usize]) -> Laid
-    requires { ⌜ (k ≤ mostBits) × (Proper k mostBackends (rulesFrom (now old)) × Places mostBits (now places)) ⌝ }
-    requires { ⌜ Held k (oldest 1 (rulesFrom (now old))) (now holder) (now shares) ⌝ }
+fn lay_all(
+    holder: &mut [u16],
+    shares: &mut [u64],
+    places: &[u16],
+    k: usize,
+    ids: &[usize],
+    old: &[usize],
+) -> Laid
+    requires { ⌜ (k ≤ mostBits) × (Ascending (now ids) × (Proper k (now ids) (rulesFrom (now old)) × Places mostBits (now places))) ⌝ }
+    requires { ⌜ Held k (now ids) (oldest 1 (rulesFrom (now old))) (now holder) (now shares) ⌝ }
     ensures count { λ r. ⌜ r .list .count ≡ length (rulesFrom (now (old .entry))) ⌝ }
     ensures laid { λ r. ⌜ (let R = rulesFrom (now (old .entry))
-        in LaidTo k R (length R) (now (holder .exit)) (now (shares .exit)) (r .list .rules) (r .had)) ⌝ }
+        in LaidTo k (now (ids .entry)) R (length R) (now (holder .exit)) (now (shares .exit)) (r .list .rules) (r .had)) ⌝ }
 {
     let n = old.len() / PER_RULE;
     let star = crate::old_list::rule_at(old, n - 1);
@@ -145,7 +164,7 @@ fn lay_all(holder: &mut [u16], shares: &mut [u64], places: &[u16], k: usize, old
     let mut i = 1;
     while i < n {
         let rule = crate::old_list::rule_at(old, n - 1 - i);
-        had[i] = crate::laying::lay(holder, shares, places, k, rule);
+        had[i] = crate::laying::lay(holder, shares, places, k, ids, rule);
         list.rules[i] = rule;
         i += 1;
     }
@@ -155,22 +174,33 @@ fn lay_all(holder: &mut [u16], shares: &mut [u64], places: &[u16], k: usize, old
 
 // The largest number of kept rules whose list ends within tolerance. All rules are laid, and the newest is taken back before each
 // further try, until a list does.
-fn find_best(k: usize, tolerance: u64, old: &[usize], weights: &[u64]) -> Attempt
-    requires { ⌜ checkOld k tolerance (now old) (now weights) ≡ checked.Sound ⌝ }
-    ensures { λ r. ⌜ (let R = rulesFrom (now (old .entry)) in Found (targetsMade k (now (weights .entry))) tolerance R (length R) r) ⌝ }
+fn search(k: usize, tolerance: u64, old: &[usize], ids: &[usize], weights: &[u64]) -> Attempt
+    requires { ⌜ Valid k tolerance (now ids) (now weights) × (Ascending (now ids) × Proper k (now ids) (rulesFrom (now old))) ⌝ }
+    ensures { λ r. ⌜ (let R = rulesFrom (now (old .entry))
+        in Found (labelledBy k (now (ids .entry)) (now (weights .entry))) tolerance R (length R) r) ⌝ }
 {
     let n = old.len() / PER_RULE;
     let places = numerals::all_places();
     let star = crate::old_list::rule_at(old, n - 1);
-    let first = star.backend - 1;
+    let first = crate::known::place_of(ids, ids.len(), star.backend);
     let mut holder = [first as u16; MOST_SUFFIXES];
-    let mut shares = [0u64; MOST_BACKENDS];
+    let mut shares = [0u64; MOST_KNOWN];
     shares[first] = 1 << k;
-    let laid = lay_all(&mut holder, &mut shares, &places, k, old);
+    let laid = lay_all(&mut holder, &mut shares, &places, k, ids, old);
     let mut list = laid.list;
     let had = laid.had;
     loop {
-        let best = try_kept(holder, &shares, &places, list, weights, k, tolerance, n);
+        let best = try_kept(
+            holder,
+            &shares,
+            &places,
+            list,
+            ids,
+            weights,
+            k,
+            tolerance,
+            n,
+        );
         let left = list.count - 1;
         if 0 < best.kept {
             return best;
@@ -184,25 +214,38 @@ fn find_best(k: usize, tolerance: u64, old: &[usize], weights: &[u64]) -> Attemp
     }
 }
 
+// The same for an old list and new weights: first the backends that are known, then the search among them.
+fn find_best(k: usize, tolerance: u64, old: &[usize], ids: &[usize], weights: &[u64]) -> Attempt
+    requires { ⌜ checkOld k tolerance (now old) (now ids) (now weights) ≡ checked.Sound ⌝ }
+    ensures { λ r. ⌜ (let R = rulesFrom (now (old .entry))
+        in Found (targetsKnown k R (now (ids .entry)) (now (weights .entry))) tolerance R (length R) r) ⌝ }
+{
+    let mut known = [0usize; MOST_KNOWN];
+    let mut wanted = [0u64; MOST_KNOWN];
+    let n = crate::known::know(old, ids, weights, &mut known, &mut wanted);
+    search(k, tolerance, old, &known[..n], &wanted[..n])
+}
+
 // Of an old list in numbers, the newest rule first, the oldest rules are kept, as many as can be so that the steps of document
-// 01 go on from there, for new weights, to a list that is within tolerance and has no more rules than the old one. The new
-// list in numbers, the newest rule first, into a lent buffer.
+// 01 go on from there, for new weights, to a list that is within tolerance and has no more rules than the old one. Backends
+// are matched by id. The new list in numbers, the newest rule first, into a lent buffer.
 pub fn resume(
     k: usize,
     tolerance: u64,
     old: &[usize],
+    ids: &[usize],
     weights: &[u64],
     rules: &mut [usize],
 ) -> Resumed
-    ensures answer { λ r. ⌜ r ≡ resumeAnswer k tolerance (now (weights .entry)) (now (old .entry)) (length (now (rules .entry))) ⌝ }
+    ensures answer { λ r. ⌜ r ≡ resumeAnswer k tolerance (now (ids .entry)) (now (weights .entry)) (now (old .entry)) (length (now (rules .entry))) ⌝ }
     ensures rules { λ r. ⌜ now (rules .exit) ≡ filled (isResumed r) (now (rules .entry)) 0
-        (numbersResumed k tolerance (now (weights .entry)) (now (old .entry))) ⌝ }
+        (numbersResumed k tolerance (now (ids .entry)) (now (weights .entry)) (now (old .entry))) ⌝ }
 {
-    let checked = crate::old_list::check_old(k, tolerance, old, weights);
+    let checked = crate::old_list::check_old(k, tolerance, old, ids, weights);
     if let Checked::Refused(why) = checked {
         return Resumed::Refused(why);
     }
-    let best = find_best(k, tolerance, old, weights);
+    let best = find_best(k, tolerance, old, ids, weights);
     let kept = best.kept;
     if kept == 0 {
         return Resumed::Refused(Refusal::Stuck);

@@ -5,18 +5,17 @@ use crate::list::RuleList;
 use crate::rule::Ended;
 use crate::rule::Move;
 use crate::rule::Rule;
-use numerals::MOST_BACKENDS;
+use numerals::MOST_KNOWN;
 use numerals::MOST_SUFFIXES;
 ghost use mathlib.Core.List.{List, _∷_};
 ghost use mathlib.Core.Path.{_≡_};
 ghost use Prim.Native.Nat.{ℕ, suc, _≤_, _<_};
 ghost use lib.ListN.{length, getD};
-ghost use Rattle.numerals.specs.Limits.{mostBits, mostBackends, mostRules, mostSuffixes, unit};
+ghost use Rattle.numerals.specs.Limits.{mostBits, mostKnown, mostRules, mostSuffixes, unit};
 ghost use Rattle.numerals.specs.Suffix.{Places};
-ghost use Rattle.numerals.specs.Sums.{listTo, argmax};
+ghost use Rattle.numerals.specs.Sums.{argmax};
 ghost use Rattle.expansion.specs.Steps.{frame, after, listOf};
 ghost use Rattle.expansion.specs.KeptShares.{SharesKept};
-ghost use Rattle.expansion.specs.Answer.{frameMade};
 ghost use Rattle.expansion.specs.declared.rule.Rule as rule;
 ghost use Rattle.expansion.specs.declared.ledger.Ledger as ledger;
 ghost use Rattle.expansion.specs.Inner.Ledger.{Sized};
@@ -45,7 +44,7 @@ pub enum Next {
     Go(Move),
 }
 
-// The backend of the largest weight, the lowest number if equal.
+// The backend of the largest weight, the lowest place if equal, which is the lowest id.
 fn heaviest(weights: &[u64]) -> usize
     requires { ⌜ 0 < length (now weights) ⌝ }
     ensures { λ r. ⌜ r ≡ argmax (λ b. getD (now (weights .entry)) b 0) (length (now (weights .entry))) ⌝ }
@@ -138,7 +137,7 @@ pub fn begin(
         × Shared F (now shares)) ⌝ }
     ensures stands { λ r. ⌜ ((labels : List ℕ) (start : List rule.Rule) (holder low : List ℕ)
         → let F = framed k cap tolerance labels (now (weights .entry)) start in Fits F → Shared F (now (shares .entry))
-        → Holds (F .targets) start holder low → length holder ≡ mostSuffixes → length low ≡ mostBackends → Stands F 0 holder low r) ⌝ }
+        → Holds (F .targets) start holder low → length holder ≡ mostSuffixes → length low ≡ mostKnown → Stands F 0 holder low r) ⌝ }
     ensures newest { λ r. ⌜ r .rule ≡ newest ⌝ }
 {
     let n = weights.len();
@@ -207,7 +206,7 @@ pub fn go_on(
 }
 
 // The list of a budget, for numbers that were checked. Step 1: everything goes to the largest weight.
-fn make_list(k: usize, tolerance: u64, budget: usize, labels: &[usize], weights: &[u64]) -> Run
+pub fn make_list(k: usize, tolerance: u64, budget: usize, labels: &[usize], weights: &[u64]) -> Run
     requires { ⌜ Valid k tolerance (now labels) (now weights) × ((1 ≤ budget) × (budget ≤ mostRules)) ⌝ }
     ensures made { λ r. ⌜ Made (frame k unit tolerance (now (labels .entry)) (now (weights .entry))) budget r ⌝ }
     ensures kept { λ r. ⌜ (let F = frame k unit tolerance (now (labels .entry)) (now (weights .entry))
@@ -220,10 +219,10 @@ fn make_list(k: usize, tolerance: u64, budget: usize, labels: &[usize], weights:
         value: 0,
         backend: labels[first],
     };
-    let mut shares = [0u64; MOST_BACKENDS];
+    let mut shares = [0u64; MOST_KNOWN];
     shares[first] = 1 << k;
     let mut holder = [first as u16; MOST_SUFFIXES];
-    let mut low = [0u16; MOST_BACKENDS];
+    let mut low = [0u16; MOST_KNOWN];
     let state = begin(weights, &shares, k, tolerance, k - 1, star);
     let list = crate::list::of_one(star, state.imbalance);
     go_on(
@@ -239,57 +238,3 @@ fn make_list(k: usize, tolerance: u64, budget: usize, labels: &[usize], weights:
         budget,
     )
 }
-
-// The labels 1, 2, ..
-pub fn numbers() -> [usize; MOST_BACKENDS]
-    ensures { λ r. ⌜ r ≡ listTo mostBackends suc ⌝ }
-{
-    NUMBERS
-}
-
-// The list of backends that are labelled by their number.
-pub fn make_numbered(k: usize, tolerance: u64, budget: usize, weights: &[u64]) -> Run
-    requires { ⌜ Valid k tolerance (listTo (length (now weights)) suc) (now weights) × ((1 ≤ budget) × (budget ≤ mostRules)) ⌝ }
-    ensures made { λ r. ⌜ Made (frameMade k tolerance (now (weights .entry))) budget r ⌝ }
-    ensures kept { λ r. ⌜ (let F = frameMade k tolerance (now (weights .entry))
-        in (L : ledger.Ledger) × SharesKept (F .targets) (listOf F budget) 1 L (r .kept)) ⌝ }
-{
-    let labels = numbers();
-    let n = weights.len();
-    make_list(k, tolerance, budget, &labels[..n], weights)
-}
-
-const NUMBERS: [usize; MOST_BACKENDS] = [
-    1,
-    2,
-    3,
-    4,
-    5,
-    6,
-    7,
-    8,
-    9,
-    10,
-    11,
-    12,
-    13,
-    14,
-    15,
-    16,
-    17,
-    18,
-    19,
-    20,
-    21,
-    22,
-    23,
-    24,
-    25,
-    26,
-    27,
-    28,
-    29,
-    30,
-    31,
-    32,
-];

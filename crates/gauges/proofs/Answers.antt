@@ -1,32 +1,27 @@
--- What the count of shares answers decides the record, and the record the reading; both are exact.
-use Prim.Native.Nat.{ℕ, suc, _+_, _-_, _*_, _≤_}
+-- What the count of a share answers decides the record, and the record the reading; both are exact.
+use Prim.Native.Nat.{ℕ, _*_, _≤_, _<_}
 use mathlib.Core.Path.{_≡_, refl, sym, ap, _∙_, subst}
 use mathlib.Core.Bool.{Bool, true, false}
 use mathlib.Core.List.{List}
 use native.Mathlib.Nat.{le-trans, mul-le-mul}
 use native.Mathlib.Omega.{arith}
 use lib.Dec.{leb}
-use lib.ListN.{length, getD, drop, List·getD-append}
-use lib.Seq.{sets, sets-eq}
-use borrow.Author.Tests.{leb-true}
-use Rattle.numerals.specs.Limits.{mostBits, mostBackends, mostSuffixes, mostVolume}
+use borrow.Author.Tests.{leb-true, lt-leb, le-leb}
+use Rattle.numerals.specs.Limits.{mostBits, mostId, mostSuffixes, mostVolume}
 use Rattle.numerals.specs.Refusals.{numberOf, no2}
-use Rattle.numerals.specs.Sums.{listTo}
 use Rattle.numerals.specs.declared.refusal.Refusal.{Refusal}
-use Rattle.numerals.proofs.Choice.{both-left, both-right}
+use Rattle.numerals.proofs.Choice.{both-false, both-left}
 use Rattle.numerals.proofs.Powers.{pow-few}
-use Rattle.numerals.proofs.Sums.{list-at, length-list}
 use Rattle.expansion.specs.Answer.{inLimits}
-use Rattle.expansion.specs.FirstMatch.{share}
 use Rattle.expansion.proofs.Bounds.{share-le}
-use Rattle.expansion.proofs.Checks.{limits as within}
 use Rattle.packing.specs.Count.{ownRules}
 use Rattle.sheets.specs.Reading.{Reading as Read, got, refused}
 use Rattle.sheets.specs.RuleSheet.{Table, readTable}
-use Rattle.sheets.specs.Calls.{refusedAt, hasService, valuesOf}
-use Rattle.sheets.specs.Shares.{sharesOf, countIn, countAnswer}
+use Rattle.sheets.specs.Calls.{refusedAt, hasService}
+use Rattle.sheets.specs.Shares.{shareIn, shareAnswer}
 use Rattle.sheets.specs.declared.answer.Refused.{Refused as Why}
-use Rattle.sheets.specs.declared.answer.Answer.the-variants as count
+use Rattle.sheets.specs.declared.answer.ShareRecord.{ShareRecord}
+use Rattle.sheets.specs.declared.answer.ShareRead.the-variants as count
 use Rattle.sheets.proofs.NeverEight.{never-eight}
 use Rattle.sheets.proofs.OrderedLines.{read-proper}
 use Rattle.sheets.proofs.Readings.{got-same}
@@ -42,30 +37,32 @@ use Rattle.gauges.specs.declared.answer.GaugesAnswer.{GaugesAnswer}
 use Rattle.gauges.specs.declared.answer.GaugesAnswer.the-variants.{Made, Refused}
 use Rattle.gauges.proofs.Fractions.{exactly}
 
--- the numbers beside the text
-pub record InRange (volume b : ℕ) : Type 0 where
-  pub little : volume ≤ mostVolume
-  pub least : 1 ≤ b
-  pub most : b ≤ mostBackends
+-- the numbers beside the text, by their limits
+module _ (volume b : ℕ) where
+  pub little : inRange volume b ≡ true → volume ≤ mostVolume
+  unfolding inRange
+  little h = leb-true volume mostVolume (both-left (leb volume mostVolume) (inLimits 1 mostId b) h)
 
-pub ranged : (volume b : ℕ) → inRange volume b ≡ true → InRange volume b
-unfolding inRange
-ranged volume b h =
-    let backend = within 1 mostBackends b (both-right (leb volume mostVolume) (inLimits 1 mostBackends b) h) in
-    record {
-      little = leb-true volume mostVolume (both-left (leb volume mostVolume) (inLimits 1 mostBackends b) h);
-      least = backend .0;
-      most = backend .1;
-    }
+  pub over-volume : mostVolume < volume → inRange volume b ≡ false
+  unfolding inRange
+  over-volume h = rw (lt-leb volume mostVolume h)
+
+  pub no-id : inLimits 1 mostId b ≡ false → inRange volume b ≡ false
+  unfolding inRange
+  no-id h = rw h (both-false (leb volume mostVolume))
+
+  both-within : volume ≤ mostVolume → inLimits 1 mostId b ≡ true → inRange volume b ≡ true
+  unfolding inRange
+  both-within h i = rw (le-leb volume mostVolume h, i)
 
 -- answers of one case have one value, and no answer is of two cases
-value-same : {k l : ℕ} → count.Value k ≡ count.Value l → k ≡ l
-value-same e = cc
-
-count-same : {r q : Why} → count.Refused r ≡ count.Refused q → r ≡ q
+count-same : {m n : ShareRecord} → count.Made m ≡ count.Made n → m ≡ n
 count-same e = cc
 
-not-counted : {k : ℕ} {r : Why} {P : Type 0} → count.Value k ≡ count.Refused r → P
+uncounted-same : {r q : Why} → count.Refused r ≡ count.Refused q → r ≡ q
+uncounted-same e = cc
+
+not-counted : {m : ShareRecord} {r : Why} {P : Type 0} → count.Made m ≡ count.Refused r → P
 not-counted e = absurd (let z : _≡_ {A = ℕ} 0 1 = cc in omega arith)
 
 record-same : {g h : Gauges} → Made g ≡ Made h → g ≡ h
@@ -90,93 +87,82 @@ held-most text t is n b = le-trans (share-le (t .k) (ownRules n (t .lines)) b) (
 
 pub load-most : (text : List ℕ) (t : Table) → readTable text ≡ got t → (n volume b : ℕ) → inRange volume b ≡ true
     → volume * held t n b ≤ mostVolume * mostSuffixes
-load-most text t is n volume b i = mul-le-mul (ranged volume b i .little) (held-most text t is n b)
+load-most text t is n volume b i = mul-le-mul (little volume b i) (held-most text t is n b)
 
 module _ (text : List ℕ) (n volume b : ℕ) where
-  -- the four ways in which a call may go, in the order of the refusals
-  data Way : Type 0 where
-    unread : (why : Refusal) (line : ℕ) → readTable text ≡ refused why line → Way
-    absent : (t : Table) → readTable text ≡ got t → hasService t n ≡ false → Way
-    out : (t : Table) → readTable text ≡ got t → hasService t n ≡ true → inRange volume b ≡ false → Way
-    made : (t : Table) → readTable text ≡ got t → hasService t n ≡ true → inRange volume b ≡ true → Way
+  -- the four ways in which a call may go, in the order of the refusals; i says whether the numbers beside the text pass
+  data Way (i : Bool) : Type 0 where
+    unread : (why : Refusal) (line : ℕ) → readTable text ≡ refused why line → Way i
+    absent : (t : Table) → readTable text ≡ got t → hasService t n ≡ false → Way i
+    out : (t : Table) → readTable text ≡ got t → hasService t n ≡ true → i ≡ false → Way i
+    made : (t : Table) → readTable text ≡ got t → hasService t n ≡ true → i ≡ true → Way i
 
-  way : Way
-  way = go (readTable text) refl
+  way : (i : Bool) → Way i
+  way i = go (readTable text) refl
     where
-      ranges : (t : Table) (i : Bool) → readTable text ≡ got t → hasService t n ≡ true → inRange volume b ≡ i → Way
+      ranges : (t : Table) (j : Bool) → readTable text ≡ got t → hasService t n ≡ true → i ≡ j → Way i
       ranges t true is has in-range = made t is has in-range
       ranges t false is has in-range = out t is has in-range
 
-      services : (t : Table) (h : Bool) → readTable text ≡ got t → hasService t n ≡ h → Way
-      services t true is has = ranges t (inRange volume b) is has refl
+      services : (t : Table) (h : Bool) → readTable text ≡ got t → hasService t n ≡ h → Way i
+      services t true is has = ranges t i is has refl
       services t false is has = absent t is has
 
-      go : (r : Read Table) → readTable text ≡ r → Way
+      go : (r : Read Table) → readTable text ≡ r → Way i
       go (refused why line) is = unread why line is
       go (got t) is = services t (hasService t n) is refl
 
   -- ---- the record
 
-  -- the sheet was refused, or lacks the service
-  pub record-refused : (r : Why) → count.Refused r ≡ countAnswer text n mostBackends → gaugesAnswer text n volume b ≡ Refused r
-  unfolding countAnswer countIn gaugesAnswer gaugesIn
-  record-refused r e = go way
+  -- the sheet was refused, or lacks the service, or the id is out of its limits
+  pub record-refused : (r : Why) → count.Refused r ≡ shareAnswer text n b → gaugesAnswer text n volume b ≡ Refused r
+  unfolding shareAnswer shareIn gaugesAnswer gaugesIn
+  record-refused r e = go (way (inLimits 1 mostId b))
     where
-      go : Way → gaugesAnswer text n volume b ≡ Refused r
-      go (unread why line is) = rw is (ap Refused (sym (count-same (rw is at e))))
-      go (absent t is has) = rw (is, has) (ap Refused (sym (count-same (rw (is, has) at e))))
-      go (out t is has o) = not-counted (sym (rw (is, has) at e))
-      go (made t is has i) = not-counted (sym (rw (is, has) at e))
+      go : Way (inLimits 1 mostId b) → gaugesAnswer text n volume b ≡ Refused r
+      go (unread why line is) = rw is (ap Refused (sym (uncounted-same (rw is at e))))
+      go (absent t is has) = rw (is, has) (ap Refused (sym (uncounted-same (rw (is, has) at e))))
+      go (out t is has o) = rw (is, has, no-id volume b o) (ap Refused (sym (uncounted-same (rw (is, has, o) at e))))
+      go (made t is has i) = not-counted (sym (rw (is, has, i) at e))
 
-  -- the shares of the service were counted
-  pub record Counted (k : ℕ) : Type 0 where
+  -- the share of the backend was counted
+  pub record Counted (m : ShareRecord) : Type 0 where
     pub table : Table
     pub read : readTable text ≡ got table
     pub has : hasService table n ≡ true
-    pub bits : k ≡ table .k
+    pub known : inLimits 1 mostId b ≡ true
+    pub is : m ≡ record { k = table .k; share = held table n b }
 
-  pub counted : (k : ℕ) → count.Value k ≡ countAnswer text n mostBackends → Counted k
-  unfolding countAnswer countIn
-  counted k e = go way
+  pub counted : (m : ShareRecord) → count.Made m ≡ shareAnswer text n b → Counted m
+  unfolding shareAnswer shareIn held
+  counted m e = go (way (inLimits 1 mostId b))
     where
-      there : (t : Table) → readTable text ≡ got t → hasService t n ≡ true → Counted k
-      there t is has = record { table = t; read = is; has = has; bits = value-same (rw (is, has) at e) }
-
-      go : Way → Counted k
+      go : Way (inLimits 1 mostId b) → Counted m
       go (unread why line is) = not-counted (rw is at e)
       go (absent t is has) = not-counted (rw (is, has) at e)
-      go (out t is has o) = there t is has
-      go (made t is has i) = there t is has
+      go (out t is has o) = not-counted (rw (is, has, o) at e)
+      go (made t is has i) = record { table = t; read = is; has = has; known = i; is = count-same (rw (is, has, i) at e) }
 
-  module _ (k : ℕ) (c : Counted k) where
-    pub few-bits : k ≤ mostBits
-    few-bits = omega (arith, c .bits, read-proper text (c .table) (c .read) .few-bits)
+  module _ (m : ShareRecord) (c : Counted m) where
+    bits-are : m .k ≡ c .table .k
+    bits-are = ap (λ (x : ShareRecord). x .k) (c .is)
 
-    pub record-out : inRange volume b ≡ false → gaugesAnswer text n volume b ≡ Refused (refusedAt no2 0)
+    share-is : m .share ≡ held (c .table) n b
+    share-is = ap (λ (x : ShareRecord). x .share) (c .is)
+
+    pub few-bits : m .k ≤ mostBits
+    few-bits = omega (arith, bits-are, read-proper text (c .table) (c .read) .few-bits)
+
+    pub few-held : m .share ≤ mostSuffixes
+    few-held = omega (arith, share-is, held-most text (c .table) (c .read) n b)
+
+    pub record-out : mostVolume < volume → gaugesAnswer text n volume b ≡ Refused (refusedAt no2 0)
     unfolding gaugesAnswer gaugesIn
-    record-out o = rw (c .read, c .has, o)
+    record-out o = rw (c .read, c .has, over-volume volume b o)
 
-    pub record-made : inRange volume b ≡ true → gaugesAnswer text n volume b ≡ Made (gaugesOf k (held (c .table) n b) volume)
+    pub record-made : volume ≤ mostVolume → gaugesAnswer text n volume b ≡ Made (gaugesOf (m .k) (m .share) volume)
     unfolding gaugesAnswer gaugesIn
-    record-made i = rw (c .read, c .has, i, c .bits)
-
-    -- the count of each backend, by its place
-    abbrev at-place : ℕ → ℕ
-    at-place i = share (c .table .k) (ownRules n (c .table .lines)) (suc i)
-
-    -- the count of a backend, in a buffer that the shares were stored to
-    pub held-at : (before : List ℕ) → length before ≡ mostBackends → 1 ≤ b → b ≤ mostBackends
-        → getD (sets before 0 (valuesOf (readTable text) (λ t. sharesOf (t .k) (t .lines) n))) (b - 1) 0 ≡ held (c .table) n b
-    unfolding held sharesOf
-    held-at before long least most =
-        let vs = listTo mostBackends at-place in
-        let all = length-list mostBackends at-place in
-        let next : suc (b - 1) ≡ b = omega arith in
-        rw (c .read)
-        (ap (λ (l : List ℕ). getD l (b - 1) 0) (sets-eq vs before 0 (omega (arith, all)))
-        ∙ List·getD-append vs (drop (0 + length vs) before) 0 (b - 1) (omega (arith, all))
-        ∙ list-at mostBackends at-place (b - 1) 0 (omega arith)
-        ∙ ap (share (c .table .k) (ownRules n (c .table .lines))) next)
+    record-made h = rw (c .read, c .has, both-within volume b h (c .known), bits-are, share-is)
 
   -- a record that was made
   pub record Whole (g : Gauges) : Type 0 where
@@ -187,9 +173,9 @@ module _ (text : List ℕ) (n volume b : ℕ) where
 
   pub whole : (g : Gauges) → Made g ≡ gaugesAnswer text n volume b → Whole g
   unfolding gaugesAnswer gaugesIn
-  whole g e = go way
+  whole g e = go (way (inRange volume b))
     where
-      go : Way → Whole g
+      go : Way (inRange volume b) → Whole g
       go (unread why line is) = not-made (rw is at e)
       go (absent t is has) = not-made (rw (is, has) at e)
       go (out t is has o) = not-made (rw (is, has, o) at e)
@@ -200,9 +186,9 @@ module _ (text : List ℕ) (n volume b : ℕ) where
   module _ (gauge : Gauge) where
     pub reading-made : (g : Gauges) → Made g ≡ gaugesAnswer text n volume b → readingAnswer text n volume b gauge ≡ reading.Read (readingOf gauge g)
     unfolding gaugesAnswer gaugesIn readingAnswer readingIn
-    reading-made g e = go way
+    reading-made g e = go (way (inRange volume b))
       where
-        go : Way → readingAnswer text n volume b gauge ≡ reading.Read (readingOf gauge g)
+        go : Way (inRange volume b) → readingAnswer text n volume b gauge ≡ reading.Read (readingOf gauge g)
         go (unread why line is) = not-made (rw is at e)
         go (absent t is has) = not-made (rw (is, has) at e)
         go (out t is has o) = not-made (rw (is, has, o) at e)
@@ -210,9 +196,9 @@ module _ (text : List ℕ) (n volume b : ℕ) where
 
     pub reading-refused : (r : Why) → Refused r ≡ gaugesAnswer text n volume b → readingAnswer text n volume b gauge ≡ inPlaceOf8 r
     unfolding gaugesAnswer gaugesIn readingAnswer readingIn inPlaceOf8 numberOf
-    reading-refused r e = go way
+    reading-refused r e = go (way (inRange volume b))
       where
-        go : Way → readingAnswer text n volume b gauge ≡ inPlaceOf8 r
+        go : Way (inRange volume b) → readingAnswer text n volume b gauge ≡ inPlaceOf8 r
         go (unread why line is) =
             rw (is, why-same (rw is at e), rw is at (never-eight text))
         go (absent t is has) = rw (is, has, why-same (rw (is, has) at e))

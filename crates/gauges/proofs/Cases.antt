@@ -39,15 +39,16 @@ read table n volume b gauge = readingAnswer (bytes table) n volume b gauge
 pub record Readings : Type 0 where
   pub a-share : read thirteen 1 55 2 which.Share ≡ Read (Share (ofBits binary64 0x3fda_0000_0000_0000))
   pub a-load : read thirteen 1 55 2 which.Load ≡ Read (Load (ofBits binary64 0x4036_5800_0000_0000))
-  pub nothing : read thirteen 1 55 3 which.Load ≡ Read (Load (ofBits binary64 0))
+  pub nothing : read thirteen 1 55 9999 which.Load ≡ Read (Load (ofBits binary64 0))
   pub whole-tree : read "TABLE 1 1 0\n1 * 1\n" 1 0 1 which.Share ≡ Read (Share (ofBits binary64 0x3ff0_0000_0000_0000))
-  pub absent : read thirteen 2 10001 33 which.Share ≡ Read Absent
+  pub absent : read thirteen 2 10001 10000 which.Share ≡ Read Absent
   pub out : read thirteen 1 10001 2 which.Share ≡ Refused (refusedAt no2 0)
-  pub cut : read "TABLE 1 1 0\n1 * 1" 2 10001 33 which.Load ≡ Refused (refusedAt no1 2)
+  pub no-id : read thirteen 1 55 10000 which.Share ≡ Refused (refusedAt no2 0)
+  pub cut : read "TABLE 1 1 0\n1 * 1" 2 10001 10000 which.Load ≡ Refused (refusedAt no1 2)
 
 pub all-readings : Readings
 unfolding readingAnswer readingIn readingOf gaugesOf held inRange inLimits share gives dyadic bits biasedExponent fractionField ofBits ofFields odd size
     span climb trailingZeros sumTo countTo hasService firstMatch ownRules matches bytes readTable textLimit tableLine firstLine openingLines
     openingFields wholeTable closed ruleLines ruleFields placed inOrder countOf onSuffix totalLimit same onField unless then number isNumeral
     noLeadingZero allDigits isDigit value valueFrom suffix split onto
-all-readings = record { a-share = refl; a-load = refl; nothing = refl; whole-tree = refl; absent = refl; out = refl; cut = refl }
+all-readings = record { a-share = refl; a-load = refl; nothing = refl; whole-tree = refl; absent = refl; out = refl; no-id = refl; cut = refl }

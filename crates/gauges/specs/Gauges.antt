@@ -5,7 +5,7 @@ use mathlib.Core.Bool.{Bool, false}
 use mathlib.Core.List.{List}
 use lib.Dec.{leb}
 use Rattle.numerals.specs.Pick.{pick, both}
-use Rattle.numerals.specs.Limits.{mostBackends, mostVolume}
+use Rattle.numerals.specs.Limits.{mostId, mostVolume}
 use Rattle.numerals.specs.Refusals.{no2, no8}
 use Rattle.expansion.specs.Answer.{inLimits}
 use Rattle.expansion.specs.FirstMatch.{share}
@@ -24,7 +24,7 @@ use Rattle.gauges.specs.declared.answer.ReadingAnswer.the-variants as re
 use Rattle.gauges.specs.declared.answer.GaugesAnswer.{GaugesAnswer}
 use Rattle.gauges.specs.declared.answer.GaugesAnswer.the-variants as record-of
 
--- the suffix count of backend b: how many of the 2^k suffixes the lines of service n give it by first match, 0 if it got none
+-- the suffix count of the backend with id b: how many of the 2^k suffixes the lines of service n give it by first match, 0 if it got none
 unfoldable pub held : Table → ℕ → ℕ → ℕ
 held t n b = share (t .k) (ownRules n (t .lines)) b
 
@@ -34,7 +34,7 @@ gaugesOf k count volume = record { share = dyadic count k; load = dyadic (volume
 
 -- the numbers beside the text are in their limits: the volume and the backend
 unfoldable pub inRange : ℕ → ℕ → Bool
-inRange volume b = both (leb volume mostVolume) (inLimits 1 mostBackends b)
+inRange volume b = both (leb volume mostVolume) (inLimits 1 mostId b)
 
 -- what both calls answer of a table: first what stands for a service that isn't there, then 2 for a number beside the text, then what is made of the record
 abbrev pub gauged : {A : Type 0} → A → (Why → A) → (Gauges → A) → Table → ℕ → ℕ → ℕ → A

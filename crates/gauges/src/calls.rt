@@ -4,30 +4,16 @@ use crate::answer::Gauges;
 use crate::answer::GaugesAnswer;
 use crate::answer::Reading;
 use crate::answer::ReadingAnswer;
-use numerals::MOST_BACKENDS;
 use numerals::MOST_VOLUME;
 use numerals::Refusal;
 use numerals::refusal_number;
-use sheets::Answer;
 use sheets::Refused;
+use sheets::ShareRead;
 ghost use mathlib.Core.Path.{_≡_};
 ghost use Rattle.sheets.specs.Reading.{got};
 ghost use Rattle.sheets.specs.RuleSheet.{Table, readTable};
-ghost use Rattle.gauges.specs.Gauges.{gaugesAnswer, readingAnswer, readingOf, inRange, ExactGauges, ExactReading};
+ghost use Rattle.gauges.specs.Gauges.{gaugesAnswer, readingAnswer, readingOf, ExactGauges, ExactReading};
 ghost use Rattle.gauges.specs.Inner.Absence.{inPlaceOf8};
-
-// Whether the numbers beside the text are in their limits.
-fn in_range(volume: u64, backend: usize) -> bool
-    ensures { λ r. ⌜ r ≡ inRange volume backend ⌝ }
-{
-    if MOST_VOLUME < volume {
-        return false;
-    }
-    if backend < 1 {
-        return false;
-    }
-    backend <= MOST_BACKENDS
-}
 
 // The share and the load of one backend of a service in a rule sheet.
 pub fn gauge_record(text: &[u8], service: usize, volume: u64, backend: usize) -> GaugesAnswer
@@ -35,12 +21,11 @@ pub fn gauge_record(text: &[u8], service: usize, volume: u64, backend: usize) ->
     ensures exact { λ r. ⌜ ((t : Table) → readTable (now (text .entry)) ≡ got t → (g : Gauges) → r ≡ GaugesAnswer.Made g
         → ExactGauges t service volume backend g) ⌝ }
 {
-    let mut shares = [0u64; MOST_BACKENDS];
-    let counted = sheets::count_shares(text, service, &mut shares);
+    let counted = sheets::count_share(text, service, backend);
     match counted {
-        Answer::Refused(r) => GaugesAnswer::Refused(r),
-        Answer::Value(k) => {
-            if !in_range(volume, backend) {
+        ShareRead::Refused(r) => GaugesAnswer::Refused(r),
+        ShareRead::Made(held) => {
+            if MOST_VOLUME < volume {
                 let r = Refused {
                     why: Refusal::BadField,
                     line: 0,
@@ -48,8 +33,7 @@ pub fn gauge_record(text: &[u8], service: usize, volume: u64, backend: usize) ->
                 };
                 return GaugesAnswer::Refused(r);
             }
-            let held = shares[backend - 1];
-            GaugesAnswer::Made(crate::exact::gauges_of(k, held, volume))
+            GaugesAnswer::Made(crate::exact::gauges_of(held.k, held.share, volume))
         }
     }
 }

@@ -54,7 +54,7 @@ pub extern "C" fn gulmorzon_split(text: &[u8], out: &mut [u8]) -> Answer
     answer::of_answer(sheets::split_sheet(text, out))
 }
 
-// The backend that a rule sheet gives a service's address to. The value is its number.
+// The backend that a rule sheet gives a service's address to. The value is its id.
 #[no_mangle]
 pub extern "C" fn gulmorzon_lookup(text: &[u8], service: usize, address: u32) -> Answer
     ensures { λ r. ⌜ r ≡ answers.ofAnswer (calls.lookupAnswer (now (text .entry)) service address) ⌝ }

@@ -1,4 +1,4 @@
--- The unit and the limits (document 01, "Units and limits" and "Rule sheet and program"), each named once. `src/limits.rt` has the same names as constants.
+-- The unit and the limits (document 01, "Units and limits" and "Rule sheet and program"; document 02, Req 04), each named once. `src/limits.rt` has the same names as constants.
 use Prim.Native.Nat.{ℕ}
 
 -- k, and the bits of a suffix
@@ -9,9 +9,17 @@ mostBits = 12
 abbrev pub mostSuffixes : ℕ
 mostSuffixes = 4096
 
--- backends of a service; they are labelled from 1
+-- backends of a service
 abbrev pub mostBackends : ℕ
 mostBackends = 32
+
+-- the id of a backend, from 1 on (document 02, Req 04)
+abbrev pub mostId : ℕ
+mostId = 9999
+
+-- the backends that an update may know: those of the old list's rules and those of the new weights (document 02, Req 04)
+abbrev pub mostKnown : ℕ
+mostKnown = 64
 
 -- services; they are numbered from 1
 abbrev pub mostServices : ℕ

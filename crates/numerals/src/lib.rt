@@ -14,6 +14,8 @@ pub use limits::DECIMALS;
 pub use limits::MOST_BACKENDS;
 pub use limits::MOST_BITS;
 pub use limits::MOST_CAPACITY;
+pub use limits::MOST_ID;
+pub use limits::MOST_KNOWN;
 pub use limits::MOST_RULES;
 pub use limits::MOST_SERVICES;
 pub use limits::MOST_SUFFIXES;

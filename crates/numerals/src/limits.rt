@@ -1,4 +1,4 @@
-// The unit and the limits (document 01, "Units and limits"), each named once; specs/Limits has the same names.
+// The unit and the limits (document 01, "Units and limits"; document 02, Req 04), each named once; specs/Limits has the same names.
 
 // k, and the bits of a suffix.
 pub const MOST_BITS: usize = 12;
@@ -6,6 +6,10 @@ pub const MOST_BITS: usize = 12;
 pub const MOST_SUFFIXES: usize = 4096;
 // Backends of a service.
 pub const MOST_BACKENDS: usize = 32;
+// The id of a backend, from 1 on.
+pub const MOST_ID: usize = 9999;
+// The backends that an update may know: those of the old list's rules and those of the new weights.
+pub const MOST_KNOWN: usize = 64;
 
 pub const MOST_SERVICES: usize = 64;
 // Rules of one service, and the budget of a list.

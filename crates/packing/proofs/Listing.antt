@@ -6,7 +6,7 @@ use mathlib.Core.Path.{_≡_, refl, sym, ap, ap₂, _∙_}
 use native.Mathlib.Decide.{ℕ-discrete}
 use native.Mathlib.Nat.{zero-mul}
 use native.Mathlib.Omega.{arith}
-use lib.ListN.{length, getD, set, take, drop, length-set, length-append, length-map, length-reverse, List·getD-append, List·getD-map}
+use lib.ListN.{length, getD, set, drop, length-set, length-append, length-map, length-reverse, List·getD-append, List·getD-map}
 use lib.Seq.{sets, length-sets, getD-set-same, getD-set-other, getD-at, drop-length}
 use lib.Dec.{eqb}
 use borrow.Author.Tests.{le-leb, ne-eqb}
@@ -27,11 +27,11 @@ use Rattle.numerals.proofs.Sums.{sum-zero, count-const}
 use Rattle.expansion.proofs.Turns.{length-le}
 use Rattle.packing.specs.Count.{services, targetsOf}
 use Rattle.packing.specs.Table.{ruleBudget, frameOf, listFor}
-use Rattle.packing.specs.Answer.{numbered, servicesOf, endNumber}
-use Rattle.packing.specs.Inner.Lists.{stride, placeOf, ruleAt, ListedTo, start}
+use Rattle.packing.specs.Answer.{servicesWith, servicesOf, endNumber}
+use Rattle.packing.specs.Inner.Lists.{stride, placeOf, ruleAt, ListedTo, part, Sized}
 use Rattle.expansion.specs.Inner.Sound.{Labelled}
-use Rattle.expansion.proofs.Base.{numbers-named}
-use Rattle.packing.proofs.Checks.{chunk-at, labels-at}
+use Rattle.expansion.proofs.Checks.{call-passed}
+use Rattle.packing.proofs.Checks.{chunk-at}
 
 -- stores from a position on
 
@@ -72,10 +72,10 @@ column-other l vs s t x h few C =
 
 -- the length of a list
 
-module _ (k tolerance : ℕ) (ws : List ℕ) where
-  pub list-few : length (listMade k tolerance mostRules ws) ≤ mostRules
+module _ (k tolerance : ℕ) (ids ws : List ℕ) where
+  pub list-few : length (listMade k tolerance mostRules ids ws) ≤ mostRules
   unfolding listMade listOf frameMade frame firstRule
-  list-few = length-le (frameMade k tolerance ws) (mostRules - 1)
+  list-few = length-le (frameMade k tolerance ids ws) (mostRules - 1)
 
 -- with no rule no backend that has a label has too much
 none-given : (T : Targets) (b : ℕ) → (label T b ≡ nobody → ⊥) → excess T [] b ≡ 0
@@ -95,9 +95,12 @@ stair-none F rs labelled =
     ∙ ap (imbalance (F .targets)) (drop-length rs)
     ∙ sum-zero (backends (F .targets)) (excess (F .targets) []) (λ b l. none-given (F .targets) b (labelled b l))
 
-made-labelled : (k tolerance : ℕ) (ws : List ℕ) → Labelled (label (frameMade k tolerance ws .targets)) (backends (frameMade k tolerance ws .targets))
+-- each backend of a call that passed has its id
+made-labelled :
+    (k tolerance : ℕ) (ids ws : List ℕ) → checkCall k tolerance mostRules ids ws ≡ Passed
+    → Labelled (label (frameMade k tolerance ids ws .targets)) (backends (frameMade k tolerance ids ws .targets))
 unfolding frameMade frame backends label
-made-labelled k tolerance ws = numbers-named (length ws)
+made-labelled k tolerance ids ws passed = call-passed k tolerance mostRules ids ws passed .0 .named
 
 length-stairs : (F : Frame) (rs : List Rule) (c : ℕ) → length (stairsTo F rs c) ≡ c
 unfolding stairsTo
@@ -125,174 +128,180 @@ rule-at f e rs j =
 length-column : (f : Rule → ℕ) (rs : List Rule) → length (map f (reverse rs)) ≡ length rs
 length-column f rs = length-map (reverse rs) f ∙ length-reverse rs
 
--- the list of service s, whose weights are ws, as it is stored
-pub record Entry (k tolerance : ℕ) (ws : List ℕ) (s : ℕ) (lens values backends stairs counts ends : List ℕ) : Type 0 where
-  pub len : Column lens s (lensMade k tolerance mostRules ws)
-  pub value : Column values s (valuesMade k tolerance mostRules ws)
-  pub backend : Column backends s (backendsMade k tolerance mostRules ws)
+-- the list of service s, whose backends have these ids and weights, as it is stored
+pub record Entry (k tolerance : ℕ) (ids ws : List ℕ) (s : ℕ) (lens values backends stairs counts ends : List ℕ) : Type 0 where
+  pub len : Column lens s (lensMade k tolerance mostRules ids ws)
+  pub value : Column values s (valuesMade k tolerance mostRules ids ws)
+  pub backend : Column backends s (backendsMade k tolerance mostRules ids ws)
   pub none : getD stairs (stride * s) 0 ≡ 0
-  pub stair : Column stairs s (stairsMade k tolerance mostRules ws)
-  pub count : getD counts s 0 ≡ recordMade k tolerance mostRules ws .rules
-  pub ended : getD ends s 0 ≡ endNumber (recordMade k tolerance mostRules ws .ended)
+  pub stair : Column stairs s (stairsMade k tolerance mostRules ids ws)
+  pub count : getD counts s 0 ≡ recordMade k tolerance mostRules ids ws .rules
+  pub ended : getD ends s 0 ≡ endNumber (recordMade k tolerance mostRules ids ws .ended)
 
 entry-made :
-    (k tolerance : ℕ) (ws : List ℕ) (s : ℕ) (lens values backends stairs counts ends : List ℕ)
+    (k tolerance : ℕ) (ids ws : List ℕ) (s : ℕ) (lens values backends stairs counts ends : List ℕ)
     → placeOf s 1 + mostRules ≤ min (min (length lens) (length values)) (min (length backends) (length stairs))
     → s < min (length counts) (length ends)
-    → Entry k tolerance ws s (sets lens (placeOf s 1) (lensMade k tolerance mostRules ws))
-    (sets values (placeOf s 1) (valuesMade k tolerance mostRules ws))
-    (sets backends (placeOf s 1) (backendsMade k tolerance mostRules ws))
-    (set (sets stairs (placeOf s 1) (stairsMade k tolerance mostRules ws)) (stride * s) 0)
-    (set counts s (recordMade k tolerance mostRules ws .rules))
-    (set ends s (endNumber (recordMade k tolerance mostRules ws .ended)))
+    → Entry k tolerance ids ws s (sets lens (placeOf s 1) (lensMade k tolerance mostRules ids ws))
+    (sets values (placeOf s 1) (valuesMade k tolerance mostRules ids ws))
+    (sets backends (placeOf s 1) (backendsMade k tolerance mostRules ids ws))
+    (set (sets stairs (placeOf s 1) (stairsMade k tolerance mostRules ids ws)) (stride * s) 0)
+    (set counts s (recordMade k tolerance mostRules ids ws .rules))
+    (set ends s (endNumber (recordMade k tolerance mostRules ids ws .ended)))
 unfolding lensMade valuesMade backendsMade stairsMade
-entry-made k tolerance ws s lens values backends stairs counts ends fits room =
-    let rs = listMade k tolerance mostRules ws in
-    let few : length rs ≤ mostRules = list-few k tolerance ws in
-    let long : length (stairsMade k tolerance mostRules ws) ≡ length rs =
-    length-stairs (frameMade k tolerance ws) rs (length rs) in
+entry-made k tolerance ids ws s lens values backends stairs counts ends fits room =
+    let rs = listMade k tolerance mostRules ids ws in
+    let few : length rs ≤ mostRules = list-few k tolerance ids ws in
+    let long : length (stairsMade k tolerance mostRules ids ws) ≡ length rs =
+    length-stairs (frameMade k tolerance ids ws) rs (length rs) in
     record {
-      len = column-made lens (lensMade k tolerance mostRules ws) s (omega (arith, length-column (λ (r : Rule). r .len) rs));
-      value = column-made values (valuesMade k tolerance mostRules ws) s (omega (arith, length-column (λ (r : Rule). r .value) rs));
-      backend = column-made backends (backendsMade k tolerance mostRules ws) s (omega (arith, length-column (λ (r : Rule). r .backend) rs));
+      len = column-made lens (lensMade k tolerance mostRules ids ws) s (omega (arith, length-column (λ (r : Rule). r .len) rs));
+      value = column-made values (valuesMade k tolerance mostRules ids ws) s (omega (arith, length-column (λ (r : Rule). r .value) rs));
+      backend = column-made backends (backendsMade k tolerance mostRules ids ws) s (omega (arith, length-column (λ (r : Rule). r .backend) rs));
       none =
-          getD-set-same (sets stairs (placeOf s 1) (stairsMade k tolerance mostRules ws)) (stride * s) 0 0
-          (omega (arith, length-sets stairs (placeOf s 1) (stairsMade k tolerance mostRules ws)));
+          getD-set-same (sets stairs (placeOf s 1) (stairsMade k tolerance mostRules ids ws)) (stride * s) 0 0
+          (omega (arith, length-sets stairs (placeOf s 1) (stairsMade k tolerance mostRules ids ws)));
       stair =
-          column-other (sets stairs (placeOf s 1) (stairsMade k tolerance mostRules ws)) (stairsMade k tolerance mostRules ws) s s 0 (omega arith)
-          (omega arith) (column-made stairs (stairsMade k tolerance mostRules ws) s (omega arith));
-      count = getD-set-same counts s (recordMade k tolerance mostRules ws .rules) 0 (omega arith);
-      ended = getD-set-same ends s (endNumber (recordMade k tolerance mostRules ws .ended)) 0 (omega arith);
+          column-other (sets stairs (placeOf s 1) (stairsMade k tolerance mostRules ids ws)) (stairsMade k tolerance mostRules ids ws) s s 0 (omega arith)
+          (omega arith) (column-made stairs (stairsMade k tolerance mostRules ids ws) s (omega arith));
+      count = getD-set-same counts s (recordMade k tolerance mostRules ids ws .rules) 0 (omega arith);
+      ended = getD-set-same ends s (endNumber (recordMade k tolerance mostRules ids ws .ended)) 0 (omega arith);
     }
 
 -- a list stored for a later service t
 entry-kept :
-    (k tolerance : ℕ) (ws : List ℕ) (s t : ℕ) (lens values backends stairs counts ends a b d e : List ℕ) (x y z : ℕ)
-    → s < t → Entry k tolerance ws s lens values backends stairs counts ends
-    → Entry k tolerance ws s (sets lens (placeOf t 1) a) (sets values (placeOf t 1) b) (sets backends (placeOf t 1) d)
+    (k tolerance : ℕ) (ids ws : List ℕ) (s t : ℕ) (lens values backends stairs counts ends a b d e : List ℕ) (x y z : ℕ)
+    → s < t → Entry k tolerance ids ws s lens values backends stairs counts ends
+    → Entry k tolerance ids ws s (sets lens (placeOf t 1) a) (sets values (placeOf t 1) b) (sets backends (placeOf t 1) d)
     (set (sets stairs (placeOf t 1) e) (stride * t) z) (set counts t x) (set ends t y)
 unfolding lensMade valuesMade backendsMade stairsMade
-entry-kept k tolerance ws s t lens values backends stairs counts ends a b d e x y z h E =
-    let rs = listMade k tolerance mostRules ws in
-    let few : length rs ≤ mostRules = list-few k tolerance ws in
-    let long : length (stairsMade k tolerance mostRules ws) ≡ length rs =
-    length-stairs (frameMade k tolerance ws) rs (length rs) in
+entry-kept k tolerance ids ws s t lens values backends stairs counts ends a b d e x y z h E =
+    let rs = listMade k tolerance mostRules ids ws in
+    let few : length rs ≤ mostRules = list-few k tolerance ids ws in
+    let long : length (stairsMade k tolerance mostRules ids ws) ≡ length rs =
+    length-stairs (frameMade k tolerance ids ws) rs (length rs) in
     record {
-      len = column-kept lens (lensMade k tolerance mostRules ws) a s t h (omega (arith, length-column (λ (r : Rule). r .len) rs)) (E .len);
-      value = column-kept values (valuesMade k tolerance mostRules ws) b s t h (omega (arith, length-column (λ (r : Rule). r .value) rs)) (E .value);
-      backend = column-kept backends (backendsMade k tolerance mostRules ws) d s t h (omega (arith, length-column (λ (r : Rule). r .backend) rs)) (E .backend);
+      len = column-kept lens (lensMade k tolerance mostRules ids ws) a s t h (omega (arith, length-column (λ (r : Rule). r .len) rs)) (E .len);
+      value = column-kept values (valuesMade k tolerance mostRules ids ws) b s t h (omega (arith, length-column (λ (r : Rule). r .value) rs)) (E .value);
+      backend =
+          column-kept backends (backendsMade k tolerance mostRules ids ws) d s t h (omega (arith, length-column (λ (r : Rule). r .backend) rs))
+          (E .backend);
       none =
           getD-set-other (sets stairs (placeOf t 1) e) (stride * t) (stride * s) z 0 (λ p. omega arith)
           ∙ sets-below stairs e (placeOf t 1) (stride * s) (omega arith) ∙ E .none;
       stair =
-          column-other (sets stairs (placeOf t 1) e) (stairsMade k tolerance mostRules ws) s t z (omega arith) (omega arith)
-          (column-kept stairs (stairsMade k tolerance mostRules ws) e s t h (omega arith) (E .stair));
+          column-other (sets stairs (placeOf t 1) e) (stairsMade k tolerance mostRules ids ws) s t z (omega arith) (omega arith)
+          (column-kept stairs (stairsMade k tolerance mostRules ids ws) e s t h (omega arith) (E .stair));
       count = getD-set-other counts t s x 0 (λ p. omega arith) ∙ E .count;
       ended = getD-set-other ends t s y 0 (λ p. omega arith) ∙ E .ended;
     }
 
--- the weights of service s in the row
-unfoldable pub part : List ℕ → List ℕ → ℕ → List ℕ
-part sizes ws s = take (getD sizes s 0) (drop (start sizes s) ws)
-
 -- the lists of the services before n are stored
-pub record Entries (k tolerance : ℕ) (sizes ws : List ℕ) (n : ℕ) (lens values backends stairs counts ends : List ℕ) : Type 0 where
-  pub each : (s : ℕ) → s < n → Entry k tolerance (part sizes ws s) s lens values backends stairs counts ends
+pub record Entries (k tolerance : ℕ) (sizes ids ws : List ℕ) (n : ℕ) (lens values backends stairs counts ends : List ℕ) : Type 0 where
+  pub each : (s : ℕ) → s < n → Entry k tolerance (part sizes ids s) (part sizes ws s) s lens values backends stairs counts ends
 
 -- no service, no list
 pub entries-none :
-    (k tolerance : ℕ) (sizes ws lens values backends stairs counts ends : List ℕ)
-    → Entries k tolerance sizes ws 0 lens values backends stairs counts ends
-entries-none k tolerance sizes ws lens values backends stairs counts ends = record { each = λ s l. absurd (omega arith) }
+    (k tolerance : ℕ) (sizes ids ws lens values backends stairs counts ends : List ℕ)
+    → Entries k tolerance sizes ids ws 0 lens values backends stairs counts ends
+entries-none k tolerance sizes ids ws lens values backends stairs counts ends = record { each = λ s l. absurd (omega arith) }
 
 -- a call of the expansion that passes its checks and has the room makes the list
 made-answer :
-    (k tolerance : ℕ) (ws : List ℕ) (at room : ℕ) → checkCall k tolerance mostRules ws ≡ Passed → at + mostRules ≤ room
-    → answer k tolerance mostRules ws at room ≡ Made (recordMade k tolerance mostRules ws)
+    (k tolerance : ℕ) (ids ws : List ℕ) (at room : ℕ) → checkCall k tolerance mostRules ids ws ≡ Passed → at + mostRules ≤ room
+    → answer k tolerance mostRules ids ws at room ≡ Made (recordMade k tolerance mostRules ids ws)
 unfolding answer
-made-answer k tolerance ws at room passed fits =
+made-answer k tolerance ids ws at room passed fits =
     simp (
       passed,
-      le-leb (at + length (listMade k tolerance mostRules ws)) room (omega (arith, list-few k tolerance ws)),
+      le-leb (at + length (listMade k tolerance mostRules ids ws)) room (omega (arith, list-few k tolerance ids ws)),
     )
 
--- one list more, as the expansion answers for the weights of service s
-module _ (k tolerance : ℕ) (sizes ws : List ℕ) (s : ℕ) (lens values backends stairs : List ℕ)
-    (passed : checkCall k tolerance mostRules (part sizes ws s) ≡ Passed)
+-- one list more, as the expansion answers for the ids and weights of service s
+module _ (k tolerance : ℕ) (sizes ids ws : List ℕ) (s : ℕ) (lens values backends stairs : List ℕ)
+    (passed : checkCall k tolerance mostRules (part sizes ids s) (part sizes ws s) ≡ Passed)
     (fits : placeOf s 1 + mostRules ≤ min (min (length lens) (length values)) (min (length backends) (length stairs)))
-    (own : List ℕ) (is : own ≡ part sizes ws s) (r : Expanded)
-    (answered : r ≡ answer k tolerance mostRules own (placeOf s 1) (min (min (length lens) (length values)) (min (length backends) (length stairs)))) where
-  pub made : r ≡ Made (recordMade k tolerance mostRules (part sizes ws s))
+    (ownIds own : List ℕ) (areIds : ownIds ≡ part sizes ids s) (is : own ≡ part sizes ws s) (r : Expanded)
+    (answered :
+    r ≡ answer k tolerance mostRules ownIds own (placeOf s 1) (min (min (length lens) (length values)) (min (length backends) (length stairs)))) where
+  pub made : r ≡ Made (recordMade k tolerance mostRules (part sizes ids s) (part sizes ws s))
   made =
       answered
-      ∙ rw is (made-answer k tolerance (part sizes ws s) (placeOf s 1) (min (min (length lens) (length values)) (min (length backends) (length stairs)))
-      passed fits)
+      ∙ rw (areIds, is) (made-answer k tolerance (part sizes ids s) (part sizes ws s) (placeOf s 1)
+      (min (min (length lens) (length values)) (min (length backends) (length stairs))) passed fits)
 
   pub entries-more :
       (m : Record) → r ≡ Made m → (counts ends : List ℕ) → s < min (length counts) (length ends)
-      → Entries k tolerance sizes ws s lens values backends stairs counts ends
+      → Entries k tolerance sizes ids ws s lens values backends stairs counts ends
       → (lens′ values′ backends′ stairs′ : List ℕ)
-      → lens′ ≡ filled (isMade r) lens (placeOf s 1) (lensMade k tolerance mostRules own)
-      → values′ ≡ filled (isMade r) values (placeOf s 1) (valuesMade k tolerance mostRules own)
-      → backends′ ≡ filled (isMade r) backends (placeOf s 1) (backendsMade k tolerance mostRules own)
-      → stairs′ ≡ filled (isMade r) stairs (placeOf s 1) (stairsMade k tolerance mostRules own)
-      → Entries k tolerance sizes ws (s + 1) lens′ values′ backends′ (set stairs′ (stride * s) 0) (set counts s (m .rules)) (set ends s (endNumber (m .ended)))
+      → lens′ ≡ filled (isMade r) lens (placeOf s 1) (lensMade k tolerance mostRules ownIds own)
+      → values′ ≡ filled (isMade r) values (placeOf s 1) (valuesMade k tolerance mostRules ownIds own)
+      → backends′ ≡ filled (isMade r) backends (placeOf s 1) (backendsMade k tolerance mostRules ownIds own)
+      → stairs′ ≡ filled (isMade r) stairs (placeOf s 1) (stairsMade k tolerance mostRules ownIds own)
+      → Entries k tolerance sizes ids ws (s + 1) lens′ values′ backends′ (set stairs′ (stride * s) 0) (set counts s (m .rules))
+      (set ends s (endNumber (m .ended)))
   entries-more m e counts ends room E lens′ values′ backends′ stairs′ p q u v =
+      let ids′ = part sizes ids s in
       let ws′ = part sizes ws s in
-      let same : m ≡ recordMade k tolerance mostRules ws′ = cc made in
-      let p′ : lens′ ≡ sets lens (placeOf s 1) (lensMade k tolerance mostRules ws′) = rw (made, is) at p in
-      let q′ : values′ ≡ sets values (placeOf s 1) (valuesMade k tolerance mostRules ws′) = rw (made, is) at q in
-      let u′ : backends′ ≡ sets backends (placeOf s 1) (backendsMade k tolerance mostRules ws′) = rw (made, is) at u in
-      let v′ : stairs′ ≡ sets stairs (placeOf s 1) (stairsMade k tolerance mostRules ws′) = rw (made, is) at v in
+      let same : m ≡ recordMade k tolerance mostRules ids′ ws′ = cc made in
+      let p′ : lens′ ≡ sets lens (placeOf s 1) (lensMade k tolerance mostRules ids′ ws′) = rw (made, areIds, is) at p in
+      let q′ : values′ ≡ sets values (placeOf s 1) (valuesMade k tolerance mostRules ids′ ws′) = rw (made, areIds, is) at q in
+      let u′ : backends′ ≡ sets backends (placeOf s 1) (backendsMade k tolerance mostRules ids′ ws′) = rw (made, areIds, is) at u in
+      let v′ : stairs′ ≡ sets stairs (placeOf s 1) (stairsMade k tolerance mostRules ids′ ws′) = rw (made, areIds, is) at v in
       rw (same, p′, q′, u′, v′) (record { each = λ t l. go t l (ℕ-discrete t s) })
     where
+      ids′ : List ℕ
+      ids′ = part sizes ids s
+
       ws′ : List ℕ
       ws′ = part sizes ws s
 
       go :
           (t : ℕ) → t < s + 1 → Dec (t ≡ s)
-          → Entry k tolerance (part sizes ws t) t (sets lens (placeOf s 1) (lensMade k tolerance mostRules ws′))
-          (sets values (placeOf s 1) (valuesMade k tolerance mostRules ws′)) (sets backends (placeOf s 1) (backendsMade k tolerance mostRules ws′))
-          (set (sets stairs (placeOf s 1) (stairsMade k tolerance mostRules ws′)) (stride * s) 0) (set counts s (recordMade k tolerance mostRules ws′ .rules))
-          (set ends s (endNumber (recordMade k tolerance mostRules ws′ .ended)))
-      go t l (yes e) = rw e (entry-made k tolerance ws′ s lens values backends stairs counts ends fits room)
+          → Entry k tolerance (part sizes ids t) (part sizes ws t) t (sets lens (placeOf s 1) (lensMade k tolerance mostRules ids′ ws′))
+          (sets values (placeOf s 1) (valuesMade k tolerance mostRules ids′ ws′)) (sets backends (placeOf s 1) (backendsMade k tolerance mostRules ids′ ws′))
+          (set (sets stairs (placeOf s 1) (stairsMade k tolerance mostRules ids′ ws′)) (stride * s) 0)
+          (set counts s (recordMade k tolerance mostRules ids′ ws′ .rules))
+          (set ends s (endNumber (recordMade k tolerance mostRules ids′ ws′ .ended)))
+      go t l (yes e) = rw e (entry-made k tolerance ids′ ws′ s lens values backends stairs counts ends fits room)
       go t l (no d) =
-          entry-kept k tolerance (part sizes ws t) t s lens values backends stairs counts ends (lensMade k tolerance mostRules ws′)
-          (valuesMade k tolerance mostRules ws′) (backendsMade k tolerance mostRules ws′) (stairsMade k tolerance mostRules ws′)
-          (recordMade k tolerance mostRules ws′ .rules) (endNumber (recordMade k tolerance mostRules ws′ .ended)) 0 (omega arith) (E .each t (omega arith))
+          entry-kept k tolerance (part sizes ids t) (part sizes ws t) t s lens values backends stairs counts ends (lensMade k tolerance mostRules ids′ ws′)
+          (valuesMade k tolerance mostRules ids′ ws′) (backendsMade k tolerance mostRules ids′ ws′) (stairsMade k tolerance mostRules ids′ ws′)
+          (recordMade k tolerance mostRules ids′ ws′ .rules) (endNumber (recordMade k tolerance mostRules ids′ ws′ .ended)) 0 (omega arith)
+          (E .each t (omega arith))
 
 -- so service s has the list of the definitions
-module _ (k tolerance : ℕ) (volumes sizes ws : List ℕ) (s : ℕ) (inside : s < length sizes) where
-  frame-of : frameOf (servicesOf k volumes sizes ws) tolerance s ≡ frameMade k tolerance (part sizes ws s)
-  unfolding frameOf numbered targetsOf part frameMade
-  frame-of = ap₂ (frame k unit tolerance) (labels-at sizes ws s inside) (chunk-at sizes ws s inside)
+module _ (k tolerance : ℕ) (volumes sizes ids ws : List ℕ) (s : ℕ) (inside : s < length sizes) where
+  frame-of : frameOf (servicesOf k volumes sizes ids ws) tolerance s ≡ frameMade k tolerance (part sizes ids s) (part sizes ws s)
+  unfolding frameOf servicesWith targetsOf frameMade
+  frame-of = ap₂ (frame k unit tolerance) (chunk-at sizes ids s inside) (chunk-at sizes ws s inside)
 
-  list-of : listFor (servicesOf k volumes sizes ws) tolerance s ≡ listMade k tolerance mostRules (part sizes ws s)
+  list-of : listFor (servicesOf k volumes sizes ids ws) tolerance s ≡ listMade k tolerance mostRules (part sizes ids s) (part sizes ws s)
   unfolding listFor ruleBudget listMade
   list-of = ap (λ (F : Frame). listOf F mostRules) frame-of
 
   -- one column of its rules
   column-of :
       (f : Rule → ℕ) → f noRule ≡ 0 → (l : List ℕ)
-      → Column l s (map f (reverse (listMade k tolerance mostRules (part sizes ws s)))) → (j : ℕ)
-      → j < length (listFor (servicesOf k volumes sizes ws) tolerance s)
-      → getD l (placeOf s (suc j)) 0 ≡ f (ruleAt (listFor (servicesOf k volumes sizes ws) tolerance) s j)
+      → Column l s (map f (reverse (listMade k tolerance mostRules (part sizes ids s) (part sizes ws s)))) → (j : ℕ)
+      → j < length (listFor (servicesOf k volumes sizes ids ws) tolerance s)
+      → getD l (placeOf s (suc j)) 0 ≡ f (ruleAt (listFor (servicesOf k volumes sizes ids ws) tolerance) s j)
   unfolding ruleAt
   column-of f e l C j h =
-      let rs = listMade k tolerance mostRules (part sizes ws s) in
+      let rs = listMade k tolerance mostRules (part sizes ids s) (part sizes ws s) in
       C .at j (omega (arith, ap length list-of, length-column f rs))
       ∙ rule-at f e rs j
       ∙ ap (λ (x : List Rule). f (getD (reverse x) j noRule)) (sym list-of)
 
   stairs-of :
-      (l : List ℕ) → Column l s (stairsMade k tolerance mostRules (part sizes ws s)) → (j : ℕ)
-      → j < length (listFor (servicesOf k volumes sizes ws) tolerance s)
+      (l : List ℕ) → Column l s (stairsMade k tolerance mostRules (part sizes ids s) (part sizes ws s)) → (j : ℕ)
+      → j < length (listFor (servicesOf k volumes sizes ids ws) tolerance s)
       → getD l (placeOf s (suc j)) 0
-      ≡ stair (frameOf (servicesOf k volumes sizes ws) tolerance s) (suc j) (listFor (servicesOf k volumes sizes ws) tolerance s)
+      ≡ stair (frameOf (servicesOf k volumes sizes ids ws) tolerance s) (suc j) (listFor (servicesOf k volumes sizes ids ws) tolerance s)
   unfolding stairsMade
   stairs-of l C j h =
-      let F = frameMade k tolerance (part sizes ws s) in
-      let rs = listMade k tolerance mostRules (part sizes ws s) in
+      let F = frameMade k tolerance (part sizes ids s) (part sizes ws s) in
+      let rs = listMade k tolerance mostRules (part sizes ids s) (part sizes ws s) in
       let inside : j < length rs = omega (arith, ap length list-of) in
       C .at j (omega (arith, length-stairs F rs (length rs)))
       ∙ stairs-at F rs (length rs) j inside
@@ -300,43 +309,44 @@ module _ (k tolerance : ℕ) (volumes sizes ws : List ℕ) (s : ℕ) (inside : s
 
   -- with that before any rule
   stairs-from :
-      (l : List ℕ) → getD l (stride * s) 0 ≡ 0 → Column l s (stairsMade k tolerance mostRules (part sizes ws s)) → (c : ℕ)
-      → c ≤ length (listFor (servicesOf k volumes sizes ws) tolerance s)
+      checkCall k tolerance mostRules (part sizes ids s) (part sizes ws s) ≡ Passed → (l : List ℕ) → getD l (stride * s) 0 ≡ 0
+      → Column l s (stairsMade k tolerance mostRules (part sizes ids s) (part sizes ws s)) → (c : ℕ)
+      → c ≤ length (listFor (servicesOf k volumes sizes ids ws) tolerance s)
       → getD l (placeOf s c) 0
-      ≡ stair (frameOf (servicesOf k volumes sizes ws) tolerance s) c (listFor (servicesOf k volumes sizes ws) tolerance s)
-  stairs-from l e C zero h =
+      ≡ stair (frameOf (servicesOf k volumes sizes ids ws) tolerance s) c (listFor (servicesOf k volumes sizes ids ws) tolerance s)
+  stairs-from passed l e C zero h =
       let here : placeOf s 0 ≡ stride * s = omega arith in
       ap (λ (i : ℕ). getD l i 0) here
       ∙ e
-      ∙ sym (stair-none (frameMade k tolerance (part sizes ws s)) (listMade k tolerance mostRules (part sizes ws s))
-      (made-labelled k tolerance (part sizes ws s)))
+      ∙ sym (stair-none (frameMade k tolerance (part sizes ids s) (part sizes ws s)) (listMade k tolerance mostRules (part sizes ids s) (part sizes ws s))
+      (made-labelled k tolerance (part sizes ids s) (part sizes ws s) passed))
       ∙ ap₂ (λ (F : Frame) (x : List Rule). stair F 0 x) (sym frame-of) (sym list-of)
-  stairs-from l e C (suc j) h = stairs-of l C j h
+  stairs-from passed l e C (suc j) h = stairs-of l C j h
 
 -- and so have all
 pub listed :
-    (k tolerance : ℕ) (sizes ws : List ℕ) (n : ℕ) (lens values backends stairs counts ends : List ℕ) → n ≤ length sizes
-    → Entries k tolerance sizes ws n lens values backends stairs counts ends
-    → ListedTo k tolerance sizes ws n lens values backends stairs counts ends
-unfolding services numbered recordMade lensMade valuesMade backendsMade
-listed k tolerance sizes ws n lens values backends stairs counts ends inside E volumes same =
-    let S = servicesOf k volumes sizes ws in
+    (k tolerance : ℕ) (sizes ids ws : List ℕ) (n : ℕ) (lens values backends stairs counts ends : List ℕ) → n ≤ length sizes
+    → Sized k tolerance sizes ids ws → Entries k tolerance sizes ids ws n lens values backends stairs counts ends
+    → ListedTo k tolerance sizes ids ws n lens values backends stairs counts ends
+unfolding services servicesWith ruleBudget recordMade lensMade valuesMade backendsMade
+listed k tolerance sizes ids ws n lens values backends stairs counts ends inside Z E volumes same =
+    let S = servicesOf k volumes sizes ids ws in
     let known : (s : ℕ) → s < length volumes → s < length sizes = λ s l. omega arith in
-    let entry : (s : ℕ) → s < length volumes → Entry k tolerance (part sizes ws s) s lens values backends stairs counts ends =
+    let entry : (s : ℕ) → s < length volumes → Entry k tolerance (part sizes ids s) (part sizes ws s) s lens values backends stairs counts ends =
     λ s l. E .each s (omega arith) in
-    let list : (s : ℕ) → s < length volumes → listFor S tolerance s ≡ listMade k tolerance mostRules (part sizes ws s) =
-    λ s l. list-of k tolerance volumes sizes ws s (known s l) in
+    let list : (s : ℕ) → s < length volumes → listFor S tolerance s ≡ listMade k tolerance mostRules (part sizes ids s) (part sizes ws s) =
+    λ s l. list-of k tolerance volumes sizes ids ws s (known s l) in
     record {
       stepped =
           record {
             count = λ s l. entry s l .count ∙ ap length (sym (list s l));
-            few = λ s l. omega (arith, ap length (list s l), list-few k tolerance (part sizes ws s));
-            step = λ s c l. stairs-from k tolerance volumes sizes ws s (known s l) stairs (entry s l .none) (entry s l .stair) c;
+            few = λ s l. omega (arith, ap length (list s l), list-few k tolerance (part sizes ids s) (part sizes ws s));
+            step = λ s c l. stairs-from k tolerance volumes sizes ids ws s (known s l) (Z .sound s (known s l)) stairs (entry s l .none) (entry s l .stair) c;
           };
       ended =
           λ s l. entry s l .ended
-          ∙ ap₂ (λ (F : Frame) (x : List Rule). endNumber (endOf F x)) (sym (frame-of k tolerance volumes sizes ws s (known s l))) (sym (list s l));
-      len = λ s j l. column-of k tolerance volumes sizes ws s (known s l) (λ r. r .len) refl lens (entry s l .len) j;
-      value = λ s j l. column-of k tolerance volumes sizes ws s (known s l) (λ r. r .value) refl values (entry s l .value) j;
-      backend = λ s j l. column-of k tolerance volumes sizes ws s (known s l) (λ r. r .backend) refl backends (entry s l .backend) j;
+          ∙ ap₂ (λ (F : Frame) (x : List Rule). endNumber (endOf F x)) (sym (frame-of k tolerance volumes sizes ids ws s (known s l))) (sym (list s l));
+      len = λ s j l. column-of k tolerance volumes sizes ids ws s (known s l) (λ r. r .len) refl lens (entry s l .len) j;
+      value = λ s j l. column-of k tolerance volumes sizes ids ws s (known s l) (λ r. r .value) refl values (entry s l .value) j;
+      backend = λ s j l. column-of k tolerance volumes sizes ids ws s (known s l) (λ r. r .backend) refl backends (entry s l .backend) j;
     }

@@ -18,7 +18,7 @@ use Rattle.numerals.proofs.Sums.{sum-ext}
 use Rattle.packing.specs.Grants.{Grants, total}
 use Rattle.packing.specs.Count.{services, volume}
 use Rattle.packing.specs.Table.{frameOf, listFor, table, problem, granted, oneEach}
-use Rattle.packing.specs.Answer.{numbered, servicesOf, checkAll, linesMade, packedOf, figuresOf, cellsOf, Demanded, noBuffer, figuresBuffer}
+use Rattle.packing.specs.Answer.{servicesWith, servicesOf, checkAll, linesMade, packedOf, figuresOf, cellsOf, Demanded, noBuffer, figuresBuffer}
 use Rattle.packing.specs.Answer.{tableBuffer, written, answer, onMade}
 use Rattle.packing.specs.Inner.Lists.{places, Listed, Granted}
 use Rattle.packing.specs.Inner.Stored.{storedTotal, storedLines, storedFigures, storedTable, held, AllPayable, Started, Allotted, Counted, Writable}
@@ -42,46 +42,46 @@ module _ (claim : Packed → Type 0) (p : Packed) where
   claimed n figuresRoom tableRoom r e d = rw e (chosen (leb (3 * n) figuresRoom) (leb (4 * p .rules) tableRoom) d)
 
 -- the answer by what the checks found
-module _ (k tolerance capacity : ℕ) (volumes sizes ws : List ℕ) (figuresRoom tableRoom : ℕ) where
+module _ (k tolerance capacity : ℕ) (volumes sizes ids ws : List ℕ) (figuresRoom tableRoom : ℕ) where
   pub answer-refused :
-      (why : Refusal) → checkAll k tolerance capacity volumes sizes ws ≡ Failed why
-      → answer k tolerance capacity volumes sizes ws figuresRoom tableRoom ≡ Refused why noBuffer
+      (why : Refusal) → checkAll k tolerance capacity volumes sizes ids ws ≡ Failed why
+      → answer k tolerance capacity volumes sizes ids ws figuresRoom tableRoom ≡ Refused why noBuffer
   unfolding answer
   answer-refused why e = rw e
 
   pub answer-passed :
-      checkAll k tolerance capacity volumes sizes ws ≡ Passed → (p : Packed)
-      → p ≡ packedOf (servicesOf k volumes sizes ws) tolerance capacity
+      checkAll k tolerance capacity volumes sizes ids ws ≡ Passed → (p : Packed)
+      → p ≡ packedOf (servicesOf k volumes sizes ids ws) tolerance capacity
       → written p (length volumes) figuresRoom tableRoom
-      ≡ answer k tolerance capacity volumes sizes ws figuresRoom tableRoom
-  unfolding answer services numbered
+      ≡ answer k tolerance capacity volumes sizes ids ws figuresRoom tableRoom
+  unfolding answer services servicesWith
   answer-passed passed p e = rw (passed, e)
 
 -- the lists and the grants kept come to this
-pub record Outcome (k tolerance capacity : ℕ) (volumes sizes ws lens values backends stairs counts ends grants : List ℕ) : Type 0 where
+pub record Outcome (k tolerance capacity : ℕ) (volumes sizes ids ws lens values backends stairs counts ends grants : List ℕ) : Type 0 where
   pub payable : AllPayable volumes stairs counts
   pub counted : Counted (length volumes) grants counts
   pub writable :
       (r : ℕ) → r ≡ sumTo (length volumes) (storedLines grants counts)
       → Writable (length volumes) r grants counts ends lens values backends
-  pub figures : storedFigures grants counts ends (length volumes) ≡ figuresOf k tolerance capacity volumes sizes ws
+  pub figures : storedFigures grants counts ends (length volumes) ≡ figuresOf k tolerance capacity volumes sizes ids ws
   pub table :
       storedTable (storedLines grants counts) lens values backends (length volumes)
-      ≡ cellsOf k tolerance capacity volumes sizes ws
+      ≡ cellsOf k tolerance capacity volumes sizes ids ws
   pub made :
       (r t : ℕ) → r ≡ sumTo (length volumes) (storedLines grants counts) → t ≡ storedTotal volumes stairs counts grants
-      → _≡_ {A = Packed} (record { rules = r; total = t }) (packedOf (servicesOf k volumes sizes ws) tolerance capacity)
+      → _≡_ {A = Packed} (record { rules = r; total = t }) (packedOf (servicesOf k volumes sizes ids ws) tolerance capacity)
   pub demand :
-      (t : ℕ) → t ≡ storedTotal volumes stairs counts grants → Demanded k tolerance capacity volumes sizes ws t
+      (t : ℕ) → t ≡ storedTotal volumes stairs counts grants → Demanded k tolerance capacity volumes sizes ids ws t
 
-module _ (k tolerance capacity : ℕ) (volumes sizes ws lens values backends stairs counts ends : List ℕ)
-    (A : Accepted k tolerance capacity volumes sizes ws)
-    (L : let S = servicesOf k volumes sizes ws in
+module _ (k tolerance capacity : ℕ) (volumes sizes ids ws lens values backends stairs counts ends : List ℕ)
+    (A : Accepted k tolerance capacity volumes sizes ids ws)
+    (L : let S = servicesOf k volumes sizes ids ws in
     Listed (services S) (frameOf S tolerance) (listFor S tolerance) lens values backends stairs counts ends) where
   pub payable : length stairs ≡ places → length counts ≡ mostServices → AllPayable volumes stairs counts
-  unfolding numbered services volume
+  unfolding servicesWith services volume
   payable stored room =
-      let S = servicesOf k volumes sizes ws in
+      let S = servicesOf k volumes sizes ids ws in
       all-payable volumes (frameOf S tolerance) (listFor S tolerance) stairs counts (L .stepped)
       (stair-low S tolerance (balanced A) refl (A .few-bits)) (omega (arith, A .few, A .same)) (volume-le A) stored (omega (arith, A .few, A .same))
 
@@ -89,9 +89,9 @@ module _ (k tolerance capacity : ℕ) (volumes sizes ws lens values backends sta
   pub started :
       (grants : List ℕ) → length grants ≡ mostServices → ((s : ℕ) → s < length volumes → getD grants s 0 ≡ 1)
       → Started volumes stairs counts grants
-  unfolding numbered services
+  unfolding servicesWith services
   started grants long ones =
-      let S = servicesOf k volumes sizes ws in
+      let S = servicesOf k volumes sizes ids ws in
       all-started volumes (frameOf S tolerance) (listFor S tolerance) stairs counts (L .stepped) grants
       (omega (arith, A .few, A .same)) (λ s x l from. stair-down S tolerance (balanced A) s x l (omega (arith, ones s l)))
 
@@ -99,12 +99,12 @@ module _ (k tolerance capacity : ℕ) (volumes sizes ws lens values backends sta
   pub ones-fit :
       (grants : List ℕ) → ((s : ℕ) → s < length volumes → getD grants s 0 ≡ 1)
       → sumTo (length volumes) (held grants) ≤ capacity
-  unfolding numbered services
+  unfolding servicesWith services
   ones-fit grants ones =
       omega (
         arith,
         sum-ext (length volumes) (held grants) oneEach ones,
-        one-fits (servicesOf k volumes sizes ws) capacity (omega (arith, A .room, A .same)),
+        one-fits (servicesOf k volumes sizes ids ws) capacity (omega (arith, A .room, A .same)),
       )
 
   pub outcome :
@@ -112,10 +112,10 @@ module _ (k tolerance capacity : ℕ) (volumes sizes ws lens values backends sta
       → length lens ≡ places → length values ≡ places → length backends ≡ places
       → length stairs ≡ places → length counts ≡ mostServices → length ends ≡ mostServices → length grants ≡ mostServices
       → Allotted (held from) capacity volumes stairs counts grants r
-      → Outcome k tolerance capacity volumes sizes ws lens values backends stairs counts ends grants
-  unfolding numbered services volume problem granted table packedOf linesMade
+      → Outcome k tolerance capacity volumes sizes ids ws lens values backends stairs counts ends grants
+  unfolding servicesWith services volume problem granted table packedOf linesMade
   outcome from grants r ones e f b h i m j G =
-      let S = servicesOf k volumes sizes ws in
+      let S = servicesOf k volumes sizes ids ws in
       let few : length volumes ≤ mostServices = omega (arith, A .few, A .same) in
       let room : sumTo (length volumes) oneEach ≤ capacity = one-fits S capacity (omega (arith, A .room, A .same)) in
       let some : 0 < length volumes = omega (arith, A .some, A .same) in

@@ -2,11 +2,10 @@
 -- it answers, and what it writes.
 use Prim.Native.Nat.{ℕ, zero, suc, _*_}
 use mathlib.Core.Bool.{Bool, true, false}
-use mathlib.Core.List.{List, [], _∷_, _++_, map}
+use mathlib.Core.List.{List, [], _∷_, _++_}
 use lib.Dec.{leb, ltb, eqb}
 use lib.ListN.{length, take, drop}
 use Rattle.numerals.specs.Pick.{pick}
-use Rattle.numerals.specs.Sums.{listTo}
 use Rattle.expansion.specs.Answer.{andThen, orElse, inLimits, checkWeights}
 use Rattle.numerals.specs.Limits.{mostBits, mostBackends, mostServices, mostCapacity, mostVolume, unit}
 use Rattle.expansion.specs.Steps.{endOf}
@@ -23,50 +22,44 @@ use Rattle.packing.specs.declared.answer.Packed.{Packed}
 use Rattle.packing.specs.declared.answer.Packing.{Packing}
 use Rattle.packing.specs.declared.answer.Packing.the-variants.{Made, Refused}
 
--- the weights of each service: they stand in one row, as many of each as its size says
+-- the ids or the weights of each service: they stand in one row, as many of each as its size says
 unfoldable pub chunks : List ℕ → List ℕ → List (List ℕ)
-chunks [] ws = []
-chunks (n ∷ ns) ws = take n ws ∷ chunks ns (drop n ws)
+chunks [] row = []
+chunks (n ∷ ns) row = take n row ∷ chunks ns (drop n row)
 
--- services whose backends are labelled by their number from 1
-unfoldable pub numbered : ℕ → List ℕ → List (List ℕ) → Services
-numbered k volumes weights =
-    record {
-      k = k;
-      unit = unit;
-      volumes = volumes;
-      labels = map (λ (own : List ℕ). listTo (length own) suc) weights;
-      weights = weights;
-    }
+-- services whose backends are labelled by their ids
+unfoldable pub servicesWith : ℕ → List ℕ → List (List ℕ) → List (List ℕ) → Services
+servicesWith k volumes ids weights = record { k = k; unit = unit; volumes = volumes; labels = ids; weights = weights }
 
-abbrev pub servicesOf : ℕ → List ℕ → List ℕ → List ℕ → Services
-servicesOf k volumes sizes ws = numbered k volumes (chunks sizes ws)
+abbrev pub servicesOf : ℕ → List ℕ → List ℕ → List ℕ → List ℕ → Services
+servicesOf k volumes sizes ids ws = servicesWith k volumes (chunks sizes ids) (chunks sizes ws)
 
--- the line of one service, whose weights are the first `size` of the row: the field count (no weight is 1, a 33rd is 4, and a row that has not so
--- many is 1), then the volume, the weights and their sum
-unfoldable pub checkService : ℕ → ℕ → List ℕ → Checked
-checkService volume size ws =
+-- the line of one service, whose ids and weights are the first `size` of their rows: the field count (no weight is 1, a 33rd is 4, and a row that
+-- has not so many is 1), then the volume, the ids and weights, and the weights' sum
+unfoldable pub checkService : ℕ → ℕ → List ℕ → List ℕ → Checked
+checkService volume size ids ws =
     andThen (orElse (ltb 0 size) no1)
     (andThen (orElse (leb size mostBackends) no4)
+    (andThen (orElse (leb size (length ids)) no1)
     (andThen (orElse (leb size (length ws)) no1)
     (andThen (orElse (leb volume mostVolume) no2)
-    (checkWeights (take size ws)))))
+    (checkWeights (take size ids) (take size ws))))))
 
--- the lines of the services from s on, each with its volume and its size: a 65th is 4, one that lacks either has too few fields, and weights left
--- over stand on no service's line
-unfoldable pub checkFrom : ℕ → List ℕ → List ℕ → List ℕ → Checked
-checkFrom s [] [] ws = orElse (eqb (length ws) 0) no1
-checkFrom s [] (n ∷ ns) ws = andThen (orElse (ltb s mostServices) no4) (Failed no1)
-checkFrom s (v ∷ vs) [] ws = andThen (orElse (ltb s mostServices) no4) (Failed no1)
-checkFrom s (v ∷ vs) (n ∷ ns) ws =
+-- the lines of the services from s on, each with its volume and its size: a 65th is 4, one that lacks either has too few fields, and ids or weights
+-- left over stand on no service's line
+unfoldable pub checkFrom : ℕ → List ℕ → List ℕ → List ℕ → List ℕ → Checked
+checkFrom s [] [] ids ws = andThen (orElse (eqb (length ids) 0) no1) (orElse (eqb (length ws) 0) no1)
+checkFrom s [] (n ∷ ns) ids ws = andThen (orElse (ltb s mostServices) no4) (Failed no1)
+checkFrom s (v ∷ vs) [] ids ws = andThen (orElse (ltb s mostServices) no4) (Failed no1)
+checkFrom s (v ∷ vs) (n ∷ ns) ids ws =
     andThen (orElse (ltb s mostServices) no4)
-    (andThen (checkService v n ws)
-    (checkFrom (suc s) vs ns (drop n ws)))
+    (andThen (checkService v n ids ws)
+    (checkFrom (suc s) vs ns (drop n ids) (drop n ws)))
 
 -- the lines of all services, then no service
-unfoldable pub checkServices : List ℕ → List ℕ → List ℕ → Checked
-checkServices volumes sizes ws =
-    andThen (checkFrom 0 volumes sizes ws)
+unfoldable pub checkServices : List ℕ → List ℕ → List ℕ → List ℕ → Checked
+checkServices volumes sizes ids ws =
+    andThen (checkFrom 0 volumes sizes ids ws)
     (orElse (ltb 0 (length volumes)) no5)
 
 -- the first line: k, tolerance and capacity
@@ -77,10 +70,10 @@ checkHead k tolerance capacity =
     (orElse (inLimits 1 mostCapacity capacity) no2))
 
 -- the first line, the services line by line, no service, and a capacity below their number, which is that of the volumes once the lines passed
-unfoldable pub checkAll : ℕ → ℕ → ℕ → List ℕ → List ℕ → List ℕ → Checked
-checkAll k tolerance capacity volumes sizes ws =
+unfoldable pub checkAll : ℕ → ℕ → ℕ → List ℕ → List ℕ → List ℕ → List ℕ → Checked
+checkAll k tolerance capacity volumes sizes ids ws =
     andThen (checkHead k tolerance capacity)
-    (andThen (checkServices volumes sizes ws)
+    (andThen (checkServices volumes sizes ids ws)
     (orElse (leb (length volumes) capacity) no6))
 
 -- how a list ended, as a number
@@ -119,15 +112,15 @@ cells [] = []
 cells (l ∷ ls) = l .service ∷ l .rule .len ∷ l .rule .value ∷ l .rule .backend ∷ cells ls
 
 -- figures and cells of the numbers handed in, and demand 3 of a total and their lines
-abbrev pub figuresOf : ℕ → ℕ → ℕ → List ℕ → List ℕ → List ℕ → List ℕ
-figuresOf k tolerance capacity volumes sizes ws = figuresMade (servicesOf k volumes sizes ws) tolerance capacity
+abbrev pub figuresOf : ℕ → ℕ → ℕ → List ℕ → List ℕ → List ℕ → List ℕ → List ℕ
+figuresOf k tolerance capacity volumes sizes ids ws = figuresMade (servicesOf k volumes sizes ids ws) tolerance capacity
 
-abbrev pub cellsOf : ℕ → ℕ → ℕ → List ℕ → List ℕ → List ℕ → List ℕ
-cellsOf k tolerance capacity volumes sizes ws = cells (linesMade (servicesOf k volumes sizes ws) tolerance capacity)
+abbrev pub cellsOf : ℕ → ℕ → ℕ → List ℕ → List ℕ → List ℕ → List ℕ → List ℕ
+cellsOf k tolerance capacity volumes sizes ids ws = cells (linesMade (servicesOf k volumes sizes ids ws) tolerance capacity)
 
-abbrev pub Demanded : ℕ → ℕ → ℕ → List ℕ → List ℕ → List ℕ → ℕ → Type 0
-Demanded k tolerance capacity volumes sizes ws t =
-    let S = servicesOf k volumes sizes ws in
+abbrev pub Demanded : ℕ → ℕ → ℕ → List ℕ → List ℕ → List ℕ → List ℕ → ℕ → Type 0
+Demanded k tolerance capacity volumes sizes ids ws t =
+    let S = servicesOf k volumes sizes ids ws in
     Demand S tolerance oneEach capacity t (linesMade S tolerance capacity)
 
 -- the lent buffers, as a refusal names the one that is too short; one that is about none names `noBuffer`
@@ -153,10 +146,10 @@ written p n figuresRoom tableRoom =
     (Refused no7 figuresBuffer)
 
 -- the answer of the whole call
-unfoldable pub answer : ℕ → ℕ → ℕ → List ℕ → List ℕ → List ℕ → ℕ → ℕ → Packing
-answer k tolerance capacity volumes sizes ws figuresRoom tableRoom =
-    let S = servicesOf k volumes sizes ws in
-    onPassed (checkAll k tolerance capacity volumes sizes ws)
+unfoldable pub answer : ℕ → ℕ → ℕ → List ℕ → List ℕ → List ℕ → List ℕ → ℕ → ℕ → Packing
+answer k tolerance capacity volumes sizes ids ws figuresRoom tableRoom =
+    let S = servicesOf k volumes sizes ids ws in
+    onPassed (checkAll k tolerance capacity volumes sizes ids ws)
     (written (packedOf S tolerance capacity) (services S) figuresRoom tableRoom)
 
 -- a table was made; only then are the lent buffers filled, from their start on

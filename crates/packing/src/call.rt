@@ -10,28 +10,32 @@ ghost use Rattle.packing.specs.Answer as specified;
 
 // The services' grants and table. `figures` takes three numbers for each service: its grant, the length of its list
 // and how the list ended (within 0, no gain 1, budget 2). `table` takes four for each line: the number of its service,
-// from 1, the length and the value of its suffix, and the label of its backend, which is its number from 1.
+// from 1, the length and the value of its suffix, and the id of its backend.
 pub fn pack(
     k: usize,
     tolerance: u64,
     capacity: usize,
     volumes: &[u64],
     sizes: &[usize],
+    ids: &[usize],
     weights: &[u64],
     figures: &mut [usize],
     table: &mut [usize],
 ) -> Packing
     ensures answer { λ r. ⌜ r ≡ specified.answer k tolerance capacity
-        (now (volumes .entry)) (now (sizes .entry)) (now (weights .entry))
+        (now (volumes .entry)) (now (sizes .entry)) (now (ids .entry)) (now (weights .entry))
         (length (now (figures .entry))) (length (now (table .entry))) ⌝ }
     ensures figures { λ r. ⌜ now (figures .exit) ≡ filled (specified.isMade r) (now (figures .entry)) 0
-        (specified.figuresOf k tolerance capacity (now (volumes .entry)) (now (sizes .entry)) (now (weights .entry))) ⌝ }
+        (specified.figuresOf k tolerance capacity
+        (now (volumes .entry)) (now (sizes .entry)) (now (ids .entry)) (now (weights .entry))) ⌝ }
     ensures table { λ r. ⌜ now (table .exit) ≡ filled (specified.isMade r) (now (table .entry)) 0
-        (specified.cellsOf k tolerance capacity (now (volumes .entry)) (now (sizes .entry)) (now (weights .entry))) ⌝ }
+        (specified.cellsOf k tolerance capacity
+        (now (volumes .entry)) (now (sizes .entry)) (now (ids .entry)) (now (weights .entry))) ⌝ }
     ensures demand { λ r. ⌜ specified.onMade r (λ p.
-        specified.Demanded k tolerance capacity (now (volumes .entry)) (now (sizes .entry)) (now (weights .entry)) (p .total)) ⌝ }
+        specified.Demanded k tolerance capacity
+        (now (volumes .entry)) (now (sizes .entry)) (now (ids .entry)) (now (weights .entry)) (p .total)) ⌝ }
 {
-    let checked = crate::check::check_all(k, tolerance, capacity, volumes, sizes, weights);
+    let checked = crate::check::check_all(k, tolerance, capacity, volumes, sizes, ids, weights);
     if let Checked::Refused(why) = checked {
         return Packing::Refused(why, 0);
     }
@@ -46,6 +50,7 @@ pub fn pack(
         k,
         tolerance,
         sizes,
+        ids,
         weights,
         &mut lens,
         &mut values,
@@ -54,8 +59,7 @@ pub fn pack(
         &mut counts,
         &mut ends,
     );
-    // each service is granted one rule
-    let mut grants = [1usize; numerals::MOST_SERVICES];
+    let mut grants = [1usize; numerals::MOST_SERVICES]; // each service is granted one rule
     crate::grants::grant_all(capacity, volumes, &stairs, &counts, &mut grants);
     let rules = crate::grants::all_lines(volumes.len(), &grants, &counts);
     let total = crate::grants::total_cost(volumes, &stairs, &counts, &grants);

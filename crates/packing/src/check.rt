@@ -27,10 +27,10 @@ fn check_head(k: usize, tolerance: u64, capacity: usize) -> Checked
     Checked::Sound
 }
 
-// The line of one service, whose weights are the first of a row: how many they are, the volume, the weights and their
-// sum.
-fn check_service(volume: u64, size: usize, weights: &[u64]) -> Checked
-    ensures { λ r. ⌜ r ≡ checkService volume size (now (weights .entry)) ⌝ }
+// The line of one service, whose ids and weights are the first of their rows: how many they are, the volume, the ids
+// and weights, and the weights' sum.
+fn check_service(volume: u64, size: usize, ids: &[usize], weights: &[u64]) -> Checked
+    ensures { λ r. ⌜ r ≡ checkService volume size (now (ids .entry)) (now (weights .entry)) ⌝ }
 {
     if size < 1 {
         return Checked::Refused(Refusal::Malformed);
@@ -38,13 +38,16 @@ fn check_service(volume: u64, size: usize, weights: &[u64]) -> Checked
     if numerals::MOST_BACKENDS < size {
         return Checked::Refused(Refusal::TooMany);
     }
+    if ids.len() < size {
+        return Checked::Refused(Refusal::Malformed);
+    }
     if weights.len() < size {
         return Checked::Refused(Refusal::Malformed);
     }
     if numerals::MOST_VOLUME < volume {
         return Checked::Refused(Refusal::BadField);
     }
-    expansion::check_weights(&weights[..size])
+    expansion::check_weights(&ids[..size], &weights[..size])
 }
 
 fn longer(a: usize, b: usize) -> usize
@@ -53,10 +56,12 @@ fn longer(a: usize, b: usize) -> usize
     if a < b { b } else { a }
 }
 
-// Every service in turn; a 65th is one too many. The weights of all services stand in one row, as many of each as
-// `sizes` says. A service without a volume or a size has too few fields, and what is left of the row is on no line.
-fn check_services(volumes: &[u64], sizes: &[usize], weights: &[u64]) -> Checked
-    ensures { λ r. ⌜ r ≡ checkServices (now (volumes .entry)) (now (sizes .entry)) (now (weights .entry)) ⌝ }
+// Every service in turn; a 65th is one too many. The ids of all services stand in one row and their weights in another,
+// as many of each as `sizes` says. A service without a volume or a size has too few fields, and what is left of a row
+// is on no line.
+fn check_services(volumes: &[u64], sizes: &[usize], ids: &[usize], weights: &[u64]) -> Checked
+    ensures { λ r. ⌜ r ≡ checkServices
+        (now (volumes .entry)) (now (sizes .entry)) (now (ids .entry)) (now (weights .entry)) ⌝ }
 {
     let lines = longer(volumes.len(), sizes.len());
     let mut at = 0;
@@ -72,12 +77,15 @@ fn check_services(volumes: &[u64], sizes: &[usize], weights: &[u64]) -> Checked
             return Checked::Refused(Refusal::Malformed);
         }
         let n = sizes[s];
-        let checked = check_service(volumes[s], n, &weights[at..]);
+        let checked = check_service(volumes[s], n, &ids[at..], &weights[at..]);
         if let Checked::Refused(why) = checked {
             return Checked::Refused(why);
         }
         at += n;
         s += 1;
+    }
+    if at < ids.len() {
+        return Checked::Refused(Refusal::Malformed);
     }
     if at < weights.len() {
         return Checked::Refused(Refusal::Malformed);
@@ -95,16 +103,17 @@ pub fn check_all(
     capacity: usize,
     volumes: &[u64],
     sizes: &[usize],
+    ids: &[usize],
     weights: &[u64],
 ) -> Checked
     ensures { λ r. ⌜ r ≡ checkAll k tolerance capacity
-        (now (volumes .entry)) (now (sizes .entry)) (now (weights .entry)) ⌝ }
+        (now (volumes .entry)) (now (sizes .entry)) (now (ids .entry)) (now (weights .entry)) ⌝ }
 {
     let head = check_head(k, tolerance, capacity);
     if let Checked::Refused(why) = head {
         return Checked::Refused(why);
     }
-    let services = check_services(volumes, sizes, weights);
+    let services = check_services(volumes, sizes, ids, weights);
     if let Checked::Refused(why) = services {
         return Checked::Refused(why);
     }

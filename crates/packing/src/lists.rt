@@ -30,6 +30,7 @@ pub fn make_lists(
     k: usize,
     tolerance: u64,
     sizes: &[usize],
+    ids: &[usize],
     weights: &[u64],
     lens: &mut [usize],
     values: &mut [usize],
@@ -38,11 +39,12 @@ pub fn make_lists(
     counts: &mut [usize],
     ends: &mut [usize],
 )
-    requires { ⌜ Sized k tolerance (now sizes) (now weights) ⌝ }
+    requires { ⌜ Sized k tolerance (now sizes) (now ids) (now weights) ⌝ }
     requires { ⌜ (stride * length (now sizes)
         ≤ min (min (length (now lens)) (length (now values))) (min (length (now backends)) (length (now stairs))))
         × (length (now sizes) ≤ min (length (now counts)) (length (now ends))) ⌝ }
-    ensures { λ _. ⌜ ListedTo k tolerance (now (sizes .entry)) (now (weights .entry)) (length (now (sizes .entry)))
+    ensures { λ _. ⌜ ListedTo k tolerance
+        (now (sizes .entry)) (now (ids .entry)) (now (weights .entry)) (length (now (sizes .entry)))
         (now (lens .exit)) (now (values .exit)) (now (backends .exit)) (now (stairs .exit))
         (now (counts .exit)) (now (ends .exit)) ⌝ }
 {
@@ -54,6 +56,7 @@ pub fn make_lists(
             k,
             tolerance,
             numerals::MOST_RULES,
+            &ids[at..at + n],
             &weights[at..at + n],
             STRIDE * s + 1,
             lens,

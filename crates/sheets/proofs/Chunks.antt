@@ -1,11 +1,11 @@
 -- A row taken apart by sizes: what stands at a place, where it begins, and that the row has it.
-use Prim.Native.Nat.{ℕ, zero, suc, _+_, _≤_, _<_}
-use mathlib.Core.Path.{_≡_, refl, ap, _∙_}
+use Prim.Native.Nat.{ℕ, zero, suc, _+_, _-_, _≤_, _<_}
+use mathlib.Core.Path.{_≡_, refl, sym, ap, _∙_}
 use mathlib.Core.List.{List, [], _∷_}
 use native.Mathlib.Numerals.{add-one}
 use native.Mathlib.Omega.{arith}
 use lib.ListN.{length, getD, take, drop, length-append, length-drop}
-use lib.Seq.{take-suc, drop-drop, length-take-le}
+use lib.Seq.{take-suc, drop-drop, length-take-le, take-append-seam, drop-append-seam}
 use Rattle.packing.specs.Answer.{chunks}
 use Rattle.sheets.specs.PercentageSheet.{sum}
 use Rattle.sheets.specs.Inner.SheetReader.{sizesOf, rowOf}
@@ -15,6 +15,13 @@ pub sizes-sum : (wss : List (List ℕ)) → sum (sizesOf wss) ≡ length (rowOf 
 unfolding sum sizesOf rowOf
 sizes-sum [] = refl
 sizes-sum (ws ∷ wss) = omega (arith, length-append ws (rowOf wss), sizes-sum wss)
+
+-- it is taken apart by the sizes that it was made with
+pub chunks-row : (wss : List (List ℕ)) → chunks (sizesOf wss) (rowOf wss) ≡ wss
+unfolding chunks sizesOf rowOf
+chunks-row [] = refl
+chunks-row (ws ∷ wss) =
+    rw (take-append-seam ws (rowOf wss), drop-append-seam ws (rowOf wss)) (ap (λ (l : List (List ℕ)). ws ∷ l) (chunks-row wss))
 
 -- the sum of the first sizes
 pub sum-next : (ns : List ℕ) (i : ℕ) → i < length ns → sum (take (i + 1) ns) ≡ sum (take i ns) + getD ns i 0
@@ -45,3 +52,9 @@ pub chunk-length : (ns ws : List ℕ) (i : ℕ) → i < length ns → sum ns ≤
 chunk-length ns ws i h room =
     ap length (chunk-at ns ws i h)
     ∙ length-take-le (getD ns i 0) (drop (sum (take i ns)) ws) (omega (arith, sum-fits ns i h, length-drop (sum (take i ns)) ws))
+
+-- the part of the service with number n, by where it begins and how long it is
+pub part-at :
+    (ns ws : List ℕ) (n from b : ℕ) → 1 ≤ n → n ≤ length ns → from ≡ sum (take (n - 1) ns) → b ≡ getD ns (n - 1) 0
+    → take b (drop from ws) ≡ getD (chunks ns ws) (n - 1) []
+part-at ns ws n from b some few f e = rw (f, e) (sym (chunk-at ns ws (n - 1) (omega arith)))

@@ -1,5 +1,5 @@
 -- The first matching line of a service: it is found line by line, and a service of a proper table has one for every suffix, since its last line is a `*`.
-use Prim.Native.Nat.{ℕ, zero, suc, _+_, _*_, _%_, _^_, _≤_, _<_}
+use Prim.Native.Nat.{ℕ, _%_, _^_, _≤_, _<_}
 use mathlib.Core.Path.{_≡_, refl, sym, ap, _∙_}
 use mathlib.Core.Bool.{Bool, true, false}
 use mathlib.Core.List.{List, [], _∷_, reverseAux}
@@ -7,22 +7,19 @@ use native.Mathlib.Nat.{pow-zero, mod-one}
 use native.Mathlib.Omega.{arith}
 use lib.Dec.{ltb, eqb}
 use lib.ListN.{length}
-use lib.Seq.{slice}
 use borrow.Author.Tests.{eqb-true, eqb-false, eq-eqb, ne-eqb, lt-ltb, le-ltb}
 use Rattle.numerals.specs.Pick.{pick}
-use Rattle.numerals.specs.Limits.{mostBits, mostBackends}
+use Rattle.numerals.specs.Limits.{mostId}
 use Rattle.numerals.proofs.Choice.{both-right, by-less}
 use Rattle.numerals.specs.declared.refusal.Refusal.the-variants.{UnknownService}
 use Rattle.expansion.specs.FirstMatch.{matches, firstMatch}
 use Rattle.expansion.specs.declared.rule.Rule.{Rule}
 use Rattle.packing.specs.Count.{Line, ownRules}
 use Rattle.sheets.specs.RuleSheet.{Table, countOf, inOrder, closed}
-use Rattle.sheets.specs.Calls.{refusedAt, linesFrom, hasService, lookupIn}
-use Rattle.sheets.specs.Inner.TableNumbers.{lineAt, linesIn, RuleLines}
+use Rattle.sheets.specs.Calls.{refusedAt, hasService, lookupIn}
 use Rattle.sheets.specs.Inner.TableReader.{Found}
 use Rattle.sheets.specs.declared.answer.Answer.the-variants.{Value, Refused}
 use Rattle.sheets.proofs.TableChecks.{Formed, formed, InOrder, Proper}
-use Rattle.sheets.proofs.TableNumbers.{rows-more, rows-none}
 use Rattle.sheets.proofs.Following.{count-same, count-other, by-service}
 
 -- the rules of a service, with one line more
@@ -61,22 +58,12 @@ pub of-none : (n v : ℕ) → firstMatch (ownRules n []) v ≡ 0
 unfolding ownRules firstMatch
 of-none n v = refl
 
--- labels of rule lines go up to 32
-pub first-few : (k n v : ℕ) (before ls : List Line) → InOrder k before ls → firstMatch (ownRules n ls) v ≤ mostBackends
+-- labels of rule lines are ids
+pub first-few : (k n v : ℕ) (before ls : List Line) → InOrder k before ls → firstMatch (ownRules n ls) v ≤ mostId
 unfolding InOrder
 first-few k n v before [] h = omega (arith, of-none n v)
 first-few k n v before (l ∷ ls) h =
-    of-most l ls n v mostBackends (formed k l (h .0 .form) .backend) (first-few k n v (l ∷ before) ls (h .1))
-
-module _ (table : List ℕ) (m : ℕ) (L : RuleLines table m) (n v : ℕ) where
-  few-from : (left i : ℕ) → i + left ≡ m → firstMatch (ownRules n (linesFrom (slice (4 * i) (4 * m) table))) v ≤ mostBackends
-  few-from zero i e = rw (rows-none table m (L .room) i (omega arith)) (omega (arith, of-none n v))
-  few-from (suc left) i e =
-      rw (rows-more table m (L .room) i (omega arith))
-      (of-most (lineAt table i) _ n v mostBackends (formed mostBits (lineAt table i) (L .each i (omega arith)) .backend) (few-from left (i + 1) (omega arith)))
-
-  pub lines-few : firstMatch (ownRules n (linesIn table m)) v ≤ mostBackends
-  lines-few = few-from m 0 (omega arith)
+    of-most l ls n v mostId (formed k l (h .0 .form) .backend) (first-few k n v (l ∷ before) ls (h .1))
 
 -- a service without lines has no match
 first-none : (n v : ℕ) (ls : List Line) → countOf n ls ≡ 0 → firstMatch (ownRules n ls) v ≡ 0

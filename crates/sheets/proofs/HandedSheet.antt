@@ -26,7 +26,7 @@ use Rattle.expansion.specs.FirstMatch.{isRule}
 use Rattle.packing.specs.Count.{Line}
 use Rattle.sheets.specs.Reading.{Reading, got, then, unless, onField}
 use Rattle.sheets.specs.FirstLine.{Opening, openingFields, openingLines, firstLine}
-use Rattle.numerals.specs.Limits.{mostBits, mostBackends, mostServices, mostRules, mostCapacity, textLimit, totalLimit}
+use Rattle.numerals.specs.Limits.{mostBits, mostId, mostServices, mostRules, mostCapacity, textLimit, totalLimit}
 use Rattle.sheets.specs.RuleSheet.{Table, tableWord, headText, lineText, linesText, onSuffix, countOf, inOrder, placed, ruleFields, ruleLines}
 use Rattle.sheets.specs.RuleSheet.{closed, wholeTable, tableLine, readTable, isLine, checkLines, checkEnd, checkSheet}
 use Rattle.sheets.specs.Calls.{linesFrom, brokenFrom, brokenText, linesHanded, handedText, tableHanded}
@@ -159,11 +159,11 @@ module _ (k : ℕ) (some : 1 ≤ k) (few : k ≤ mostBits) where
   line-read before at l small =
       let s = inLimits 1 mostServices (l .service) in
       let m = leb (l .rule .len) k in
-      let b = inLimits 1 mostBackends (l .rule .backend) in
+      let b = inLimits 1 mostId (l .rule .backend) in
       number-read 1 mostServices (l .service) at _
       ∙ ap (unless s no2 at)
       (suffix-read k (l .rule .len) (l .rule .value) at _ some few small
-      ∙ ap (unless m no2 at) (number-read 1 mostBackends (l .rule .backend) at _))
+      ∙ ap (unless m no2 at) (number-read 1 mostId (l .rule .backend) at _))
       ∙ rw (lt-ltb (l .rule .value) (2 ^ (l .rule .len)) small) (sym (merged s m b at (placed before l at (got l))))
 
   rule-more :

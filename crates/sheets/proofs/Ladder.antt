@@ -8,7 +8,7 @@ use native.Mathlib.Nat.{le-refl}
 use native.Mathlib.Omega.{arith}
 use lib.ListN.{length}
 use borrow.Author.Tests.{eq-eqb, ne-eqb, lt-ltb, le-leb}
-use Rattle.numerals.specs.Limits.{mostBackends, mostServices, mostRules}
+use Rattle.numerals.specs.Limits.{mostId, mostServices, mostRules}
 use Rattle.expansion.specs.FirstMatch.{isRule}
 use Rattle.expansion.specs.Inner.Sound.{AllFormed, Lengths, Falling, NoStar}
 use Rattle.expansion.specs.Steps.{oldest}
@@ -49,11 +49,11 @@ admits-first : (s : ℕ) → Admits s []
 unfolding countOf ownRules inOrder closed
 admits-first s = record { none = λ t h. refl; next = λ t h r. refl; shut = refl }
 
--- each rule is well-formed, and its label is one of 32
+-- each rule is well-formed, and its label is an id
 pub record Labelled (k : ℕ) (r : Rule) : Type 0 where
   pub rule : isRule k r ≡ true
   pub some : 1 ≤ r .backend
-  pub few : r .backend ≤ mostBackends
+  pub few : r .backend ≤ mostId
 
 unfoldable pub AllLabelled : ℕ → List Rule → Type 0
 AllLabelled k [] = Unit {0}
@@ -61,7 +61,7 @@ AllLabelled k (r ∷ rs) = Labelled k r × AllLabelled k rs
 
 -- rules of the first n backends are so, where their labels are
 pub all-labelled :
-    (k : ℕ) (labelled : ℕ → ℕ) (n : ℕ) (rs : List Rule) → ((b : ℕ) → b < n → (1 ≤ labelled b) × (labelled b ≤ mostBackends))
+    (k : ℕ) (labelled : ℕ → ℕ) (n : ℕ) (rs : List Rule) → ((b : ℕ) → b < n → (1 ≤ labelled b) × (labelled b ≤ mostId))
     → AllFormed k labelled n rs → AllLabelled k rs
 unfolding AllFormed AllLabelled
 all-labelled k labelled n [] h a = tt
@@ -76,7 +76,7 @@ module _ (k s : ℕ) (numbered : 1 ≤ s) (known : s ≤ mostServices) where
   labelled-line : (r : Rule) → Labelled k r → isLine k (lineOf s r) ≡ true
   unfolding isLine
   labelled-line r f =
-      rw (is-within 1 mostServices s numbered known, f .rule, is-within 1 mostBackends (r .backend) (f .some) (f .few))
+      rw (is-within 1 mostServices s numbered known, f .rule, is-within 1 mostId (r .backend) (f .some) (f .few))
 
   -- a ladder's lines, where its first may follow
   ladder-lines :

@@ -8,6 +8,7 @@ pub mod Joins
 pub mod TableTexts
 pub mod TableChecks
 pub mod RoundTrip
+pub mod BackendFields
 pub mod SheetLimits
 pub mod Ladder
 pub mod ProperTable

@@ -16,7 +16,7 @@ use Rattle.sheets.specs.RuleSheet.{headText, lineText, linesText, tableT
 use Rattle.sheets.specs.Inner.TableNumbers.{lineAt, linesIn, tableIn, RuleLines}
 use Rattle.sheets.specs.Inner.Writing.{lineWidth, counted}
 use Rattle.sheets.proofs.TableNumbers.{four-more, rows-more, rows-none}
-use Rattle.sheets.proofs.TableTexts.{linesWidth, line-short, length-lines, length-table, length-head}
+use Rattle.sheets.proofs.TableTexts.{linesWidth, mostLine, line-short, length-lines, length-table, length-head}
 use Rattle.sheets.proofs.TableChecks.{Formed, formed, is-formed, InOrder}
 
 -- as many lines as numbers by four, and a broken one where some are left over
@@ -144,7 +144,7 @@ module _ (table : List ℕ) (n : ℕ) (L : RuleLines table n) where
   abbrev widthAt : ℕ → ℕ
   widthAt i = lineWidth (getD table (4 * i) 0) (getD table (4 * i + 1) 0) (getD table (4 * i + 3) 0)
 
-  pub width-short : (i : ℕ) → i < n → widthAt i ≤ 20
+  pub width-short : (i : ℕ) → i < n → widthAt i ≤ mostLine
   width-short i h =
       let f = formed mostBits (lineAt table i) (L .each i h) in
       line-short (getD table (4 * i) 0) (getD table (4 * i + 1) 0) (getD table (4 * i + 3) 0) (f .service) (f .short) (f .backend)
@@ -157,7 +157,7 @@ module _ (table : List ℕ) (n : ℕ) (L : RuleLines table n) where
   unfolding linesWidth
   width-none i h = ap linesWidth (rows-none table n (L .room) i h)
 
-  left-short : (m i : ℕ) → i + m ≡ n → linesWidth (left i) ≤ 20 * m
+  left-short : (m i : ℕ) → i + m ≡ n → linesWidth (left i) ≤ mostLine * m
   left-short zero i e = omega (arith, width-none i (omega arith))
   left-short (suc m) i e = omega (arith, width-more i (omega arith), width-short i (omega arith), left-short m (i + 1) (omega arith))
 

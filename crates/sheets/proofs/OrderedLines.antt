@@ -15,7 +15,7 @@ use Rattle.packing.specs.Count.{Line, ownRules}
 use Rattle.sheets.specs.Reading.{got, field}
 use Rattle.sheets.specs.RuleSheet.{Table, countOf, ruleFields, ruleLines, placed, wholeTable, tableLine, readTable}
 use Rattle.sheets.specs.Inner.Premises.{checkTable}
-use Rattle.numerals.specs.Limits.{mostBits, mostBackends, mostServices, mostRules, mostCapacity, totalLimit}
+use Rattle.numerals.specs.Limits.{mostBits, mostId, mostServices, mostRules, mostCapacity, totalLimit}
 use Rattle.sheets.specs.Inner.TableNumbers.{line}
 use Rattle.sheets.proofs.Readings.{got-same, unless-got, onField-got, onSuffix-got, then-got}
 use Rattle.sheets.proofs.OpeningLine.{opened}
@@ -92,7 +92,7 @@ line-follows k before at fs l e =
     let sorted = unless-got _ _ _ _ (few .1) in
     let service = only-text 1 mostServices (s .0) (field fs 0) (s .1) in
     let suffix = suffix-only k (r .0) (r .1) (field fs 1) (r .2) in
-    let backend = only-text 1 mostBackends (b .0) (field fs 2) (b .1) in
+    let backend = only-text 1 mostId (b .0) (field fs 2) (b .1) in
     let follows : Follows k before (line (s .0) (r .0) (r .1) (b .0)) =
     record {
       form =

@@ -1,28 +1,29 @@
 -- The table of a percentage sheet is proper: its lines are in order and in their limits, and its total is in its limit.
 use Prim.Native.Nat.{ℕ, suc, _-_, _*_, _^_, _≤_, _<_, min}
 use mathlib.Core.Path.{_≡_, refl, sym, _∙_, subst}
-use mathlib.Core.List.{List, [], reverse, map}
+use mathlib.Core.List.{List, [], reverse}
 use native.Mathlib.Nat.{le-trans, mul-le-mul}
 use native.Mathlib.Omega.{arith}
-use lib.ListN.{length, getD, List·getD-map}
+use lib.ListN.{length, getD}
 use lib.Pow.{pow-mono}
-use Rattle.numerals.specs.Limits.{mostBits, mostBackends, mostRules, mostCapacity, unit, totalLimit}
-use Rattle.numerals.specs.Sums.{sumTo, listTo}
+use Rattle.numerals.specs.Limits.{mostBits, mostId, mostRules, mostCapacity, unit, totalLimit}
+use Rattle.numerals.specs.Sums.{sumTo}
 use Rattle.expansion.specs.FirstMatch.{nobody}
 use Rattle.expansion.specs.Imbalance.{backends, label, weight, imbalance}
 use Rattle.expansion.specs.Steps.{Frame, firstRule, frame, after, listOf, oldest, stair}
-use Rattle.expansion.specs.Inner.Sound.{Distinct, Sound}
+use Rattle.expansion.specs.Inner.Sound.{Distinct, Labelled, Sound}
 use Rattle.expansion.specs.declared.rule.Rule.{Rule}
-use Rattle.expansion.proofs.Base.{numbers-distinct, numbers-named, base-sound, base-formed, base-falling}
+use Rattle.expansion.proofs.Base.{base-sound, base-formed, base-falling}
+use Rattle.expansion.proofs.Ids.{rises-distinct}
 use Rattle.expansion.proofs.Bounds.{imbalance-bound}
 use Rattle.expansion.proofs.Shape.{falling-after, front-after}
-use Rattle.numerals.proofs.Sums.{sum-le, sum-most, sum-at, list-at}
+use Rattle.numerals.proofs.Sums.{sum-le, sum-most, sum-at}
 use Rattle.expansion.proofs.Turns.{good-after, formed-after, length-le, length-oldest, oldest-after}
 use Rattle.packing.specs.Count.{Services, services, volume, targetsOf}
 use Rattle.packing.specs.Demand.{Fitting}
 use Rattle.packing.specs.Grants.{Grants, total}
 use Rattle.packing.specs.Table.{ruleBudget, frameOf, listFor, table, problem, granted, oneEach}
-use Rattle.packing.specs.Answer.{numbered, linesMade}
+use Rattle.packing.specs.Answer.{servicesWith, linesMade}
 use Rattle.packing.specs.Inner.Premises.{Balanced}
 use Rattle.packing.proofs.Demand.{granted-fitting, one-fits}
 use Rattle.packing.proofs.Tables.{length-table}
@@ -31,7 +32,7 @@ use Rattle.sheets.specs.PercentageSheet.{Sheet, readSheet}
 use Rattle.sheets.specs.Inner.Premises.{checkTable}
 use Rattle.sheets.specs.Calls.{servicesIn, tableFor}
 use Rattle.sheets.proofs.Ladder.{Ladder, ladder, ladder-some, all-labelled, Granted, Admits, table-sorted}
-use Rattle.sheets.proofs.SheetLimits.{Limits, limits, sum-places}
+use Rattle.sheets.proofs.SheetLimits.{Row, row-rises, row-most, Limits, limits, sum-places}
 use Rattle.sheets.proofs.TableChecks.{InOrder, Proper, checked}
 
 -- 1,000,000 × 2^12, and 10,000 times that
@@ -41,24 +42,30 @@ mostImbalance = 4096000000
 abbrev mostCost : ℕ
 mostCost = 40960000000000
 
+-- the labels of a service's backends are ids, no two equal
+record Ids (labels ws : List ℕ) : Type 0 where
+  distinct : Distinct (λ b. getD labels b nobody) (length ws)
+  limits : (b : ℕ) → b < length ws → (1 ≤ getD labels b nobody) × (getD labels b nobody ≤ mostId)
+
+named : {labels ws : List ℕ} → Ids labels ws → Labelled (λ b. getD labels b nobody) (length ws)
+named ids b l e = omega (arith, ids .limits b l .0)
+
+-- those of a sheet are such
+row-ids : {labels ws : List ℕ} → Row labels ws → Ids labels ws
+row-ids {labels} {ws} r =
+    record {
+      distinct = rises-distinct labels (length ws) (row-rises r);
+      limits = λ b l. (omega (arith, row-rises r b l), row-most r b l);
+    }
+
 -- a list of the expansion is a ladder
-module _ (k tolerance : ℕ) (labels ws : List ℕ) (one : 1 ≤ k) (few : length ws ≤ mostBackends)
-    (balanced : sumTo (length ws) (λ b. getD ws b 0) ≡ unit) (numbered : labels ≡ listTo (length ws) suc) where
+module _ (k tolerance : ℕ) (labels ws : List ℕ) (one : 1 ≤ k) (balanced : sumTo (length ws) (λ b. getD ws b 0) ≡ unit) (ids : Ids labels ws) where
   abbrev F : Frame
   F = frame k unit tolerance labels ws
 
-  distinct : Distinct (λ b. getD labels b nobody) (length ws)
-  distinct = rw numbered (numbers-distinct (length ws))
-
-  -- the labels are the numbers from 1
-  label-limits : (b : ℕ) → b < length ws → (1 ≤ getD labels b nobody) × (getD labels b nobody ≤ mostBackends)
-  label-limits b l =
-      let is : getD labels b nobody ≡ suc b = rw numbered (list-at (length ws) suc b nobody l) in
-      (omega arith, omega arith)
-
   sound : Sound F
   unfolding unit
-  sound = base-sound k unit tolerance labels ws one (omega arith) balanced distinct (rw numbered (numbers-named (length ws)))
+  sound = base-sound k unit tolerance labels ws one (omega arith) balanced (ids .distinct) (named ids)
 
   list-ladder : (x : ℕ) → Ladder (after F x)
   unfolding frame firstRule
@@ -73,8 +80,8 @@ module _ (k tolerance : ℕ) (labels ws : List ℕ) (one : 1 ≤ k) (few : lengt
       record {
         steps = list-ladder x;
         labelled =
-            all-labelled k (λ b. getD labels b nobody) (length ws) (after F x) label-limits
-            (formed-after F sound (base-formed k unit tolerance labels ws one (omega arith) balanced distinct) x);
+            all-labelled k (λ b. getD labels b nobody) (length ws) (after F x) (ids .limits)
+            (formed-after F sound (base-formed k unit tolerance labels ws one (omega arith) balanced (ids .distinct)) x);
         few = omega (arith, length-le F x);
       }
 
@@ -96,26 +103,26 @@ module _ (S : Sheet) (L : Limits S) where
   g = granted T (S .tolerance) oneEach (S .capacity)
 
   count : services T ≡ length (S .volumes)
-  unfolding services servicesIn numbered
+  unfolding services servicesIn servicesWith
   count = refl
 
   weigh : (s : ℕ) → s < length (S .volumes) → sumTo (length (getD (S .weights) s [])) (λ b. getD (getD (S .weights) s []) b 0) ≡ unit
   weigh s l = sum-places (getD (S .weights) s []) ∙ L .row s l .balanced
 
-  -- a service's labels are the numbers from 1
-  numbers : (s : ℕ) → getD (T .labels) s [] ≡ listTo (length (getD (S .weights) s [])) suc
-  unfolding servicesIn listTo numbered
-  numbers s = List·getD-map (λ (own : List ℕ). listTo (length own) suc) (S .weights) s []
+  -- a service's labels are its ids
+  service-ids : (s : ℕ) → s < length (S .volumes) → Ids (getD (T .labels) s []) (getD (S .weights) s [])
+  unfolding servicesIn servicesWith
+  service-ids s l = row-ids (L .row s l)
 
   pub balanced : Balanced T
-  unfolding servicesIn services targetsOf backends weight label unit numbered
+  unfolding servicesIn services targetsOf backends weight label unit servicesWith
   balanced =
       record {
         bits = L .bits;
         positive = omega arith;
         weigh = weigh;
-        distinct = λ s l. rw (numbers s) (numbers-distinct (length (getD (S .weights) s [])));
-        labelled = λ s l b m. rw (numbers s) (numbers-named (length (getD (S .weights) s [])) b m);
+        distinct = λ s l. service-ids s l .distinct;
+        labelled = λ s l. named (service-ids s l);
       }
 
   pub enough-room : sumTo (services T) oneEach ≤ S .capacity
@@ -127,33 +134,33 @@ module _ (S : Sheet) (L : Limits S) where
   granted-oldest :
       (s : ℕ) → s < length (S .volumes)
       → (x : ℕ) × (x < mostRules) × (oldest (g s) (listFor T (S .tolerance) s) ≡ after (frameOf T (S .tolerance) s) x)
-  unfolding listFor frameOf servicesIn services targetsOf numbered
+  unfolding listFor frameOf servicesIn services targetsOf servicesWith
   granted-oldest s l = (
     min (g s - 1) (mostRules - 1),
     omega arith,
-    oldest-list (S .k) (S .tolerance) (getD (T .labels) s []) (getD (S .weights) s []) (L .bits) (L .row s l .few) (weigh s l) (numbers s) (g s)
+    oldest-list (S .k) (S .tolerance) (getD (T .labels) s []) (getD (S .weights) s []) (L .bits) (weigh s l) (service-ids s l) (g s)
         (fitting .enough s l),
   )
 
   all-granted : (s : ℕ) → s < length (S .volumes) → Granted (S .k) (oldest (g s) (listFor T (S .tolerance) s))
-  unfolding frameOf servicesIn targetsOf numbered
+  unfolding frameOf servicesIn targetsOf servicesWith
   all-granted s l =
       let o = granted-oldest s l in
-      rw (o .2) (list-granted (S .k) (S .tolerance) (getD (T .labels) s []) (getD (S .weights) s []) (L .bits) (L .row s l .few) (weigh s l) (numbers s)
+      rw (o .2) (list-granted (S .k) (S .tolerance) (getD (T .labels) s []) (getD (S .weights) s []) (L .bits) (weigh s l) (service-ids s l)
       (o .0) (o .1))
 
   imbalance-most :
       (s : ℕ) → s < length (S .volumes) → imbalance (frameOf T (S .tolerance) s .targets) (oldest (g s) (listFor T (S .tolerance) s)) ≤ mostImbalance
-  unfolding frameOf servicesIn targetsOf numbered
+  unfolding frameOf servicesIn targetsOf servicesWith
   imbalance-most s l =
       let o = granted-oldest s l in
-      rw (o .2) (list-imbalance (S .k) (S .tolerance) (getD (T .labels) s []) (getD (S .weights) s []) (L .bits) (L .row s l .few) (weigh s l) (numbers s)
+      rw (o .2) (list-imbalance (S .k) (S .tolerance) (getD (T .labels) s []) (getD (S .weights) s []) (L .bits) (weigh s l) (service-ids s l)
       (o .0) (L .few-bits))
 
   cost-most :
       (s : ℕ) → s < length (S .volumes)
       → volume T s * stair (frameOf T (S .tolerance) s) (g s) (listFor T (S .tolerance) s) ≤ mostCost
-  unfolding stair volume servicesIn numbered
+  unfolding stair volume servicesIn servicesWith
   cost-most s l =
       let F : Frame = frameOf T (S .tolerance) s in
       let least : imbalance (F .targets) (oldest (g s) (listFor T (S .tolerance) s)) ≤ mostImbalance = imbalance-most s l in

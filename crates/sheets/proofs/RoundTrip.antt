@@ -14,7 +14,7 @@ use Rattle.packing.specs.Count.{Line}
 use Rattle.packing.specs.Answer.{cells}
 use Rattle.sheets.specs.Reading.{Reading, got, refused, unless, field}
 use Rattle.sheets.specs.FirstLine.{Opening}
-use Rattle.numerals.specs.Limits.{mostBits, mostBackends, mostServices, mostCapacity, textLimit, totalLimit}
+use Rattle.numerals.specs.Limits.{mostBits, mostId, mostServices, mostCapacity, textLimit, totalLimit}
 use Rattle.sheets.specs.RuleSheet.{Table, tableWord, tableText, placed, ruleFields, ruleLines, wholeTable, tableLine, readTable}
 use Rattle.sheets.specs.Calls.{linesFrom, brokenFrom, handedText, tableHanded}
 use Rattle.sheets.specs.Inner.TableNumbers.{line}
@@ -23,7 +23,7 @@ use Rattle.sheets.proofs.Readings.{not-got, got-same, unless-got, onFie
 use Rattle.sheets.proofs.OpeningLine.{Opened, opened}
 use Rattle.sheets.proofs.Joins.{join, join-split, by-number}
 use Rattle.sheets.proofs.TableChecks.{InOrder, formed, Proper, proper}
-use Rattle.sheets.proofs.TableTexts.{headRow, lineRow, rows, tableRows, table-joined, linesWidth, line-short, length-table}
+use Rattle.sheets.proofs.TableTexts.{headRow, lineRow, rows, tableRows, table-joined, linesWidth, mostLine, line-short, length-table}
 use Rattle.sheets.proofs.TableNumbers.{lines-cells, length-cells}
 use Rattle.sheets.proofs.NumbersText.{count-broken, whole-text}
 use Rattle.sheets.proofs.HandedSheet.{as-its-sheet}
@@ -55,7 +55,7 @@ line-only k before at fs l e =
     cc (
       only-text 1 mostServices (s .0) (field fs 0) (s .1) .text,
       suffix-only k (r .0) (r .1) (field fs 1) (r .2) .text,
-      only-text 1 mostBackends (b .0) (field fs 2) (b .1) .text,
+      only-text 1 mostId (b .0) (field fs 2) (b .1) .text,
     ) in
     by-number fs 0 3 (eqb-true (length fs) 3 (three .0)) ∙ row ∙ ap lineRow (got-same (sorted .1))
 
@@ -104,7 +104,7 @@ only text t e =
 
 -- From the table to the text and back: what was written passes.
 
-lines-short : (k : ℕ) → k ≤ mostBits → (before ls : List Line) → InOrder k before ls → linesWidth ls ≤ 20 * length ls
+lines-short : (k : ℕ) → k ≤ mostBits → (before ls : List Line) → InOrder k before ls → linesWidth ls ≤ mostLine * length ls
 unfolding linesWidth InOrder
 lines-short k few before [] h = omega arith
 lines-short k few before (l ∷ ls) h =

@@ -50,7 +50,7 @@ accepted k ls = got (record { k = k; total = 0; lines = linesFrom ls })
 abbrev cases : List Case
 cases =
     -- gaps between services, an equal suffix twice
-    reads "TABLE 2 4 0\n1 * 1\n64 *0 2\n64 *0 3\n64 * 32\n" (accepted 2 (1 ∷ 0 ∷ 0 ∷ 1 ∷ 64 ∷ 1 ∷ 0 ∷ 2 ∷ 64 ∷ 1 ∷ 0 ∷ 3 ∷ 64 ∷ 0 ∷ 0 ∷ 32 ∷ []))
+    reads "TABLE 2 4 0\n1 * 1\n64 *0 2\n64 *0 3\n64 * 9999\n" (accepted 2 (1 ∷ 0 ∷ 0 ∷ 1 ∷ 64 ∷ 1 ∷ 0 ∷ 2 ∷ 64 ∷ 1 ∷ 0 ∷ 3 ∷ 64 ∷ 0 ∷ 0 ∷ 9999 ∷ []))
     -- 1: nothing, LF missing, keyword, too few and too many fields, a blank line
     ∷ reads "" (refused no1 1)
     ∷ reads "TABLE 1 1 0" (refused no1 1)
@@ -67,7 +67,7 @@ cases =
     ∷ reads "TABLE 1 1 0\r\n1 * 1\n" (refused no2 1)
     ∷ reads "TABLE 1 1 0\n65 * 1\n" (refused no2 2)
     ∷ reads "TABLE 1 1 0\n1 *00 1\n" (refused no2 2)
-    ∷ reads "TABLE 1 1 0\n1 * 33\n" (refused no2 2)
+    ∷ reads "TABLE 1 1 0\n1 * 10000\n" (refused no2 2)
     ∷ reads "TABLE 1 1 0\n1  1\n" (refused no2 2)
     -- 5: only line 1
     ∷ reads "TABLE 1 1 0\n" (refused no5 1)
@@ -145,7 +145,7 @@ pub record Handed : Type 0 where
   pub no-service : tableHanded 1 0 (0 ∷ 0 ∷ 0 ∷ 1 ∷ []) ≡ refused no2 0
   pub past-service : tableHanded 1 0 (65 ∷ 0 ∷ 0 ∷ 1 ∷ []) ≡ refused no2 0
   pub no-backend : tableHanded 1 0 (1 ∷ 0 ∷ 0 ∷ 0 ∷ []) ≡ refused no2 0
-  pub past-backend : tableHanded 1 0 (1 ∷ 0 ∷ 0 ∷ 33 ∷ []) ≡ refused no2 0
+  pub past-backend : tableHanded 1 0 (1 ∷ 0 ∷ 0 ∷ 10000 ∷ []) ≡ refused no2 0
   pub wide : tableHanded 1 0 (1 ∷ 1 ∷ 2 ∷ 1 ∷ []) ≡ refused no2 0
   pub star : tableHanded 1 0 (1 ∷ 1 ∷ 0 ∷ 1 ∷ []) ≡ refused no9 0
   -- numbers left over: 1 at their turn, behind line 1 and the whole lines, and before the end
@@ -196,9 +196,9 @@ long-sheet text h = rw (lt-leb (length text) textLimit h)
 
 -- 4 for percentage sheets: a 33rd weight, before its fields, and a 65th service, after its keyword and before its fields
 pub record TooManies : Type 0 where
-  pub weights : readSheet (bytes "SHEET 1 0 1\nSERVICE x" ++ times 33 (bytes " 100") ++ 10 ∷ []) ≡ refused no4 2
-  pub services : readSheet (bytes "SHEET 1 0 1\n" ++ times 64 (bytes "SERVICE 1 100\n") ++ bytes "SERVICE\n") ≡ refused no4 66
-  pub keyword : readSheet (bytes "SHEET 1 0 1\n" ++ times 64 (bytes "SERVICE 1 100\n") ++ bytes "SERVIC\n") ≡ refused no1 66
+  pub weights : readSheet (bytes "SHEET 1 0 1\nSERVICE x" ++ times 33 (bytes " 1:100") ++ 10 ∷ []) ≡ refused no4 2
+  pub services : readSheet (bytes "SHEET 1 0 1\n" ++ times 64 (bytes "SERVICE 1 1:100\n") ++ bytes "SERVICE\n") ≡ refused no4 66
+  pub keyword : readSheet (bytes "SHEET 1 0 1\n" ++ times 64 (bytes "SERVICE 1 1:100\n") ++ bytes "SERVIC\n") ≡ refused no1 66
 
 pub too-manies : TooManies
 unfolding bytes readSheet textLimit sheetLine firstLine openingLines openingFields whole serviceLines serviceFields sum weightFields same onField

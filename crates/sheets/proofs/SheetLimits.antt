@@ -1,66 +1,43 @@
--- The limits of a percentage sheet that was read: of line 1, of the number of services, of each volume and of each row of weights.
-use Prim.Native.Nat.{ℕ, zero, suc, _+_, _-_, _*_, _^_, _≤_, _<_}
+-- The limits of a percentage sheet that was read: of line 1, of the number of services, of each volume and of the backends of each service.
+use Prim.Native.Nat.{ℕ, zero, suc, _+_, _-_, _≤_, _<_}
 use mathlib.Core.Path.{_≡_, refl, sym, ap, _∙_}
+use mathlib.Core.Bool.{true}
 use mathlib.Core.List.{List, [], _∷_}
 use native.Mathlib.Nat.{le-of-suc-le-suc}
 use native.Mathlib.Numerals.{one-add}
 use native.Mathlib.Omega.{arith}
-use lib.Dec.{leb}
 use lib.ListN.{length, getD, drop, length-drop}
-use borrow.Author.Tests.{ltb-true, leb-true, eqb-true}
-use Rattle.numerals.specs.Digits.{onValue}
-use Rattle.numerals.specs.Decimal.{number}
-use Rattle.numerals.specs.Percentage.{atMostAll, percentOf, percentage}
+use borrow.Author.Tests.{ltb-true, leb-true, eqb-true, le-leb, eq-eqb}
 use Rattle.numerals.specs.Text.{split}
-use Rattle.numerals.specs.declared.digits.Number.{Number}
-use Rattle.numerals.specs.declared.digits.Number.the-variants.{Value, Bad}
-use Rattle.numerals.proofs.Base.{picked}
 use Rattle.numerals.proofs.Decimal.{only-text}
-use Rattle.numerals.specs.Limits.{mostBits, mostBackends, mostServices, mostCapacity, mostVolume, decimals, unit}
+use Rattle.numerals.specs.Limits.{mostBits, mostBackends, mostId, mostServices, mostCapacity, mostVolume, decimals, unit}
 use Rattle.numerals.specs.Sums.{sumTo}
 use Rattle.numerals.proofs.Sums.{sum-none, sum-suc, sum-ext, sum-split}
+use Rattle.numerals.proofs.Searches.{true-all}
+use Rattle.expansion.specs.Answer.{idBefore, isBackend, checkWeights}
+use Rattle.expansion.specs.declared.call.Checked.the-variants.{Sound as Passed}
+use Rattle.expansion.proofs.Checks.{weights-sum}
+use Rattle.expansion.proofs.Ids.{Rises}
 use Rattle.sheets.specs.Reading.{got, field}
 use Rattle.sheets.specs.FirstLine.{Opening}
-use Rattle.sheets.specs.PercentageSheet.{Sheet, Service, weightFields, sum, serviceFields, serviceLines, volumesOf, weightsOf, whole, sheetLine}
-use Rattle.sheets.specs.PercentageSheet.{readSheet}
+use Rattle.sheets.specs.PercentageSheet.{Sheet, Service, Weights, weightFields, sum, serviceFields, serviceLines, volumesOf}
+use Rattle.sheets.specs.PercentageSheet.{idsOf, weightsOf, whole, sheetLine, readSheet}
 use Rattle.sheets.proofs.Readings.{got-same, unless-got, onField-got, then-got}
 use Rattle.sheets.proofs.OpeningLine.{opened}
+use Rattle.sheets.proofs.BackendFields.{percent-limit}
+use Rattle.sheets.proofs.TableChecks.{is-within}
 
--- a percentage is at most 100
+-- ids above one that stands before them, each above the one before it
+abbrev pub Ascending : ℕ → List ℕ → Type 0
+Ascending before [] = Unit {0}
+Ascending before (id ∷ ids) = (before < id) × (id ≤ mostId) × Ascending id ids
 
-not-value : {P : Type 0} (v : ℕ) → Bad ≡ Value v → P
-not-value v h = absurd (let z : _≡_ {A = ℕ} 0 1 = cc in omega arith)
-
-on-value : (n : Number) (f : ℕ → Number) (v : ℕ) → onValue n f ≡ Value v → (u : ℕ) × (f u ≡ Value v)
-unfolding onValue
-on-value (Value u) f v h = (u, h)
-on-value Bad f v h = not-value v h
-
-at-most : (d u v : ℕ) → atMostAll d u ≡ Value v → v ≤ 100 * 10 ^ d
-unfolding atMostAll
-at-most d u v h =
-    let p = picked (leb u (100 * 10 ^ d)) u v h in
-    rw (← p .1) (leb-true u (100 * 10 ^ d) (p .0))
-
-parts-limit : (d v : ℕ) (ls : List (List ℕ)) → percentOf d ls ≡ Value v → v ≤ 100 * 10 ^ d
-unfolding percentOf
-parts-limit d v [] h = not-value v h
-parts-limit d v (w ∷ []) h =
-    let n = on-value _ _ v h in at-most d (n .0 * 10 ^ d) v (n .1)
-parts-limit d v (w ∷ f ∷ []) h =
-    let n = on-value _ _ v h in
-    let u = on-value _ _ v (n .1) in
-    at-most d (n .0 * 10 ^ d + u .0) v (u .1)
-parts-limit d v (w ∷ f ∷ g ∷ gs) h = not-value v h
-
-pub percent-limit : (d v : ℕ) (bs : List ℕ) → percentage d bs ≡ Value v → v ≤ 100 * 10 ^ d
-unfolding percentage
-percent-limit d v bs h = parts-limit d v (split 46 bs) h
-
--- the weights of a service: 1 to 32 of them, each at most the unit, the unit together
-pub record Row (ws : List ℕ) : Type 0 where
+-- the backends of a service: 1 to 32 of them, their ids ascending, each weight at most the unit, the unit together
+pub record Row (ids ws : List ℕ) : Type 0 where
   pub some : 1 ≤ length ws
   pub few : length ws ≤ mostBackends
+  pub paired : length ids ≡ length ws
+  pub ascends : Ascending 0 ids
   pub small : (b : ℕ) → b < length ws → getD ws b 0 ≤ unit
   pub balanced : sum ws ≡ unit
 
@@ -74,6 +51,39 @@ sum-places (w ∷ ws) =
     sum-ext (length ws) (λ i. f (1 + i)) (λ i. getD ws i 0) (λ i l. ap f (one-add i)) in
     rw (← one-add (length ws)) (omega (arith, sum-split 1 (length ws) f, sum-suc 0 f, sum-none f, rest, sum-places ws))
 
+-- the ids in terms of the calls without a text: each is above the one before it
+ascends-first : (before : ℕ) (ids : List ℕ) → Ascending before ids → 0 < length ids → before < getD ids 0 0
+ascends-first before [] a l = absurd (omega arith)
+ascends-first before (id ∷ ids) a l = a .0
+
+ascends-next : (before : ℕ) (ids : List ℕ) → Ascending before ids → (b : ℕ) → suc b < length ids → getD ids b 0 < getD ids (suc b) 0
+ascends-next before [] a b l = absurd (omega arith)
+ascends-next before (id ∷ ids) a zero l = ascends-first id ids (a .2) (omega arith)
+ascends-next before (id ∷ ids) a (suc b) l = ascends-next id ids (a .2) b (omega arith)
+
+ascends-most : (before : ℕ) (ids : List ℕ) → Ascending before ids → (b : ℕ) → b < length ids → getD ids b 0 ≤ mostId
+ascends-most before [] a b l = absurd (omega arith)
+ascends-most before (id ∷ ids) a zero l = a .1
+ascends-most before (id ∷ ids) a (suc b) l = ascends-most id ids (a .2) b (omega arith)
+
+module _ {ids ws : List ℕ} (r : Row ids ws) where
+  pub row-rises : Rises ids (length ws)
+  unfolding idBefore
+  row-rises zero l = ascends-first 0 ids (r .ascends) (omega (arith, r .paired))
+  row-rises (suc b) l = ascends-next 0 ids (r .ascends) b (omega (arith, r .paired))
+
+  pub row-most : (b : ℕ) → b < length ws → getD ids b 0 ≤ mostId
+  row-most b l = ascends-most 0 ids (r .ascends) b (omega (arith, r .paired))
+
+  -- they pass the checks of a call without a text
+  pub row-passes : checkWeights ids ws ≡ Passed
+  unfolding isBackend
+  row-passes =
+      let each : (b : ℕ) → b < length ws → isBackend ids ws b ≡ true =
+      λ b l. rw (is-within (suc (idBefore ids b)) mostId (getD ids b 0) (row-rises b l) (row-most b l), le-leb (getD ws b 0) unit (r .small b l)) in
+      weights-sum ids ws (omega (arith, r .some)) (r .few) (r .paired) (true-all (length ws) (isBackend ids ws) each)
+      ∙ simp (eq-eqb _ unit (sum-places ws ∙ r .balanced))
+
 pub record Limits (S : Sheet) : Type 0 where
   pub bits : 1 ≤ S .k
   pub few-bits : S .k ≤ mostBits
@@ -82,9 +92,10 @@ pub record Limits (S : Sheet) : Type 0 where
   pub some : 1 ≤ length (S .volumes)
   pub few : length (S .volumes) ≤ mostServices
   pub room : length (S .volumes) ≤ S .capacity
+  pub named : length (S .ids) ≡ length (S .volumes)
   pub rows : length (S .weights) ≡ length (S .volumes)
   pub volume : (s : ℕ) → s < length (S .volumes) → getD (S .volumes) s 0 ≤ mostVolume
-  pub row : (s : ℕ) → s < length (S .volumes) → Row (getD (S .weights) s [])
+  pub row : (s : ℕ) → s < length (S .volumes) → Row (getD (S .ids) s []) (getD (S .weights) s [])
 
 -- line 1
 pub record HeadLimits (o : Opening) : Type 0 where
@@ -110,22 +121,37 @@ each-more : (w : ℕ) (ws : List ℕ) (m : ℕ) → w ≤ m → ((b : ℕ) → b
 each-more w ws m h k zero l = h
 each-more w ws m h k (suc b) l = k b (le-of-suc-le-suc l)
 
-weight-limits :
-    (line : ℕ) (fs : List (List ℕ)) (ws : List ℕ) → weightFields line fs ≡ got ws
-    → (length ws ≡ length fs) × ((b : ℕ) → b < length ws → getD ws b 0 ≤ unit)
+-- what the backends of a line come to
+record Lined (before : ℕ) (fs : List (List ℕ)) (ws : Weights) : Type 0 where
+  named : length (ws .ids) ≡ length fs
+  size : length (ws .weights) ≡ length fs
+  ascends : Ascending before (ws .ids)
+  small : (b : ℕ) → b < length (ws .weights) → getD (ws .weights) b 0 ≤ unit
+
+weight-limits : (line before : ℕ) (fs : List (List ℕ)) (ws : Weights) → weightFields line before fs ≡ got ws → Lined before fs ws
 unfolding weightFields unit
-weight-limits line [] ws e = rw (← got-same e) (refl, λ b l. absurd (omega arith))
-weight-limits line (f ∷ fs) ws e =
-    let w = onField-got _ _ _ e in
+weight-limits line before [] ws e =
+    rw (← got-same e) (record { named = refl; size = refl; ascends = tt; small = λ b l. absurd (omega arith) })
+weight-limits line before (f ∷ fs) ws e =
+    let two = unless-got _ _ _ _ e in
+    let id = onField-got _ _ _ (two .1) in
+    let w = onField-got _ _ _ (id .2) in
     let rest = then-got _ _ (w .2) in
-    let more = weight-limits line fs (rest .0) (rest .1) in
-    let first : w .0 ≤ unit = percent-limit decimals (w .0) f (w .1) in
-    rw (← got-same (rest .2)) (ap suc (more .0), each-more (w .0) (rest .0) unit first (more .1))
+    let more = weight-limits line (id .0) fs (rest .0) (rest .1) in
+    let n = only-text (suc before) mostId (id .0) _ (id .1) in
+    let first : w .0 ≤ unit = percent-limit decimals (w .0) _ (w .1) in
+    rw (← got-same (rest .2))
+    (record {
+      named = ap suc (more .named);
+      size = ap suc (more .size);
+      ascends = (n .low, n .high, more .ascends);
+      small = each-more (w .0) (rest .0 .weights) unit first (more .small);
+    })
 
 -- a line of a service
 pub record Served (s : Service) : Type 0 where
   pub volume : s .volume ≤ mostVolume
-  pub row : Row (s .weights)
+  pub row : Row (s .ids) (s .weights)
 
 service-limits : (i : ℕ) (fs : List (List ℕ)) (s : Service) → serviceFields i fs ≡ got s → (i < mostServices) × Served s
 unfolding serviceFields
@@ -137,8 +163,8 @@ service-limits i fs s e =
     let v = onField-got _ _ _ (most .1) in
     let ws = then-got _ _ (v .2) in
     let balanced = unless-got _ _ _ _ (ws .2) in
-    let weights = weight-limits (i + 2) (drop 2 fs) (ws .0) (ws .1) in
-    let long : length (ws .0) ≡ length fs - 2 = weights .0 ∙ length-drop 2 fs in (
+    let line = weight-limits (i + 2) 0 (drop 2 fs) (ws .0) (ws .1) in
+    let long : length (ws .0 .weights) ≡ length fs - 2 = line .size ∙ length-drop 2 fs in (
       ltb-true i mostServices (few .0),
       rw (← got-same (balanced .1))
           (record {
@@ -147,8 +173,10 @@ service-limits i fs s e =
                 record {
                   some = omega (arith, long, leb-true 3 (length fs) (three .0));
                   few = omega (arith, long, leb-true (length fs) (2 + mostBackends) (most .0));
-                  small = weights .1;
-                  balanced = eqb-true (sum (ws .0)) unit (balanced .0);
+                  paired = line .named ∙ sym (line .size);
+                  ascends = line .ascends;
+                  small = line .small;
+                  balanced = eqb-true (sum (ws .0 .weights)) unit (balanced .0);
                 };
           }),
     )
@@ -175,13 +203,20 @@ unfolding volumesOf
 volumes-length [] = refl
 volumes-length (s ∷ ss) = ap suc (volumes-length ss)
 
+ids-length : (ss : List Service) → length (idsOf ss) ≡ length ss
+unfolding idsOf
+ids-length [] = refl
+ids-length (s ∷ ss) = ap suc (ids-length ss)
+
 weights-length : (ss : List Service) → length (weightsOf ss) ≡ length ss
 unfolding weightsOf
 weights-length [] = refl
 weights-length (s ∷ ss) = ap suc (weights-length ss)
 
-served-at : (ss : List Service) → AllServed ss → (i : ℕ) → i < length ss → (getD (volumesOf ss) i 0 ≤ mostVolume) × Row (getD (weightsOf ss) i [])
-unfolding volumesOf weightsOf
+served-at :
+    (ss : List Service) → AllServed ss → (i : ℕ) → i < length ss
+    → (getD (volumesOf ss) i 0 ≤ mostVolume) × Row (getD (idsOf ss) i []) (getD (weightsOf ss) i [])
+unfolding volumesOf idsOf weightsOf
 served-at [] a i h = absurd (omega arith)
 served-at (s ∷ ss) a zero h = (a .0 .volume, a .0 .row)
 served-at (s ∷ ss) a (suc i) h = served-at ss (a .1) i (omega arith)
@@ -202,6 +237,7 @@ whole-limits o ss S H few a e =
       some = omega (arith, volumes-length ss, ltb-true 0 (length ss) (some .0));
       few = omega (arith, volumes-length ss);
       room = omega (arith, volumes-length ss, leb-true (length ss) (o .third) (room .0));
+      named = ids-length ss ∙ sym (volumes-length ss);
       rows = weights-length ss ∙ sym (volumes-length ss);
       volume = λ s l. served-at ss a s (omega (arith, volumes-length ss)) .0;
       row = λ s l. served-at ss a s (omega (arith, volumes-length ss)) .1;

@@ -8,13 +8,10 @@ use lib.ListN.{length, take, set}
 use lib.Seq.{take-suc-set}
 use borrow.Author.Tests.{ne-eqb}
 use Rattle.numerals.specs.Text.{split}
-use Rattle.numerals.specs.Percentage.{percentage}
-use Rattle.numerals.specs.declared.digits.Number.the-variants.{Value, Bad}
 use Rattle.numerals.specs.declared.refusal.Refusal.{Refusal}
-use Rattle.numerals.specs.declared.refusal.Refusal.the-variants.{Malformed, BadField}
-use Rattle.sheets.specs.Reading.{Reading, got, refused, then, unless, onField}
-use Rattle.sheets.specs.PercentageSheet.{weightFields, sum, serviceFields, serviceLines}
-use Rattle.numerals.specs.Limits.{decimals}
+use Rattle.numerals.specs.declared.refusal.Refusal.the-variants.{Malformed}
+use Rattle.sheets.specs.Reading.{Reading, got, refused, then, unless}
+use Rattle.sheets.specs.PercentageSheet.{Weights, backendBefore, sum, serviceFields, serviceLines}
 
 unfoldable pub behind : {A : Type 0} → List A → Reading (List A) → Reading (List A)
 behind done r = then r (λ xs. got (done ++ xs))
@@ -38,15 +35,35 @@ module _ {A : Type 0} where
   unfolding behind then
   behind-refused done why line = refl
 
--- the weights of a line
-module _ (line : ℕ) (done : List ℕ) (f : List ℕ) (fs : List (List ℕ)) where
-  pub weights-more : (w : ℕ) → percentage decimals f ≡ Value w → behind done (weightFields line (f ∷ fs)) ≡ behind (done ++ w ∷ []) (weightFields line fs)
-  unfolding weightFields onField
-  weights-more w e = rw (weightFields, e) (behind-one done w (weightFields line fs))
+-- the backends of a line
+unfoldable pub joined : Weights → Reading Weights → Reading Weights
+joined done r = then r (λ ws. got (record { ids = done .ids ++ ws .ids; weights = done .weights ++ ws .weights }))
 
-  pub weights-bad : percentage decimals f ≡ Bad → behind done (weightFields line (f ∷ fs)) ≡ refused BadField line
-  unfolding weightFields onField
-  weights-bad e = rw (weightFields, e) (behind-refused done BadField line)
+-- none, and one more behind others
+abbrev pub noBackend : Weights
+noBackend = record { ids = []; weights = [] }
+
+abbrev pub backendBehind : Weights → ℕ → ℕ → Weights
+backendBehind done id w = record { ids = done .ids ++ id ∷ []; weights = done .weights ++ w ∷ [] }
+
+pub joined-none : (r : Reading Weights) → joined noBackend r ≡ r
+unfolding joined then
+joined-none (got ws) = refl
+joined-none (refused why line) = refl
+
+module _ (done : Weights) where
+  pub joined-all : joined done (got noBackend) ≡ got done
+  unfolding joined then
+  joined-all = rw (append-nil (done .ids), append-nil (done .weights))
+
+  pub joined-refused : (why : Refusal) (line : ℕ) → joined done (refused why line) ≡ refused why line
+  unfolding joined then
+  joined-refused why line = refl
+
+  pub joined-one : (id w : ℕ) (r : Reading Weights) → joined done (then r (λ ws. got (backendBefore id w ws))) ≡ joined (backendBehind done id w) r
+  unfolding joined then
+  joined-one id w (got ws) = rw (append-assoc (done .ids) (id ∷ []) (ws .ids), append-assoc (done .weights) (w ∷ []) (ws .weights))
+  joined-one id w (refused why line) = refl
 
 pub sum-more : (ws : List ℕ) (w : ℕ) → sum (ws ++ w ∷ []) ≡ sum ws + w
 unfolding sum

@@ -15,7 +15,7 @@ use Rattle.packing.specs.Count.{Line}
 use Rattle.sheets.specs.Reading.{got, then, unless}
 use Rattle.sheets.specs.RuleSheet.{Table, countOf, inOrder, placed, closed, isLine, checkLines, checkEnd, checkSheet}
 use Rattle.sheets.specs.Inner.Premises.{checkTable}
-use Rattle.numerals.specs.Limits.{mostBits, mostBackends, mostServices, mostRules, mostCapacity, totalLimit}
+use Rattle.numerals.specs.Limits.{mostBits, mostId, mostServices, mostRules, mostCapacity, totalLimit}
 use Rattle.numerals.specs.Suffix.{isSuffix}
 use Rattle.sheets.proofs.Readings.{got-same, unless-got, then-got}
 
@@ -39,15 +39,15 @@ pub record Formed (k : ℕ) (l : Line) : Type 0 where
   pub short : l .rule .len ≤ k
   pub bits : l .rule .value < 2 ^ (l .rule .len)
   pub labelled : 1 ≤ l .rule .backend
-  pub backend : l .rule .backend ≤ mostBackends
+  pub backend : l .rule .backend ≤ mostId
 
 pub formed : (k : ℕ) (l : Line) → isLine k l ≡ true → Formed k l
 unfolding isLine isRule isSuffix
 formed k l h =
     let service = within 1 mostServices (l .service) (both-left (inLimits 1 mostServices (l .service)) _ h) in
     let rest = both-right (inLimits 1 mostServices (l .service)) _ h in
-    let rule = both-left (isRule k (l .rule)) (inLimits 1 mostBackends (l .rule .backend)) rest in
-    let backend = within 1 mostBackends (l .rule .backend) (both-right (isRule k (l .rule)) _ rest) in
+    let rule = both-left (isRule k (l .rule)) (inLimits 1 mostId (l .rule .backend)) rest in
+    let backend = within 1 mostId (l .rule .backend) (both-right (isRule k (l .rule)) _ rest) in
     record {
       numbered = service .0;
       service = service .1;
@@ -64,7 +64,7 @@ is-formed k l f =
       is-within 1 mostServices (l .service) (f .numbered) (f .service),
       le-leb (l .rule .len) k (f .short),
       lt-ltb (l .rule .value) (2 ^ (l .rule .len)) (f .bits),
-      is-within 1 mostBackends (l .rule .backend) (f .labelled) (f .backend),
+      is-within 1 mostId (l .rule .backend) (f .labelled) (f .backend),
     )
 
 -- a line that passed behind others

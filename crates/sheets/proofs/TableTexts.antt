@@ -7,7 +7,7 @@ use lib.ListN.{length, length-append}
 use Rattle.numerals.specs.Decimal.{width, decimal}
 use Rattle.numerals.specs.Suffix.{suffixText}
 use Rattle.numerals.specs.Text.{split}
-use Rattle.numerals.specs.Limits.{mostBits, mostBackends, mostServices}
+use Rattle.numerals.specs.Limits.{mostBits, mostId, mostServices}
 use Rattle.numerals.proofs.Decimal.{length-decimal, decimal-free, width-least}
 use Rattle.numerals.proofs.Fields.{Free}
 use Rattle.numerals.proofs.Suffix.{length-suffix, suffix-free}
@@ -86,10 +86,13 @@ unfoldable pub linesWidth : List Line → ℕ
 linesWidth [] = 0
 linesWidth (l ∷ ls) = lineWidth (l .service) (l .rule .len) (l .rule .backend) + linesWidth ls
 
--- a line in its limits has at most 20
-pub line-short : (service len backend : ℕ) → service ≤ mostServices → len ≤ mostBits → backend ≤ mostBackends → lineWidth service len backend ≤ 20
+-- a line in its limits has at most 22: two digits of the service, a star and twelve bits, four digits of the id, two spaces and the LF
+abbrev pub mostLine : ℕ
+mostLine = 22
+
+pub line-short : (service len backend : ℕ) → service ≤ mostServices → len ≤ mostBits → backend ≤ mostId → lineWidth service len backend ≤ mostLine
 line-short service len backend s l b =
-    omega (arith, width-least 1 service (omega arith), width-least 1 backend (omega arith))
+    omega (arith, width-least 1 service (omega arith), width-least 3 backend (omega arith))
 
 pub length-line : (l : Line) → length (lineText l) ≡ lineWidth (l .service) (l .rule .len) (l .rule .backend)
 unfolding lineText

@@ -23,14 +23,14 @@ use Rattle.packing.specs.Grants.{Grants, saving, next, rules, total, more, gran
 use Rattle.expansion.specs.declared.rule.Rule.{Rule}
 use Rattle.packing.specs.Count.{Line, services, volume, targetsOf, countedImbalance, counted, countedLargestExcess, countedLargestShortfall, ownRules}
 use Rattle.packing.specs.Table.{ruleBudget, frameOf, listFor, linesOf, tableOf, table, problem, granted, oneEach}
-use Rattle.packing.specs.Answer.{numbered, linesMade, endNumber, figuresTo, figuresMade, figuresBuffer, tableBuffer}
+use Rattle.packing.specs.Answer.{servicesWith, linesMade, endNumber, figuresTo, figuresMade, figuresBuffer, tableBuffer}
 use Rattle.packing.specs.Demand.{Fitting}
 use Rattle.expansion.specs.Answer.{inLimits}
 use Rattle.packing.specs.Cases.{line, sample as packable, p7Lines}
 use Rattle.packing.proofs.Cases.{lists, lists-are, packs-sample}
 use Rattle.sheets.specs.Reading.{Reading, got, refused, then, unless, onField, same}
-use Rattle.sheets.specs.PercentageSheet.{Sheet, weightFields, sum, serviceFields, serviceLines, volumesOf, weightsOf as rowsOf, whole}
-use Rattle.sheets.specs.PercentageSheet.{sheetLine, readSheet}
+use Rattle.sheets.specs.PercentageSheet.{Sheet, weightFields, sum, serviceFields, serviceLines, volumesOf, idsOf}
+use Rattle.sheets.specs.PercentageSheet.{weightsOf as rowsOf, whole, sheetLine, readSheet}
 use Rattle.sheets.specs.FirstLine.{openingFields, openingLines, firstLine}
 use Rattle.sheets.specs.RuleSheet.{Table, headText, lineText, linesText, tableText, onSuffix, countOf, inOrder, placed, ruleFields, ruleLines}
 use Rattle.sheets.specs.RuleSheet.{closed, wholeTable, tableLine, readTable, isLine, checkLines, checkEnd, checkSheet}
@@ -52,6 +52,7 @@ sample =
       tolerance = 20000;
       capacity = 5;
       volumes = 55 ∷ 45 ∷ [];
+      ids = (1 ∷ 2 ∷ 3 ∷ []) ∷ (1 ∷ 2 ∷ 3 ∷ []) ∷ [];
       weights = (166667 ∷ 333333 ∷ 500000 ∷ []) ∷ (250000 ∷ 250000 ∷ 500000 ∷ []) ∷ [];
     }
 
@@ -59,14 +60,14 @@ abbrev sampleTable : Table
 sampleTable = record { k = 5; total = 293333920; lines = p7Lines }
 
 abbrev sheetBytes : List ℕ
-sheetBytes = bytes "SHEET 5 2 5\nSERVICE 55 16.6667 33.3333 50\nSERVICE 45 25 25 50\n"
+sheetBytes = bytes "SHEET 5 2 5\nSERVICE 55 1:16.6667 2:33.3333 3:50\nSERVICE 45 1:25 2:25 3:50\n"
 
 abbrev tableBytes : List ℕ
 tableBytes = bytes "TABLE 5 5 293333920\n1 *0 2\n1 * 3\n2 *00 2\n2 *0 1\n2 * 3\n"
 
 -- the sample's table, by the definitions
 pub sample-packed : tableFor sample ≡ sampleTable
-unfolding tableFor services volume servicesIn numbered unit listTo linesMade table problem granted
+unfolding tableFor services volume servicesIn servicesWith unit listTo linesMade table problem granted
 sample-packed = made (packs-sample .amount) (packs-sample .lines)
   where
     made : {t : ℕ} {ls : List Line} → t ≡ 293333920 → ls ≡ p7Lines → record { k = 5; total = t; lines = ls } ≡ sampleTable
@@ -107,7 +108,7 @@ abbrev rival : Grants
 rival s = pick (eqb s 0) 4 1
 
 pub rival-fits : Fitting (servicesIn sample) oneEach 5 rival
-unfolding servicesIn services sumTo numbered
+unfolding servicesIn services sumTo servicesWith
 rival-fits = record { enough = one; room = omega arith }
   where
     one : (s : ℕ) → s < 2 → 1 ≤ rival s
@@ -119,19 +120,27 @@ pub rival-loses : counted (servicesIn sample) (table (servicesIn sample) 20000 r
 unfolding servicesIn unit sumTo listTo countTo allTo firstTo argmax lastmax matches firstMatch gives share backends label weight has wants excess
     shortfall imbalance giver receiver largestExcess largestShortfall firstRule frame isWithin reduction reductionAt term isNoGain isWhole
     termLength lowestPlace newRule step after listOf oldest place value valueFrom lowest services volume targetsOf ruleBudget frameOf
-    listFor linesOf tableOf table ownRules countedImbalance counted numbered
+    listFor linesOf tableOf table ownRules countedImbalance counted servicesWith
 rival-loses = refl
 
 -- P6 as a sheet: its whole list is in the table and ended as no gain, and excess and shortfall make just one suffix, as much as demand 3 allows
 
 abbrev thirds : Sheet
-thirds = record { k = 1; tolerance = 0; capacity = 2; volumes = 1 ∷ []; weights = (333334 ∷ 333333 ∷ 333333 ∷ []) ∷ [] }
+thirds =
+    record {
+      k = 1;
+      tolerance = 0;
+      capacity = 2;
+      volumes = 1 ∷ [];
+      ids = (1 ∷ 2 ∷ 3 ∷ []) ∷ [];
+      weights = (333334 ∷ 333333 ∷ 333333 ∷ []) ∷ [];
+    }
 
 abbrev thirdsTable : Table
 thirdsTable = record { k = 1; total = 666666; lines = line 1 1 0 2 ∷ line 1 0 0 1 ∷ [] }
 
-pub thirds-read : readSheet (bytes "SHEET 1 0 2\nSERVICE 1 33.3334 33.3333 33.3333\n") ≡ got thirds
-unfolding bytes readSheet textLimit sheetLine firstLine openingLines openingFields whole volumesOf rowsOf serviceLines serviceFields sum
+pub thirds-read : readSheet (bytes "SHEET 1 0 2\nSERVICE 1 1:33.3334 2:33.3333 3:33.3333\n") ≡ got thirds
+unfolding bytes readSheet textLimit sheetLine firstLine openingLines openingFields whole volumesOf idsOf rowsOf serviceLines serviceFields sum
     weightFields same onField unless then unit percentage percentOf split onto number isNumeral noLeadingZero allDigits isDigit value
     valueFrom onValue fraction atMostAll
 thirds-read = refl
@@ -148,7 +157,7 @@ unfolding tableFor servicesIn unit sumTo listTo countTo allTo firstTo argmax las
     wants excess shortfall imbalance giver receiver largestExcess largestShortfall firstRule frame isWithin reduction reductionAt term
     isNoGain isWhole termLength lowestPlace newRule step after endOf listOf oldest stair place value valueFrom lowest saving next rules
     total more grantStep grantsAfter packed services volume targetsOf ruleBudget frameOf listFor problem granted linesOf tableOf table
-    linesMade countedLargestExcess countedLargestShortfall ownRules numbered
+    linesMade countedLargestExcess countedLargestShortfall ownRules servicesWith
 thirds-tight = record { made = refl; entire = refl; ended = refl; above = refl; below = refl }
 
 -- The one call on the sample: made, and each buffer too short by one place.
@@ -167,7 +176,7 @@ unfolding sumTo countTo allTo argmax lastmax matches firstMatch gives share back
 figures-right = refl
 
 pub sample-figures : figuresFor sample ≡ sampleFigures
-unfolding figuresFor figuresMade figuresTo services volume servicesIn numbered unit listTo problem granted
+unfolding figuresFor figuresMade figuresTo services volume servicesIn servicesWith unit listTo problem granted
 sample-figures = made (packs-sample .first) (packs-sample .second) (lists-are 0) (lists-are 1)
   where
     made : {g h : ℕ} {own other : List Rule} → g ≡ 2 → h ≡ 3 → own ≡ lists 0 → other ≡ lists 1 → figures g h own other ≡ sampleFigures

@@ -14,7 +14,7 @@ use Rattle.expansion.specs.FirstMatch.{firstMatch, differing}
 use Rattle.packing.specs.Grants.{total}
 use Rattle.packing.specs.Count.{Line, Services, ownRules}
 use Rattle.packing.specs.Table.{problem, granted, oneEach}
-use Rattle.packing.specs.Answer.{numbered, linesMade, figuresMade, cells, noBuffer, figuresBuffer, tableBuffer}
+use Rattle.packing.specs.Answer.{servicesWith, linesMade, figuresMade, cells, noBuffer, figuresBuffer, tableBuffer}
 use Rattle.sheets.specs.Reading.{Reading, got, refused, unless}
 use Rattle.sheets.specs.PercentageSheet.{Sheet, readSheet}
 use Rattle.sheets.specs.RuleSheet.{Table, headText, linesText, tableText, countOf, readTable, checkSheet}
@@ -59,9 +59,9 @@ abbrev pub isTable : TableRead → Bool
 isTable (table-read.Made r) = true
 isTable (table-read.Refused r) = false
 
--- the services of a sheet, as the count is fed them; backends are labelled by their number from 1
+-- the services of a sheet, as the count is fed them; backends are labelled by their ids
 unfoldable pub servicesIn : Sheet → Services
-servicesIn S = numbered (S .k) (S .volumes) (S .weights)
+servicesIn S = servicesWith (S .k) (S .volumes) (S .ids) (S .weights)
 
 -- the table of a sheet
 unfoldable pub tableFor : Sheet → Table
@@ -150,7 +150,7 @@ readAnswer text room = answered table-read.Refused 0 (readTable text) (λ t. rea
 unfoldable pub hasService : Table → ℕ → Bool
 hasService t n = ltb 0 (countOf n (t .lines))
 
--- lookup (document 01, "Lookup and churn"): the label of the backend of the first matching line of service n
+-- lookup (document 01, "Lookup and churn"): the id of the backend of the first matching line of service n
 unfoldable pub lookupIn : Table → ℕ → ℕ → Answer
 lookupIn t n address = pick (hasService t n) (Value (firstMatch (ownRules n (t .lines)) address)) (Refused (refusedAt no8 0))
 

@@ -1,4 +1,4 @@
--- What document 01 says of the percentage sheet, the rule sheet, lookup, churn and the count of shares, and what an update reads (document 02, Req 03).
+-- What document 01 says of the percentage sheet, the rule sheet, lookup, churn and the count of a share, and what an update reads (document 02, Req 03 and 04).
 -- `specs/` is what a reader must believe: the definitions that the public contracts cite, and the worked cases, in files named so. `specs/Inner/` has
 -- the contracts of inner functions, which are proved against these.
 pub mod Reading

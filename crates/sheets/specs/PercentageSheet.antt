@@ -1,4 +1,4 @@
--- The percentage sheet (document 01, under that heading), with every refusal in its order.
+-- The percentage sheet (document 01, under that heading; its backends have ids by document 02, Req 04), with every refusal in its order.
 use Prim.Native.Nat.{ℕ, zero, suc, _+_}
 use mathlib.Core.Bool.{Bool, true, false}
 use mathlib.Core.List.{List, [], _∷_}
@@ -7,8 +7,8 @@ use lib.ListN.{length, drop}
 use Rattle.numerals.specs.Decimal.{number}
 use Rattle.numerals.specs.Percentage.{percentage}
 use Rattle.numerals.specs.Text.{split}
-use Rattle.numerals.specs.Limits.{mostBackends, mostServices, mostCapacity, mostVolume, decimals, unit}
-use Rattle.numerals.specs.Refusals.{no1, no3, no4, no5, no6}
+use Rattle.numerals.specs.Limits.{mostBackends, mostId, mostServices, mostCapacity, mostVolume, decimals, unit}
+use Rattle.numerals.specs.Refusals.{no1, no2, no3, no4, no5, no6}
 use Rattle.sheets.specs.Reading.{Reading, got, then, unless, onField, same, field}
 use Rattle.sheets.specs.FirstLine.{Opening, firstLine}
 
@@ -18,11 +18,18 @@ pub record Sheet : Type 0 where
   pub tolerance : ℕ
   pub capacity : ℕ
   pub volumes : List ℕ
+  pub ids : List (List ℕ)
   pub weights : List (List ℕ)
 
 -- what the line of a service says
 pub record Service : Type 0 where
   pub volume : ℕ
+  pub ids : List ℕ
+  pub weights : List ℕ
+
+-- the backends of a line: their ids and their weights
+pub record Weights : Type 0 where
+  pub ids : List ℕ
   pub weights : List ℕ
 
 -- SHEET
@@ -33,16 +40,25 @@ sheetWord = 83 ∷ 72 ∷ 69 ∷ 69 ∷ 84 ∷ []
 abbrev pub serviceWord : List ℕ
 serviceWord = 83 ∷ 69 ∷ 82 ∷ 86 ∷ 73 ∷ 67 ∷ 69 ∷ []
 
--- the percentages of a line, from the left
-unfoldable pub weightFields : ℕ → List (List ℕ) → Reading (List ℕ)
-weightFields line [] = got []
-weightFields line (f ∷ fs) = onField (percentage decimals f) line (λ w. then (weightFields line fs) (λ ws. got (w ∷ ws)))
+-- a backend before others
+abbrev pub backendBefore : ℕ → ℕ → Weights → Weights
+backendBefore id w ws = record { ids = id ∷ ws .ids; weights = w ∷ ws .weights }
+
+-- the weights of a line, from the left, behind one with the id `before`: id:percentage (58 is ':'), the id at most mostId and above the one before it
+unfoldable pub weightFields : ℕ → ℕ → List (List ℕ) → Reading Weights
+weightFields line before [] = got (record { ids = []; weights = [] })
+weightFields line before (f ∷ fs) =
+    let parts = split 58 f in
+    unless (eqb (length parts) 2) no2 line
+    (onField (number (suc before) mostId (field parts 0)) line (λ id.
+    onField (percentage decimals (field parts 1)) line (λ w.
+    then (weightFields line id fs) (λ ws. got (backendBefore id w ws)))))
 
 unfoldable pub sum : List ℕ → ℕ
 sum [] = 0
 sum (w ∷ ws) = w + sum ws
 
--- the line of service i from 0, by its fields: SERVICE volume p1 .. pM
+-- the line of service i from 0, by its fields: SERVICE volume id1:p1 .. idM:pM; ids are from 1 on, so that the first is above 0
 unfoldable pub serviceFields : ℕ → List (List ℕ) → Reading Service
 serviceFields i fs =
     unless (same (field fs 0) serviceWord) no1 (i + 2)
@@ -50,9 +66,9 @@ serviceFields i fs =
     (unless (leb 3 (length fs)) no1 (i + 2)
     (unless (leb (length fs) (2 + mostBackends)) no4 (i + 2)
     (onField (number 0 mostVolume (field fs 1)) (i + 2) (λ v.
-    then (weightFields (i + 2) (drop 2 fs)) (λ ws.
-    unless (eqb (sum ws) unit) no3 (i + 2)
-    (got (record { volume = v; weights = ws }))))))))
+    then (weightFields (i + 2) 0 (drop 2 fs)) (λ ws.
+    unless (eqb (sum (ws .weights)) unit) no3 (i + 2)
+    (got (record { volume = v; ids = ws .ids; weights = ws .weights }))))))))
 
 -- the lines of the services from service i on; what stands behind the last LF is a line without one, and no line if it is empty
 unfoldable pub serviceLines : ℕ → List (List ℕ) → Reading (List Service)
@@ -65,6 +81,10 @@ unfoldable pub volumesOf : List Service → List ℕ
 volumesOf [] = []
 volumesOf (s ∷ ss) = s .volume ∷ volumesOf ss
 
+unfoldable pub idsOf : List Service → List (List ℕ)
+idsOf [] = []
+idsOf (s ∷ ss) = s .ids ∷ idsOf ss
+
 unfoldable pub weightsOf : List Service → List (List ℕ)
 weightsOf [] = []
 weightsOf (s ∷ ss) = s .weights ∷ weightsOf ss
@@ -74,7 +94,7 @@ unfoldable pub whole : ℕ → ℕ → ℕ → List Service → Reading Sheet
 whole k tolerance capacity ss =
     unless (ltb 0 (length ss)) no5 1
     (unless (leb (length ss) capacity) no6 1
-    (got (record { k = k; tolerance = tolerance; capacity = capacity; volumes = volumesOf ss; weights = weightsOf ss })))
+    (got (record { k = k; tolerance = tolerance; capacity = capacity; volumes = volumesOf ss; ids = idsOf ss; weights = weightsOf ss })))
 
 -- line 1: SHEET k tolerance C
 unfoldable pub sheetLine : List ℕ → Reading Opening

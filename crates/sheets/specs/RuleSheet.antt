@@ -16,9 +16,9 @@ use Rattle.numerals.specs.Refusals.{no1, no2, no4, no5, no9, no10}
 use Rattle.packing.specs.Count.{Line, ownRules}
 use Rattle.sheets.specs.Reading.{Reading, got, refused, then, unless, onField, same, field}
 use Rattle.sheets.specs.FirstLine.{Opening, firstLine}
-use Rattle.numerals.specs.Limits.{mostBits, mostBackends, mostServices, mostRules, mostCapacity, totalLimit}
+use Rattle.numerals.specs.Limits.{mostBits, mostId, mostServices, mostRules, mostCapacity, totalLimit}
 
--- what a rule sheet says; its lines have the printed numbers: services 1 to 64, backends by their labels, 1 to 32
+-- what a rule sheet says; its lines have the printed numbers: services 1 to 64, backends by their ids, 1 to 9,999
 pub record Table : Type 0 where
   pub k : ℕ
   pub total : ℕ
@@ -71,7 +71,7 @@ ruleFields k before at fs =
     unless (eqb (length fs) 3) no1 at
     (onField (number 1 mostServices (field fs 0)) at (λ s.
     onSuffix (suffix k (field fs 1)) at (λ l v.
-    onField (number 1 mostBackends (field fs 2)) at (λ b.
+    onField (number 1 mostId (field fs 2)) at (λ b.
     let line : Line = record { service = s; rule = record { len = l; value = v; backend = b } } in
     placed before line at (got line)))))
 
@@ -108,7 +108,7 @@ readTable text =
 unfoldable pub isLine : ℕ → Line → Bool
 isLine k l =
     both (inLimits 1 mostServices (l .service))
-    (both (isRule k (l .rule)) (inLimits 1 mostBackends (l .rule .backend)))
+    (both (isRule k (l .rule)) (inLimits 1 mostId (l .rule .backend)))
 
 unfoldable pub checkLines : ℕ → List Line → List Line → Reading (List Line)
 checkLines k before [] = got before

@@ -53,7 +53,7 @@ twelve =
     ∷ makes p4
     ∷ makes p5
     ∷ leaves p6 333334 666666
-    ∷ packs "SHEET 5 2 5\nSERVICE 55 16.6667 33.3333 50\nSERVICE 45 25 25 50\n" (2 ∷ 3 ∷ [])
+    ∷ packs "SHEET 5 2 5\nSERVICE 55 1:16.6667 2:33.3333 3:50\nSERVICE 45 1:25 2:25 3:50\n" (2 ∷ 3 ∷ [])
     "TABLE 5 5 293333920\n1 *0 2\n1 * 3\n2 *00 2\n2 *0 1\n2 * 3\n"
     ∷ stands "*00100" 4
     ∷ reads "18.4.2" (refused no2 1)

@@ -1,5 +1,5 @@
--- What an update reads (document 02, Req 03): of a rule sheet the rules of a service, which are its old list, and of a percentage sheet its new weights
--- and the tolerance. The first sheet is read wholly, then the second; then the first that lacks the service, then unlike k.
+-- What an update reads (document 02, Req 03 and 04): of a rule sheet the rules of a service, which are its old list, and of a percentage sheet its
+-- new weights with their ids, and the tolerance. The first sheet is read wholly, then the second; then the first that lacks the service, then unlike k.
 use Prim.Native.Nat.{ℕ, _-_}
 use mathlib.Core.Bool.{Bool, true, false}
 use mathlib.Core.List.{List, []}
@@ -26,7 +26,10 @@ oldRules t n = ownRules n (t .lines)
 unfoldable pub hasWeights : Sheet → ℕ → Bool
 hasWeights S n = inLimits 1 (length (S .weights)) n
 
--- the new weights of service n
+-- the ids of the new weights of service n, and those weights
+unfoldable pub newIds : Sheet → ℕ → List ℕ
+newIds S n = getD (S .ids) (n - 1) []
+
 unfoldable pub newWeights : Sheet → ℕ → List ℕ
 newWeights S n = getD (S .weights) (n - 1) []
 
@@ -41,16 +44,17 @@ ofService refuse t S n a =
     (refuse (about 1 no8 0))
 
 -- the answer, where the lent buffers have so many places
-unfoldable pub updateIn : Table → Sheet → ℕ → ℕ → ℕ → UpdateRead
-updateIn t S n rulesRoom weightsRoom =
+unfoldable pub updateIn : Table → Sheet → ℕ → ℕ → ℕ → ℕ → UpdateRead
+updateIn t S n rulesRoom idsRoom weightsRoom =
     ofService Refused t S n
-    (pick (both (leb (length (numbersOf (oldRules t n))) rulesRoom) (leb (length (newWeights S n)) weightsRoom))
+    (pick
+    (both (leb (length (numbersOf (oldRules t n))) rulesRoom) (both (leb (length (newIds S n)) idsRoom) (leb (length (newWeights S n)) weightsRoom)))
     (Made (record { k = t .k; tolerance = S .tolerance; rules = length (oldRules t n); backends = length (newWeights S n) }))
     (Refused (refusedAt no7 0)))
 
-unfoldable pub updateReadAnswer : List ℕ → List ℕ → ℕ → ℕ → ℕ → UpdateRead
-updateReadAnswer old sheet n rulesRoom weightsRoom =
-    answered Refused 1 (readTable old) (λ t. answered Refused 2 (readSheet sheet) (λ S. updateIn t S n rulesRoom weightsRoom))
+unfoldable pub updateReadAnswer : List ℕ → List ℕ → ℕ → ℕ → ℕ → ℕ → UpdateRead
+updateReadAnswer old sheet n rulesRoom idsRoom weightsRoom =
+    answered Refused 1 (readTable old) (λ t. answered Refused 2 (readSheet sheet) (λ S. updateIn t S n rulesRoom idsRoom weightsRoom))
 
 -- both were read; only then are the lent buffers filled
 abbrev pub isRead : UpdateRead → Bool

@@ -11,8 +11,7 @@ pub struct Refused {
     pub of: usize,
 }
 
-// A number: how many bytes were written, the label of a backend, how many suffixes moved, or of how many bits the counted
-// suffixes are.
+// A number: how many bytes were written, the id of a backend, or how many suffixes moved.
 pub enum Answer {
     Value(usize),
     Refused(Refused),
@@ -40,6 +39,17 @@ pub struct TableRecord {
 
 pub enum TableRead {
     Made(TableRecord),
+    Refused(Refused),
+}
+
+// The share of a backend: how many suffixes of k bits it is given.
+pub struct ShareRecord {
+    pub k: usize,
+    pub share: u64,
+}
+
+pub enum ShareRead {
+    Made(ShareRecord),
     Refused(Refused),
 }
 

@@ -1,4 +1,4 @@
-// The percentage sheet, the rule sheet, the one call, lookup, churn, the count of shares and what an update reads.
+// The percentage sheet, the rule sheet, the one call, lookup, churn, the count of a share and what an update reads.
 mod answer;
 mod fields;
 mod first_line;
@@ -15,6 +15,8 @@ pub use answer::Answer;
 pub use answer::Plan;
 pub use answer::Planned;
 pub use answer::Refused;
+pub use answer::ShareRead;
+pub use answer::ShareRecord;
 pub use answer::TableRead;
 pub use answer::TableRecord;
 pub use answer::UpdateRead;
@@ -22,7 +24,7 @@ pub use answer::UpdateRecord;
 pub use planning::plan;
 pub use planning::split_sheet;
 pub use printing::write_table;
-pub use shares::count_shares;
+pub use shares::count_share;
 pub use tables::churn;
 pub use tables::lookup;
 pub use tables::read_table;

@@ -1,5 +1,5 @@
-// The reader of the percentage sheet, into memory of the library's own: the volume of each service, how many weights it
-// has, and the weights of all in one row.
+// The reader of the percentage sheet, into memory of the library's own: the volume of each service, how many backends it
+// has, and the ids and the weights of all in a row each, at the same places.
 use crate::answer::Refused;
 use crate::answer::refused_at;
 use crate::first_line::FirstRead;
@@ -9,10 +9,11 @@ use numerals::Refusal;
 ghost use mathlib.Core.Path.{_≡_};
 ghost use Prim.Native.Nat.{_+_, _*_, _≤_, _<_};
 ghost use lib.ListN.{length};
-ghost use Rattle.numerals.specs.Limits.{mostBackends, mostServices};
+ghost use lib.Seq.{slice};
+ghost use Rattle.numerals.specs.Limits.{mostBackends, mostId, mostServices};
 ghost use Rattle.sheets.specs.PercentageSheet.{readSheet};
 ghost use Rattle.sheets.specs.Inner.Fields.{linesAt, fieldsAt};
-ghost use Rattle.sheets.specs.Inner.SheetReader.{WeightsOf, VolumeOf, ServiceOf, LineOf, SheetOf, sheetFrom, finished};
+ghost use Rattle.sheets.specs.Inner.SheetReader.{BackendOf, WeightsOf, VolumeOf, ServiceOf, LineOf, SheetOf, sheetFrom, finished};
 
 // The fields of a service's line: its word, its volume and the weights.
 const MOST_FIELDS: usize = 2 + numerals::MOST_BACKENDS;
@@ -22,6 +23,12 @@ pub struct Head {
     pub k: usize,
     pub tolerance: u64,
     pub capacity: usize,
+}
+
+// A backend of a line: its id and its weight.
+pub enum BackendRead {
+    Backend { id: usize, weight: u64 },
+    Bad,
 }
 
 // The weights of a line: their number and their sum.
@@ -48,7 +55,7 @@ pub enum LineRead {
     Refused(Refusal),
 }
 
-// A whole sheet: line 1, the number of services, and the number of all their weights.
+// A whole sheet: line 1, the number of services, and the number of all their backends.
 pub enum SheetRead {
     Sheet {
         head: Head,
@@ -58,22 +65,63 @@ pub enum SheetRead {
     Refused(Refused),
 }
 
-// The percentages between two positions, each read into the row of weights from place `at` on.
-fn read_weights(text: &[u8], from: usize, to: usize, weights: &mut [u64], at: usize) -> WeightsRead
+// The backend between two positions, id:percentage (58 is ':'), behind one with the id `before`.
+fn read_backend(text: &[u8], from: usize, to: usize, before: usize) -> BackendRead
+    requires { ⌜ (from ≤ to) × ((to ≤ length (now text)) × (before ≤ mostId)) ⌝ }
+    ensures { λ r. ⌜ BackendOf r before (slice from to (now (text .entry))) ⌝ }
+{
+    let colon = numerals::find(text, from, to, 58);
+    if to <= colon {
+        return BackendRead::Bad;
+    }
+    let least = (before + 1) as u64;
+    let Number::Value(id) = numerals::read_number(
+        text,
+        from,
+        colon,
+        least,
+        numerals::MOST_ID as u64,
+    ) else {
+        return BackendRead::Bad;
+    };
+    let Number::Value(weight) = numerals::read_percentage(text, colon + 1, to) else {
+        return BackendRead::Bad;
+    };
+    BackendRead::Backend {
+        id: id as usize,
+        weight,
+    }
+}
+
+// The backends between two positions, each read into the two rows from place `at` on.
+fn read_weights(
+    text: &[u8],
+    from: usize,
+    to: usize,
+    ids: &mut [usize],
+    weights: &mut [u64],
+    at: usize,
+) -> WeightsRead
     requires { ⌜ (from ≤ to) × (to ≤ length (now text)) ⌝ }
-    requires { ⌜ (length (fieldsAt (now text) from to) ≤ mostBackends) × (at + mostBackends ≤ length (now weights)) ⌝ }
-    ensures { λ r. ⌜ WeightsOf r (now (weights .entry)) (now (weights .exit)) at (fieldsAt (now (text .entry)) from to) ⌝ }
+    requires { ⌜ (length (fieldsAt (now text) from to) ≤ mostBackends)
+        × ((at + mostBackends ≤ length (now ids)) × (at + mostBackends ≤ length (now weights))) ⌝ }
+    ensures { λ r. ⌜ WeightsOf r (now (ids .entry)) (now (ids .exit)) (now (weights .entry)) (now (weights .exit))
+        at (fieldsAt (now (text .entry)) from to) ⌝ }
 {
     let mut start = from;
+    let mut before = 0;
     let mut count = 0;
     let mut sum: u64 = 0;
     while start <= to {
         let end = numerals::find(text, start, to, 32);
-        let Number::Value(w) = numerals::read_percentage(text, start, end) else {
+        let read = read_backend(text, start, end, before);
+        let BackendRead::Backend { id, weight } = read else {
             return WeightsRead::Refused(Refusal::BadField);
         };
-        weights[at + count] = w;
-        sum += w;
+        ids[at + count] = id;
+        weights[at + count] = weight;
+        before = id;
+        sum += weight;
         count += 1;
         start = end + 1;
     }
@@ -112,28 +160,30 @@ fn read_volume(text: &[u8], from: usize, to: usize, i: usize) -> VolumeRead
     VolumeRead::Volume(volume)
 }
 
-// The line of service i: SERVICE volume p1 .. pM.
+// The line of service i: SERVICE volume id1:p1 .. idM:pM.
 fn read_service(
     text: &[u8],
     from: usize,
     to: usize,
     i: usize,
     volumes: &mut [u64],
+    ids: &mut [usize],
     weights: &mut [u64],
     at: usize,
 ) -> ServiceRead
     requires { ⌜ (from ≤ to) × (to ≤ length (now text)) ⌝ }
-    requires { ⌜ (mostServices ≤ length (now volumes)) × (mostServices * mostBackends ≤ length (now weights)) ⌝ }
+    requires { ⌜ (mostServices ≤ length (now volumes))
+        × ((mostServices * mostBackends ≤ length (now ids)) × (mostServices * mostBackends ≤ length (now weights))) ⌝ }
     requires { ⌜ at ≤ mostBackends * i ⌝ }
-    ensures { λ r. ⌜ ServiceOf r (now (volumes .entry)) (now (volumes .exit)) (now (weights .entry)) (now (weights .exit))
-        at i (fieldsAt (now (text .entry)) from to) ⌝ }
+    ensures { λ r. ⌜ ServiceOf r (now (volumes .entry)) (now (volumes .exit)) (now (ids .entry)) (now (ids .exit))
+        (now (weights .entry)) (now (weights .exit)) at i (fieldsAt (now (text .entry)) from to) ⌝ }
 {
     let opened = read_volume(text, from, to, i);
     match opened {
         VolumeRead::Refused(why) => ServiceRead::Refused(why),
         VolumeRead::Volume(volume) => {
             let first = crate::fields::field_at(text, from, to, 2);
-            let read = read_weights(text, first.from, to, weights, at);
+            let read = read_weights(text, first.from, to, ids, weights, at);
             match read {
                 WeightsRead::Refused(why) => ServiceRead::Refused(why),
                 WeightsRead::Weights { count, sum } => {
@@ -154,20 +204,22 @@ fn read_line(
     start: usize,
     i: usize,
     volumes: &mut [u64],
+    ids: &mut [usize],
     weights: &mut [u64],
     at: usize,
 ) -> LineRead
     requires { ⌜ start < length (now text) ⌝ }
-    requires { ⌜ (mostServices ≤ length (now volumes)) × (mostServices * mostBackends ≤ length (now weights)) ⌝ }
+    requires { ⌜ (mostServices ≤ length (now volumes))
+        × ((mostServices * mostBackends ≤ length (now ids)) × (mostServices * mostBackends ≤ length (now weights))) ⌝ }
     requires { ⌜ at ≤ mostBackends * i ⌝ }
-    ensures { λ r. ⌜ LineOf r (now (text .entry)) (now (volumes .entry)) (now (volumes .exit)) (now (weights .entry)) (now (weights .exit))
-        at i start ⌝ }
+    ensures { λ r. ⌜ LineOf r (now (text .entry)) (now (volumes .entry)) (now (volumes .exit)) (now (ids .entry)) (now (ids .exit))
+        (now (weights .entry)) (now (weights .exit)) at i start ⌝ }
 {
     let end = numerals::find(text, start, text.len(), 10);
     if text.len() <= end {
         return LineRead::Refused(Refusal::Malformed);
     }
-    let read = read_service(text, start, end, i, volumes, weights, at);
+    let read = read_service(text, start, end, i, volumes, ids, weights, at);
     match read {
         ServiceRead::Refused(why) => LineRead::Refused(why),
         ServiceRead::Weights(count) => LineRead::Service {
@@ -201,19 +253,21 @@ fn read_services(
     from: usize,
     volumes: &mut [u64],
     sizes: &mut [usize],
+    ids: &mut [usize],
     weights: &mut [u64],
 ) -> SheetRead
     requires { ⌜ from ≤ length (now text) ⌝ }
     requires { ⌜ (mostServices ≤ length (now volumes))
-        × ((mostServices ≤ length (now sizes)) × (mostServices * mostBackends ≤ length (now weights))) ⌝ }
+        × ((mostServices ≤ length (now sizes))
+        × ((mostServices * mostBackends ≤ length (now ids)) × (mostServices * mostBackends ≤ length (now weights)))) ⌝ }
     ensures { λ r. ⌜ SheetOf r (sheetFrom head (linesAt (now (text .entry)) from))
-        (now (volumes .exit)) (now (sizes .exit)) (now (weights .exit)) ⌝ }
+        (now (volumes .exit)) (now (sizes .exit)) (now (ids .exit)) (now (weights .exit)) ⌝ }
 {
     let mut start = from;
     let mut i = 0;
     let mut at = 0;
     while start < text.len() {
-        let read = read_line(text, start, i, volumes, weights, at);
+        let read = read_line(text, start, i, volumes, ids, weights, at);
         match read {
             LineRead::Refused(why) => {
                 return SheetRead::Refused(refused_at(why, i + 2));
@@ -234,11 +288,14 @@ pub fn read_sheet(
     text: &[u8],
     volumes: &mut [u64],
     sizes: &mut [usize],
+    ids: &mut [usize],
     weights: &mut [u64],
 ) -> SheetRead
     requires { ⌜ (mostServices ≤ length (now volumes))
-        × ((mostServices ≤ length (now sizes)) × (mostServices * mostBackends ≤ length (now weights))) ⌝ }
-    ensures { λ r. ⌜ SheetOf r (readSheet (now (text .entry))) (now (volumes .exit)) (now (sizes .exit)) (now (weights .exit)) ⌝ }
+        × ((mostServices ≤ length (now sizes))
+        × ((mostServices * mostBackends ≤ length (now ids)) × (mostServices * mostBackends ≤ length (now weights)))) ⌝ }
+    ensures { λ r. ⌜ SheetOf r (readSheet (now (text .entry)))
+        (now (volumes .exit)) (now (sizes .exit)) (now (ids .exit)) (now (weights .exit)) ⌝ }
 {
     let read = crate::first_line::read_first_line(
         text,
@@ -257,7 +314,7 @@ pub fn read_sheet(
                 tolerance: line.second,
                 capacity: line.third as usize,
             };
-            read_services(text, head, line.next, volumes, sizes, weights)
+            read_services(text, head, line.next, volumes, sizes, ids, weights)
         }
     }
 }

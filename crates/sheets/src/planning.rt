@@ -13,9 +13,10 @@ ghost use Rattle.sheets.specs.Calls as calls;
 ghost use Rattle.sheets.specs.Demand.{Demand3Of};
 ghost use Rattle.sheets.specs.Inner.Planning.{planFrom};
 
-// The weights of all services, and their figures.
+// The backends of all services: as many ids, and as many weights.
 pub const WEIGHTS: usize = numerals::MOST_SERVICES * numerals::MOST_BACKENDS;
 
+// The figures of all services.
 const FIGURES: usize = 3 * numerals::MOST_SERVICES;
 
 // The table and the figures of a percentage sheet. `figures` takes three numbers for each service: its grant, the length
@@ -30,8 +31,15 @@ pub fn plan(text: &[u8], figures: &mut [usize], table: &mut [usize]) -> Planned
     let mut volumes = [0u64; numerals::MOST_SERVICES];
     let mut sizes = [0usize; numerals::MOST_SERVICES];
     // what stands there first means nothing; ones are stored by the word, zeros by the byte
+    let mut ids = [1usize; WEIGHTS];
     let mut weights = [1u64; WEIGHTS];
-    let read = crate::percentage_sheet::read_sheet(text, &mut volumes, &mut sizes, &mut weights);
+    let read = crate::percentage_sheet::read_sheet(
+        text,
+        &mut volumes,
+        &mut sizes,
+        &mut ids,
+        &mut weights,
+    );
     match read {
         SheetRead::Refused(why) => Planned::Refused(why),
         SheetRead::Sheet {
@@ -46,6 +54,7 @@ pub fn plan(text: &[u8], figures: &mut [usize], table: &mut [usize]) -> Planned
                 head.capacity,
                 &volumes[..services],
                 &sizes[..services],
+                &ids[..row],
                 &weights[..row],
                 figures,
                 table,

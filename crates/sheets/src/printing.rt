@@ -202,7 +202,7 @@ fn is_line(k: usize, service: usize, len: usize, value: usize, backend: usize) -
     if all <= value {
         return false;
     }
-    0 < backend && backend <= numerals::MOST_BACKENDS
+    0 < backend && backend <= numerals::MOST_ID
 }
 
 // Line i of a table that is no text, behind those before it.
@@ -281,7 +281,7 @@ fn check_table(k: usize, total: u64, table: &[usize]) -> Checked
 }
 
 // The rule sheet of a table: four numbers for each line, its service, the length and the value of its suffix, and the
-// label of its backend.
+// id of its backend.
 pub fn write_table(k: usize, total: u64, table: &[usize], out: &mut [u8]) -> Answer
     ensures answer { λ r. ⌜ r ≡ calls.printRead (calls.tableHanded k total (now (table .entry))) tableText (length (now (out .entry))) ⌝ }
     ensures buffer { λ r. ⌜ now (out .exit) ≡ calls.afterwards (calls.isValue r) (now (out .entry))

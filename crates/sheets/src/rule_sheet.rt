@@ -6,7 +6,7 @@ use crate::first_line::Form;
 use crate::order::Last;
 use crate::order::Placed;
 use crate::order::TALLY;
-use numerals::MOST_BACKENDS;
+use numerals::MOST_ID;
 use numerals::MOST_SERVICES;
 use numerals::Number;
 use numerals::Refusal;
@@ -34,7 +34,7 @@ pub struct TableHead {
     pub total: u64,
 }
 
-// A line: the service by its number, the backend by its label.
+// A line: the service by its number, the backend by its id.
 pub struct RuleLine {
     pub service: usize,
     pub len: usize,
@@ -75,14 +75,8 @@ fn read_line(text: &[u8], from: usize, to: usize, k: usize) -> LineRead
     let SuffixRead::Suffix { len, value } = numerals::read_suffix(text, f.from, f.to, k) else {
         return LineRead::Refused(Refusal::BadField);
     };
-    let Number::Value(backend) = crate::fields::number_in(
-        text,
-        from,
-        to,
-        2,
-        1,
-        MOST_BACKENDS as u64,
-    ) else {
+    let Number::Value(backend) = crate::fields::number_in(text, from, to, 2, 1, MOST_ID as u64)
+    else {
         return LineRead::Refused(Refusal::BadField);
     };
     LineRead::Line(RuleLine {

@@ -47,7 +47,7 @@ pub fn read_table(text: &[u8], table: &mut [usize]) -> TableRead
 }
 
 // The first n numbers of one buffer, into another.
-fn copy(from: &[usize], to: &mut [usize], n: usize)
+pub fn copy(from: &[usize], to: &mut [usize], n: usize)
     requires { ⌜ (n ≤ length (now from)) × (n ≤ length (now to)) ⌝ }
     ensures { λ _. ⌜ now (to .exit) ≡ sets (now (to .entry)) 0 (take n (now (from .entry))) ⌝ }
 {
@@ -58,7 +58,7 @@ fn copy(from: &[usize], to: &mut [usize], n: usize)
     }
 }
 
-// The label of the backend of the first line of a service that matches an address; 0 where there is none.
+// The id of the backend of the first line of a service that matches an address; 0 where there is none.
 pub fn first_backend(table: &[usize], n: usize, service: usize, address: usize) -> usize
     requires { ⌜ RuleLines (now table) n ⌝ }
     ensures { λ r. ⌜ r ≡ firstMatch (ownRules service (linesIn (now (table .entry)) n)) address ⌝ }
@@ -77,7 +77,7 @@ pub fn first_backend(table: &[usize], n: usize, service: usize, address: usize) 
     0
 }
 
-// The label of the backend that the rule sheet gives a service's address to.
+// The id of the backend that the rule sheet gives a service's address to.
 pub fn lookup(text: &[u8], service: usize, address: u32) -> Answer
     ensures { λ r. ⌜ r ≡ calls.lookupAnswer (now (text .entry)) service address ⌝ }
 {
@@ -95,7 +95,7 @@ pub fn lookup(text: &[u8], service: usize, address: u32) -> Answer
     }
 }
 
-// How many of the suffixes below `all` the two tables give to unlike backends.
+// How many of the suffixes below `all` the two tables give to backends of unlike ids.
 fn count_moved(
     old: &[usize],
     n: usize,

@@ -1,4 +1,5 @@
-// What an update reads: of a rule sheet the rules of a service, of a percentage sheet its new weights and the tolerance.
+// What an update reads: of a rule sheet the rules of a service, of a percentage sheet its new weights with their ids, and
+// the tolerance.
 use crate::answer::Refused;
 use crate::answer::UpdateRead;
 use crate::answer::UpdateRecord;
@@ -22,23 +23,27 @@ ghost use Rattle.packing.specs.Count.{ownRules};
 ghost use Rattle.sheets.specs.PercentageSheet.{readSheet, sum};
 ghost use Rattle.sheets.specs.RuleSheet.{readTable, countOf};
 ghost use Rattle.sheets.specs.Calls as calls;
-ghost use Rattle.sheets.specs.Update.{oldRules, newWeights, updateIn, updateReadAnswer, isRead};
+ghost use Rattle.sheets.specs.Update.{oldRules, newIds, newWeights, updateIn, updateReadAnswer, isRead};
 ghost use Rattle.sheets.specs.Inner.TableNumbers.{linesIn};
 ghost use Rattle.sheets.specs.Inner.TableReader.{tableOf};
 ghost use Rattle.sheets.specs.Inner.Update.{judged, sheetIn};
 
-// The rules of a service in numbers, three of each, the newest first, and its new weights, into lent buffers.
+// The rules of a service in numbers, three of each, the newest first, and its new weights with their ids, into lent
+// buffers.
 pub fn read_update(
     old: &[u8],
     sheet: &[u8],
     service: usize,
     rules: &mut [usize],
+    ids: &mut [usize],
     weights: &mut [u64],
 ) -> UpdateRead
     ensures answer { λ r. ⌜ r ≡ updateReadAnswer (now (old .entry)) (now (sheet .entry)) service
-        (length (now (rules .entry))) (length (now (weights .entry))) ⌝ }
+        (length (now (rules .entry))) (length (now (ids .entry))) (length (now (weights .entry))) ⌝ }
     ensures rules { λ r. ⌜ now (rules .exit) ≡ calls.afterwards (isRead r) (now (rules .entry))
         (calls.valuesOf (readTable (now (old .entry))) (λ t. numbersOf (oldRules t service))) ⌝ }
+    ensures ids { λ r. ⌜ now (ids .exit) ≡ calls.afterwards (isRead r) (now (ids .entry))
+        (calls.valuesOf (readSheet (now (sheet .entry))) (λ S. newIds S service)) ⌝ }
     ensures weights { λ r. ⌜ now (weights .exit) ≡ calls.afterwards (isRead r) (now (weights .entry))
         (calls.valuesOf (readSheet (now (sheet .entry))) (λ S. newWeights S service)) ⌝ }
 {
@@ -47,7 +52,7 @@ pub fn read_update(
     let read = crate::rule_sheet::read_sheet_lines(old, &mut lines);
     match read {
         SheetLines::Refused(why) => UpdateRead::Refused(crate::tables::about(why, 1)),
-        SheetLines::Table(table) => read_second(table, &lines, sheet, service, rules, weights),
+        SheetLines::Table(table) => read_second(table, &lines, sheet, service, rules, ids, weights),
     }
 }
 
@@ -58,21 +63,32 @@ fn read_second(
     sheet: &[u8],
     service: usize,
     rules: &mut [usize],
+    ids: &mut [usize],
     weights: &mut [u64],
 ) -> UpdateRead
     requires { ⌜ 4 * table .n ≤ length (now lines) ⌝ }
     ensures answer { λ r. ⌜ r ≡ calls.answered UpdateRead.Refused 2 (readSheet (now (sheet .entry)))
-        (λ S. updateIn (tableOf table (now (lines .entry))) S service (length (now (rules .entry))) (length (now (weights .entry)))) ⌝ }
+        (λ S. updateIn (tableOf table (now (lines .entry))) S service
+        (length (now (rules .entry))) (length (now (ids .entry))) (length (now (weights .entry)))) ⌝ }
     ensures rules { λ r. ⌜ now (rules .exit) ≡ calls.afterwards (isRead r) (now (rules .entry))
         (numbersOf (oldRules (tableOf table (now (lines .entry))) service)) ⌝ }
+    ensures ids { λ r. ⌜ now (ids .exit) ≡ calls.afterwards (isRead r) (now (ids .entry))
+        (calls.valuesOf (readSheet (now (sheet .entry))) (λ S. newIds S service)) ⌝ }
     ensures weights { λ r. ⌜ now (weights .exit) ≡ calls.afterwards (isRead r) (now (weights .entry))
         (calls.valuesOf (readSheet (now (sheet .entry))) (λ S. newWeights S service)) ⌝ }
 {
     let mut volumes = [0u64; numerals::MOST_SERVICES];
     let mut sizes = [0usize; numerals::MOST_SERVICES];
     // what stands there first means nothing; ones are stored by the word
+    let mut named = [1usize; WEIGHTS];
     let mut all = [1u64; WEIGHTS];
-    let read = crate::percentage_sheet::read_sheet(sheet, &mut volumes, &mut sizes, &mut all);
+    let read = crate::percentage_sheet::read_sheet(
+        sheet,
+        &mut volumes,
+        &mut sizes,
+        &mut named,
+        &mut all,
+    );
     match read {
         SheetRead::Refused(why) => UpdateRead::Refused(crate::tables::about(why, 2)),
         SheetRead::Sheet {
@@ -84,9 +100,11 @@ fn read_second(
             lines,
             head,
             &sizes[..services],
+            &named[..row],
             &all[..row],
             service,
             rules,
+            ids,
             weights,
         ),
     }
@@ -98,19 +116,25 @@ fn select(
     lines: &[usize],
     head: Head,
     sizes: &[usize],
+    named: &[usize],
     row: &[u64],
     service: usize,
     rules: &mut [usize],
+    ids: &mut [usize],
     weights: &mut [u64],
 ) -> UpdateRead
     requires { ⌜ 4 * table .n ≤ length (now lines) ⌝ }
-    requires { ⌜ (sum (now sizes) ≡ length (now row)) × (length (now row) ≤ mostServices * mostBackends) ⌝ }
-    ensures answer { λ r. ⌜ r ≡ updateIn (tableOf table (now (lines .entry))) (sheetIn head (now (sizes .entry)) (now (row .entry))) service
-        (length (now (rules .entry))) (length (now (weights .entry))) ⌝ }
+    requires { ⌜ (sum (now sizes) ≡ length (now named))
+        × ((sum (now sizes) ≡ length (now row)) × (length (now row) ≤ mostServices * mostBackends)) ⌝ }
+    ensures answer { λ r. ⌜ r ≡ updateIn (tableOf table (now (lines .entry)))
+        (sheetIn head (now (sizes .entry)) (now (named .entry)) (now (row .entry))) service
+        (length (now (rules .entry))) (length (now (ids .entry))) (length (now (weights .entry))) ⌝ }
     ensures rules { λ r. ⌜ now (rules .exit) ≡ calls.afterwards (isRead r) (now (rules .entry))
         (numbersOf (oldRules (tableOf table (now (lines .entry))) service)) ⌝ }
+    ensures ids { λ r. ⌜ now (ids .exit) ≡ calls.afterwards (isRead r) (now (ids .entry))
+        (newIds (sheetIn head (now (sizes .entry)) (now (named .entry)) (now (row .entry))) service) ⌝ }
     ensures weights { λ r. ⌜ now (weights .exit) ≡ calls.afterwards (isRead r) (now (weights .entry))
-        (newWeights (sheetIn head (now (sizes .entry)) (now (row .entry))) service) ⌝ }
+        (newWeights (sheetIn head (now (sizes .entry)) (now (named .entry)) (now (row .entry))) service) ⌝ }
 {
     let own = lines_of(lines, table.n, service);
     let backends = size_of(sizes, service);
@@ -121,12 +145,21 @@ fn select(
         backends,
     };
     let services = sizes.len();
-    let answer = judge(found, head.k, services, service, rules.len(), weights.len());
+    let answer = judge(
+        found,
+        head.k,
+        services,
+        service,
+        rules.len(),
+        ids.len(),
+        weights.len(),
+    );
     match answer {
         UpdateRead::Refused(why) => UpdateRead::Refused(why),
         UpdateRead::Made(made) => {
             store_own(lines, table.n, service, rules);
             let from = row_before(sizes, service - 1);
+            crate::tables::copy(&named[from..], ids, backends);
             store_weights(row, from, backends, weights);
             UpdateRead::Made(made)
         }
@@ -140,10 +173,11 @@ fn judge(
     services: usize,
     service: usize,
     rules: usize,
+    ids: usize,
     weights: usize,
 ) -> UpdateRead
     requires { ⌜ 3 * found .rules < 2 ^ 64 ⌝ }
-    ensures { λ r. ⌜ r ≡ judged found k services service rules weights ⌝ }
+    ensures { λ r. ⌜ r ≡ judged found k services service rules ids weights ⌝ }
 {
     if found.rules == 0 {
         return UpdateRead::Refused(lacking(1));
@@ -158,6 +192,9 @@ fn judge(
         return UpdateRead::Refused(refused_at(Refusal::Depth, 0));
     }
     if rules < PER_RULE * found.rules {
+        return UpdateRead::Refused(refused_at(Refusal::ShortLoan, 0));
+    }
+    if ids < found.backends {
         return UpdateRead::Refused(refused_at(Refusal::ShortLoan, 0));
     }
     if weights < found.backends {
@@ -212,7 +249,7 @@ fn store_own(table: &[usize], n: usize, service: usize, rules: &mut [usize])
     }
 }
 
-// How many weights a service has, where there is one of that number.
+// How many backends a service has, where there is one of that number.
 fn size_of(sizes: &[usize], service: usize) -> usize
     ensures { λ r. ⌜ ((1 ≤ service) → (service ≤ length (now (sizes .entry))) → r ≡ getD (now (sizes .entry)) (service - 1) 0) ⌝ }
 {
@@ -225,7 +262,7 @@ fn size_of(sizes: &[usize], service: usize) -> usize
     sizes[service - 1]
 }
 
-// How many weights stand in the row before those of a place.
+// How many places of a row stand before those of a service's place.
 fn row_before(sizes: &[usize], place: usize) -> usize
     requires { ⌜ (place ≤ length (now sizes)) × (sum (now sizes) ≤ mostServices * mostBackends) ⌝ }
     ensures { λ r. ⌜ r ≡ sum (take place (now (sizes .entry))) ⌝ }
@@ -239,7 +276,7 @@ fn row_before(sizes: &[usize], place: usize) -> usize
     before
 }
 
-// So many weights of the row, into a lent buffer that is long enough.
+// So many weights of their row, into a lent buffer that is long enough.
 fn store_weights(row: &[u64], from: usize, n: usize, weights: &mut [u64])
     requires { ⌜ (from + n ≤ length (now row)) × (n ≤ length (now weights)) ⌝ }
     ensures { λ _. ⌜ now (weights .exit) ≡ sets (now (weights .entry)) 0 (take n (drop from (now (row .entry)))) ⌝ }

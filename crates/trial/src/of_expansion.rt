@@ -1,4 +1,5 @@
 // The answers to vectors of the expansion.
+use crate::writes;
 use expansion::Ended;
 use expansion::Expanded;
 use expansion::Record;
@@ -46,14 +47,20 @@ fn show_rules(
     }
 }
 
+// Two rows, a line each: the ids and the weights.
 fn expand(h: Header, text: &[u8]) {
-    let mut array = [0u64; 64];
-    let weights: &mut [u64] = &mut array;
-    let n = walk::numbers(text, weights);
-    expand_weights(h, walk::first_numbers(weights, n));
+    let mut ids = [0usize; 8200];
+    let mut weights = [0u64; 64];
+    let first = walk::part(text, 0, 10);
+    let second = walk::part(text, walk::after(text, 0, 10), 10);
+    let n = walk::fields(first);
+    writes::read_cells(first, n, &mut ids);
+    let m = walk::numbers(second, &mut weights);
+    expand_backends(h, &ids, n, walk::first_numbers(&weights, m));
 }
 
-fn expand_weights(h: Header, weights: &[u64]) {
+// So many of the ids, and the weights.
+fn expand_backends(h: Header, ids: &[usize; 8200], n: usize, weights: &[u64]) {
     let mut lens = [0usize; numerals::MOST_RULES];
     let mut values = [0usize; numerals::MOST_RULES];
     let mut backends = [0usize; numerals::MOST_RULES];
@@ -62,6 +69,7 @@ fn expand_weights(h: Header, weights: &[u64]) {
         h.first as usize,
         h.second,
         h.third as usize,
+        walk::first_places(ids, n),
         weights,
         0,
         &mut lens,

@@ -43,8 +43,8 @@ fn show_buffers(figures: &[usize; 200], table: &[usize; 8200], n: usize, m: usiz
 // Lends buffers of so many places, filled with a number that no figure and no cell can be. Four places behind each are
 // not lent, and shown too.
 pub fn plan(h: Header, text: &[u8]) {
-    let mut figures = [9999usize; 200];
-    let mut table = [9999usize; 8200];
+    let mut figures = [77777usize; 200];
+    let mut table = [77777usize; 8200];
     let n = h.first as usize;
     let m = h.second as usize;
     if 196 < n {

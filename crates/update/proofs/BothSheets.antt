@@ -1,5 +1,5 @@
 -- The two sheets of an update, read: the ways in which that may go, in the order of the refusals, and what each call answers then.
-use Prim.Native.Nat.{ℕ, _*_, _≤_}
+use Prim.Native.Nat.{ℕ, _-_, _*_, _≤_}
 use mathlib.Core.Bool.{Bool, true, false}
 use mathlib.Core.List.{List}
 use mathlib.Core.Path.{_≡_, refl, ap, sym, _∙_, subst}
@@ -14,6 +14,7 @@ use Rattle.numerals.specs.Limits.{mostBackends, mostRules}
 use Rattle.numerals.specs.declared.refusal.Refusal.{Refusal}
 use Rattle.expansion.specs.OldList.{numbersOf}
 use Rattle.expansion.specs.Resume.{numbersResumed}
+use Rattle.expansion.proofs.Checks.{limits as within}
 use Rattle.expansion.proofs.OldNumbers.{numbers-count}
 use Rattle.sheets.specs.Reading.{Reading, got, refused}
 use Rattle.sheets.specs.RuleSheet.{Table, readTable}
@@ -25,7 +26,8 @@ use Rattle.sheets.specs.declared.answer.UpdateRecord.{UpdateRecord}
 use Rattle.sheets.specs.declared.answer.UpdateRead.the-variants as read
 use Rattle.sheets.proofs.OneCall.{take-sets}
 use Rattle.sheets.proofs.Readings.{got-same}
-use Rattle.sheets.proofs.UpdateLimits.{old-few, weights-few}
+use Rattle.sheets.proofs.UpdateLimits.{old-few, ids-few, weights-few}
+use Rattle.sheets.proofs.SheetLimits.{Row, limits}
 use Rattle.update.specs.Update.{updateAnswer, isMade}
 use Rattle.update.specs.Promise.{PromisedFor}
 use Rattle.update.specs.Sheets.{ofUpdated, sheetsIn, sheetsAnswer, sheetsNumbers, PromisedBoth}
@@ -50,6 +52,14 @@ same-record e = cc
 made-alike : (u : Updated) → isMade u ≡ isMadeText (ofUpdated u)
 made-alike (updated.Made x) = refl
 made-alike (updated.Refused why) = refl
+
+-- the ids and the weights of a service of a sheet that was read
+pub new-row : (text : List ℕ) (S : Sheet) (n : ℕ) → readSheet text ≡ got S → reads.hasWeights S n ≡ true → Row (reads.newIds S n) (reads.newWeights S n)
+unfolding reads.hasWeights reads.newIds reads.newWeights
+new-row text S n e h =
+    let L = limits text S e in
+    let there = within 1 (length (S .weights)) n h in
+    L .row (n - 1) (omega (arith, L .rows, there .0, there .1))
 
 -- the memory that both are read into has room for every list and all weights
 abbrev pub listRoom : ℕ
@@ -103,7 +113,7 @@ module _ (old new : List ℕ) (n : ℕ) where
   found t S =
       record { k = t .k; tolerance = S .tolerance; rules = length (reads.oldRules t n); backends = length (reads.newWeights S n) }
 
-  met-read : (t : Table) (S : Sheet) → Both t S → reads.updateReadAnswer old new n listRoom mostBackends ≡ read.Made (found t S)
+  met-read : (t : Table) (S : Sheet) → Both t S → reads.updateReadAnswer old new n listRoom mostBackends mostBackends ≡ read.Made (found t S)
   unfolding reads.updateReadAnswer reads.updateIn
   met-read t S B =
       simp (
@@ -113,11 +123,13 @@ module _ (old new : List ℕ) (n : ℕ) where
         B .weights,
         eq-eqb (t .k) (S .k) (B .depth),
         le-leb (length (numbersOf (reads.oldRules t n))) listRoom (omega (arith, numbers-count (reads.oldRules t n), old-few old t n (B .table))),
+        le-leb (length (reads.newIds S n)) mostBackends (ids-few new S n (B .sheet)),
         le-leb (length (reads.newWeights S n)) mostBackends (weights-few new S n (B .sheet)),
       )
 
   -- a refusal of what is read is the answer itself
-  pub both-refused : (room : ℕ) (r : Why) → reads.updateReadAnswer old new n listRoom mostBackends ≡ read.Refused r → sheetsAnswer old new n room ≡ Refused r
+  pub both-refused : (room : ℕ) (r : Why) → reads.updateReadAnswer old new n listRoom mostBackends mostBackends ≡ read.Refused r
+      → sheetsAnswer old new n room ≡ Refused r
   unfolding reads.updateReadAnswer reads.updateIn sheetsAnswer sheetsIn
   both-refused room r e = go way
     where
@@ -130,7 +142,7 @@ module _ (old new : List ℕ) (n : ℕ) where
       go (met t S B) = not-read (sym (met-read t S B) ∙ e)
 
   -- then there is nothing to promise
-  pub none-promised : (r : Why) (u : SheetUpdated) (numbers : List ℕ) → reads.updateReadAnswer old new n listRoom mostBackends ≡ read.Refused r
+  pub none-promised : (r : Why) (u : SheetUpdated) (numbers : List ℕ) → reads.updateReadAnswer old new n listRoom mostBackends mostBackends ≡ read.Refused r
       → PromisedBoth old new n u numbers
   none-promised r u numbers e t S a b h w d =
       not-read (sym (met-read t S (record { table = a; sheet = b; service = h; weights = w; depth = d })) ∙ e)
@@ -142,7 +154,7 @@ module _ (old new : List ℕ) (n : ℕ) where
     pub both : Both table sheet
     pub is : m ≡ found table sheet
 
-  pub both-made : (m : UpdateRecord) → reads.updateReadAnswer old new n listRoom mostBackends ≡ read.Made m → Met m
+  pub both-made : (m : UpdateRecord) → reads.updateReadAnswer old new n listRoom mostBackends mostBackends ≡ read.Made m → Met m
   unfolding reads.updateReadAnswer reads.updateIn
   both-made m e = go way
     where
@@ -176,17 +188,20 @@ module _ (old new : List ℕ) (n : ℕ) where
       go (met t S B) = record { table = t; sheet = S; both = B }
 
   module _ (t : Table) (S : Sheet) (B : Both t S) where
+    abbrev ids : List ℕ
+    ids = reads.newIds S n
+
     abbrev ws : List ℕ
     ws = reads.newWeights S n
 
     abbrev cs : List ℕ
     cs = numbersOf (reads.oldRules t n)
 
-    pub answer-is : (room : ℕ) → sheetsAnswer old new n room ≡ ofUpdated (updateAnswer (t .k) (S .tolerance) ws cs room)
+    pub answer-is : (room : ℕ) → sheetsAnswer old new n room ≡ ofUpdated (updateAnswer (t .k) (S .tolerance) ids ws cs room)
     unfolding sheetsAnswer sheetsIn
     answer-is room = simp (B .table, B .sheet, B .service, B .weights, eq-eqb (t .k) (S .k) (B .depth))
 
-    pub numbers-are : sheetsNumbers old new n ≡ numbersResumed (t .k) (S .tolerance) ws cs
+    pub numbers-are : sheetsNumbers old new n ≡ numbersResumed (t .k) (S .tolerance) ids ws cs
     unfolding sheetsNumbers
     numbers-are = simp (B .table, B .sheet)
 
@@ -198,24 +213,33 @@ module _ (old new : List ℕ) (n : ℕ) where
         ∙ ap (λ (i : ℕ). take i (sets list 0 cs)) (sym (numbers-count (reads.oldRules t n)))
         ∙ take-sets list cs (omega (arith, numbers-count (reads.oldRules t n), old-few old t n (B .table)))
 
+    pub ids-read : (row row′ : List ℕ) → length row ≡ mostBackends
+        → row′ ≡ afterwards true row (valuesOf (readSheet new) (λ S. reads.newIds S n)) → take (length ws) row′ ≡ ids
+    ids-read row row′ long e =
+        ap (λ (i : ℕ). take i row′) (sym (new-row new S n (B .sheet) (B .weights) .paired))
+        ∙ ap (take (length ids)) (rw (B .sheet) at e)
+        ∙ take-sets row ids (omega (arith, ids-few new S n (B .sheet)))
+
     pub weights-read : (row row′ : List ℕ) → length row ≡ mostBackends
         → row′ ≡ afterwards true row (valuesOf (readSheet new) (λ S. reads.newWeights S n)) → take (length ws) row′ ≡ ws
     weights-read row row′ long e =
         ap (take (length ws)) (rw (B .sheet) at e) ∙ take-sets row ws (omega (arith, weights-few new S n (B .sheet)))
 
-    pub promised-both : (u : Updated) (numbers : List ℕ) → PromisedFor (t .k) (S .tolerance) ws cs u numbers → PromisedBoth old new n (ofUpdated u) numbers
+    pub promised-both : (u : Updated) (numbers : List ℕ) → PromisedFor (t .k) (S .tolerance) ids ws cs u numbers → PromisedBoth old new n (ofUpdated u) numbers
     promised-both u numbers P t′ S′ a b h w d =
         let T = got-same (sym (B .table) ∙ a) in
         let U = got-same (sym (B .sheet) ∙ b) in (
           u,
           refl,
-          subst (λ (x : Table). PromisedFor (x .k) (S′ .tolerance) (reads.newWeights S′ n) (numbersOf (reads.oldRules x n)) u numbers) T
-              (subst (λ (y : Sheet). PromisedFor (t .k) (y .tolerance) (reads.newWeights y n) cs u numbers) U P),
+          subst (λ (x : Table). PromisedFor (x .k) (S′ .tolerance) (reads.newIds S′ n) (reads.newWeights S′ n) (numbersOf (reads.oldRules x n)) u numbers) T
+              (subst (λ (y : Sheet). PromisedFor (t .k) (y .tolerance) (reads.newIds y n) (reads.newWeights y n) cs u numbers) U P),
         )
 
   -- the update of what was read, as the call on two texts answers it
-  module _ (m : UpdateRecord) (X : Met m) (list list′ row row′ : List ℕ) (list-long : length list ≡ listRoom) (row-long : length row ≡ mostBackends)
+  module _ (m : UpdateRecord) (X : Met m) (list list′ names names′ row row′ : List ℕ) (list-long : length list ≡ listRoom)
+      (names-long : length names ≡ mostBackends) (row-long : length row ≡ mostBackends)
       (listed : list′ ≡ afterwards true list (valuesOf (readTable old) (λ t. numbersOf (reads.oldRules t n))))
+      (named : names′ ≡ afterwards true names (valuesOf (readSheet new) (λ S. reads.newIds S n)))
       (weighed : row′ ≡ afterwards true row (valuesOf (readSheet new) (λ S. reads.newWeights S n))) where
     abbrev t : Table
     t = X .table
@@ -232,17 +256,22 @@ module _ (old new : List ℕ) (n : ℕ) where
     pub list-is : take (3 * m .rules) list′ ≡ cs t S (X .both)
     list-is = ap (λ (x : UpdateRecord). take (3 * x .rules) list′) (X .is) ∙ list-read t S (X .both) list list′ list-long listed
 
+    pub names-are : take (m .backends) names′ ≡ ids t S (X .both)
+    names-are = ap (λ (x : UpdateRecord). take (x .backends) names′) (X .is) ∙ ids-read t S (X .both) names names′ names-long named
+
     pub row-is : take (m .backends) row′ ≡ ws t S (X .both)
     row-is = ap (λ (x : UpdateRecord). take (x .backends) row′) (X .is) ∙ weights-read t S (X .both) row row′ row-long weighed
 
     -- what is so of the numbers that were read is so of the sheets
-    carried : (P : ℕ → ℕ → List ℕ → List ℕ → Type 0) → P (m .k) (m .tolerance) (take (m .backends) row′) (take (3 * m .rules) list′)
-        → P (t .k) (S .tolerance) (ws t S (X .both)) (cs t S (X .both))
+    carried : (P : ℕ → ℕ → List ℕ → List ℕ → List ℕ → Type 0)
+        → P (m .k) (m .tolerance) (take (m .backends) names′) (take (m .backends) row′) (take (3 * m .rules) list′)
+        → P (t .k) (S .tolerance) (ids t S (X .both)) (ws t S (X .both)) (cs t S (X .both))
     carried P p =
-        subst (λ (x : ℕ). P x (S .tolerance) (ws t S (X .both)) (cs t S (X .both))) k-is
-        (subst (λ (x : ℕ). P (m .k) x (ws t S (X .both)) (cs t S (X .both))) tolerance-is
-        (subst (λ (x : List ℕ). P (m .k) (m .tolerance) x (cs t S (X .both))) row-is
-        (subst (λ (x : List ℕ). P (m .k) (m .tolerance) (take (m .backends) row′) x) list-is p)))
+        subst (λ (x : ℕ). P x (S .tolerance) (ids t S (X .both)) (ws t S (X .both)) (cs t S (X .both))) k-is
+        (subst (λ (x : ℕ). P (m .k) x (ids t S (X .both)) (ws t S (X .both)) (cs t S (X .both))) tolerance-is
+        (subst (λ (x : List ℕ). P (m .k) (m .tolerance) x (ws t S (X .both)) (cs t S (X .both))) names-are
+        (subst (λ (x : List ℕ). P (m .k) (m .tolerance) (take (m .backends) names′) x (cs t S (X .both))) row-is
+        (subst (λ (x : List ℕ). P (m .k) (m .tolerance) (take (m .backends) names′) (take (m .backends) row′) x) list-is p))))
 
     pub few-rules : m .rules ≤ mostRules
     few-rules = omega (arith, ap (λ (x : UpdateRecord). x .rules) (X .is), old-few old t n (X .both .table))
@@ -250,24 +279,27 @@ module _ (old new : List ℕ) (n : ℕ) where
     pub few-backends : m .backends ≤ mostBackends
     few-backends = omega (arith, ap (λ (x : UpdateRecord). x .backends) (X .is), weights-few new S n (X .both .sheet))
 
-    module _ (room : ℕ) (u : Updated) (answer : u ≡ updateAnswer (m .k) (m .tolerance) (take (m .backends) row′) (take (3 * m .rules) list′) room)
+    module _ (room : ℕ) (u : Updated)
+        (answer : u ≡ updateAnswer (m .k) (m .tolerance) (take (m .backends) names′) (take (m .backends) row′) (take (3 * m .rules) list′) room)
         (v : SheetUpdated) (as-text : v ≡ ofUpdated u) where
       pub text-answer : v ≡ sheetsAnswer old new n room
       text-answer =
           as-text
-          ∙ ap ofUpdated (carried (λ k w ws cs. u ≡ updateAnswer k w ws cs room) answer)
+          ∙ ap ofUpdated (carried (λ k w ids ws cs. u ≡ updateAnswer k w ids ws cs room) answer)
           ∙ sym (answer-is t S (X .both) room)
 
       pub text-buffer : (out out′ : List ℕ)
-          → out′ ≡ filled (isMade u) out 0 (numbersResumed (m .k) (m .tolerance) (take (m .backends) row′) (take (3 * m .rules) list′))
+          → out′
+          ≡ filled (isMade u) out 0 (numbersResumed (m .k) (m .tolerance) (take (m .backends) names′) (take (m .backends) row′) (take (3 * m .rules) list′))
           → out′ ≡ filled (isMadeText v) out 0 (sheetsNumbers old new n)
       text-buffer out out′ e =
-          carried (λ k w ws cs. out′ ≡ filled (isMade u) out 0 (numbersResumed k w ws cs)) e
+          carried (λ k w ids ws cs. out′ ≡ filled (isMade u) out 0 (numbersResumed k w ids ws cs)) e
           ∙ ap (λ (vs : List ℕ). filled (isMade u) out 0 vs) (sym (numbers-are t S (X .both)))
           ∙ ap (λ (b : Bool). filled b out 0 (sheetsNumbers old new n)) (made-alike u ∙ ap isMadeText (sym as-text))
 
-      pub text-promised : (numbers : List ℕ) → PromisedFor (m .k) (m .tolerance) (take (m .backends) row′) (take (3 * m .rules) list′) u numbers
+      pub text-promised : (numbers : List ℕ)
+          → PromisedFor (m .k) (m .tolerance) (take (m .backends) names′) (take (m .backends) row′) (take (3 * m .rules) list′) u numbers
           → PromisedBoth old new n v numbers
       text-promised numbers P =
           subst (λ (x : SheetUpdated). PromisedBoth old new n x numbers) (sym as-text)
-          (promised-both t S (X .both) u numbers (carried (λ k w ws cs. PromisedFor k w ws cs u numbers) P))
+          (promised-both t S (X .both) u numbers (carried (λ k w ids ws cs. PromisedFor k w ids ws cs u numbers) P))

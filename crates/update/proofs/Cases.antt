@@ -8,20 +8,24 @@ use Rattle.expansion.specs.FirstMatch.{isRule, matches, firstMatch, gives, shar
 use Rattle.expansion.specs.Imbalance.{backends, label, weight, has, wants, excess, shortfall, imbalance, giver, receiver}
 use Rattle.expansion.specs.Imbalance.{largestExcess, largestShortfall}
 use Rattle.expansion.specs.Steps.{isWithin, reduction, reductionAt, term, isNoGain, isWhole, termLength, lowestPlace, newRule, step, after, listOf, oldest}
-use Rattle.expansion.specs.Answer.{inLimits, checkWeights, targetsMade}
+use Rattle.expansion.specs.Answer.{inLimits, idBefore, isBackend, checkWeights}
+use Rattle.expansion.specs.Known.{include, knownIds, weightOf, targetsKnown}
 use Rattle.expansion.specs.OldList.{rulesFrom, numbersOf, isProper, checkRules, checkList}
-use Rattle.expansion.specs.Resume.{longest, capFrom, frameFrom, frameKept, listKept, endsWithin, largestTo, keptOf, listResumed, allKnown, checkOld}
+use Rattle.expansion.specs.Resume.{longest, capFrom, frameFrom, frameKept, listKept, endsWithin, largestTo, keptOf, listResumed, checkOld}
 use Rattle.expansion.specs.Resume.{numbersResumed, resumeOf, resumeAnswer}
 use Rattle.update.specs.Update.{churn, recordUpdated, updateAnswer}
-use Rattle.update.specs.Cases.{Shows, unchanged, quarter, afresh, hidden, Halted}
+use Rattle.update.specs.Cases.{Shows, unchanged, quarter, afresh, hidden, retired, replaced, Halted, Tied}
 
-pub cases-show : Shows unchanged × Shows quarter × Shows afresh × Shows hidden
+pub cases-show : Shows unchanged × Shows quarter × Shows afresh × Shows hidden × Shows retired × Shows replaced
 unfolding listTo sumTo countTo allTo firstTo argmax lastmax isRule isSuffix matches firstMatch gives share differing backends label weight has wants
     excess shortfall imbalance giver receiver largestExcess largestShortfall isWithin reduction reductionAt term isNoGain isWhole termLength lowestPlace
-    newRule step after listOf oldest place value valueFrom lowest unit inLimits checkWeights targetsMade rulesFrom numbersOf isProper checkRules
-    checkList longest capFrom frameFrom frameKept listKept endsWithin largestTo keptOf listResumed allKnown checkOld numbersResumed churn recordUpdated
+    newRule step after listOf oldest place value valueFrom lowest unit inLimits idBefore isBackend checkWeights include knownIds weightOf targetsKnown
+    rulesFrom numbersOf isProper checkRules
+    checkList longest capFrom frameFrom frameKept listKept endsWithin largestTo keptOf listResumed checkOld numbersResumed churn recordUpdated
     resumeOf resumeAnswer updateAnswer
 cases-show = (
+  record { answer = refl; new = refl },
+  record { answer = refl; new = refl },
   record { answer = refl; new = refl },
   record { answer = refl; new = refl },
   record { answer = refl; new = refl },
@@ -31,6 +35,16 @@ cases-show = (
 pub halted : Halted
 unfolding listTo sumTo countTo allTo firstTo argmax lastmax isRule isSuffix matches firstMatch gives share backends label weight has wants excess
     shortfall giver receiver largestExcess largestShortfall isWithin reduction reductionAt term isNoGain isWhole termLength lowestPlace newRule step after
-    listOf oldest place value valueFrom lowest unit inLimits checkWeights targetsMade rulesFrom isProper checkRules checkList longest capFrom frameFrom
-    frameKept listKept endsWithin largestTo keptOf allKnown checkOld resumeOf resumeAnswer updateAnswer
+    listOf oldest place value valueFrom lowest unit inLimits idBefore isBackend checkWeights include knownIds weightOf targetsKnown
+    rulesFrom isProper checkRules checkList longest capFrom frameFrom
+    frameKept listKept endsWithin largestTo keptOf checkOld resumeOf resumeAnswer updateAnswer
 halted = refl
+
+pub tied : Tied
+unfolding listTo sumTo countTo allTo firstTo argmax lastmax isRule isSuffix matches firstMatch gives share differing backends label weight has wants
+    excess shortfall imbalance giver receiver largestExcess largestShortfall isWithin reduction reductionAt term isNoGain isWhole termLength lowestPlace
+    newRule step after listOf oldest place value valueFrom lowest unit inLimits idBefore isBackend checkWeights include knownIds weightOf targetsKnown
+    rulesFrom numbersOf isProper checkRules
+    checkList longest capFrom frameFrom frameKept listKept endsWithin largestTo keptOf listResumed checkOld numbersResumed churn recordUpdated
+    resumeOf resumeAnswer updateAnswer
+tied = record { answer = refl; new = refl }

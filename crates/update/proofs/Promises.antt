@@ -14,7 +14,8 @@ use Rattle.numerals.specs.Refusals.{no7, no13}
 use Rattle.numerals.specs.declared.refusal.Refusal.{Refusal}
 use Rattle.expansion.specs.Imbalance.{Targets}
 use Rattle.expansion.specs.Steps.{endOf}
-use Rattle.expansion.specs.Answer.{onChecked, targetsMade}
+use Rattle.expansion.specs.Answer.{onChecked}
+use Rattle.expansion.specs.Known.{targetsKnown}
 use Rattle.expansion.specs.OldList.{rulesFrom, numbersOf}
 use Rattle.expansion.specs.Resume.{endsWithin, keptOf, frameKept, listKept, listResumed, checkOld, numbersResumed}
 use Rattle.expansion.specs.declared.rule.Rule.{Rule}
@@ -44,9 +45,9 @@ made-same e = cc
 seven-thirteen : {P : Type 0} → no7 ≡ no13 → P
 seven-thirteen e = absurd (let z : _≡_ {A = ℕ} 0 1 = cc in omega arith)
 
-module _ (k tolerance : ℕ) (ws cs out : List ℕ) where
+module _ (k tolerance : ℕ) (ids ws cs out : List ℕ) where
   abbrev T : Targets
-  T = targetsMade k ws
+  T = targetsKnown k (rulesFrom cs) ids ws
 
   abbrev R : List Rule
   R = rulesFrom cs
@@ -58,11 +59,11 @@ module _ (k tolerance : ℕ) (ws cs out : List ℕ) where
   kept = keptOf T tolerance R
 
   -- the answer where the checks refuse
-  refused-on : (why : Refusal) → checkOld k tolerance cs ws ≡ Failed why → updateAnswer k tolerance ws cs (length out) ≡ Refused why
-  refused-on why e = update-form k tolerance ws cs (length out) ∙ ap (λ (c : Checked). onChecked Refused c (updateOf T tolerance R (length out))) e
+  refused-on : (why : Refusal) → checkOld k tolerance cs ids ws ≡ Failed why → updateAnswer k tolerance ids ws cs (length out) ≡ Refused why
+  refused-on why e = update-form k tolerance ids ws cs (length out) ∙ ap (λ (c : Checked). onChecked Refused c (updateOf T tolerance R (length out))) e
 
-  passed-on : checkOld k tolerance cs ws ≡ Passed → updateAnswer k tolerance ws cs (length out) ≡ updateOf T tolerance R (length out)
-  passed-on e = update-form k tolerance ws cs (length out) ∙ ap (λ (c : Checked). onChecked Refused c (updateOf T tolerance R (length out))) e
+  passed-on : checkOld k tolerance cs ids ws ≡ Passed → updateAnswer k tolerance ids ws cs (length out) ≡ updateOf T tolerance R (length out)
+  passed-on e = update-form k tolerance ids ws cs (length out) ∙ ap (λ (c : Checked). onChecked Refused c (updateOf T tolerance R (length out))) e
 
   stuck-on : kept ≡ 0 → updateOf T tolerance R (length out) ≡ Refused no13
   unfolding updateOf
@@ -100,7 +101,7 @@ module _ (k tolerance : ℕ) (ws cs out : List ℕ) where
       let E = ends-found l in
       absurd (S .none kept (E .least) (E .most) (ap (endOf (frameKept T tolerance R kept)) (sym (E .list)) ∙ E .within))
 
-  kept-found : checkOld k tolerance cs ws ≡ Passed → 0 < kept → Kept T tolerance R new (recordUpdated T tolerance R)
+  kept-found : checkOld k tolerance cs ids ws ≡ Passed → 0 < kept → Kept T tolerance R new (recordUpdated T tolerance R)
   unfolding recordUpdated listResumed
   kept-found passed l =
       let E = ends-found l in
@@ -108,16 +109,16 @@ module _ (k tolerance : ℕ) (ws cs out : List ℕ) where
         ends = E;
         depth = refl;
         rules = refl;
-        few = kept-few k tolerance cs ws kept passed (E .least) (E .most);
+        few = kept-few k tolerance cs ids ws kept passed (E .least) (E .most);
         counted = refl;
       }
 
-  module _ (r : Updated) (out′ : List ℕ) (answer : r ≡ updateAnswer k tolerance ws cs (length out))
-      (buffer : out′ ≡ filled (isMade r) out 0 (numbersResumed k tolerance ws cs)) where
-    when-refused : (why : Refusal) → checkOld k tolerance cs ws ≡ Failed why → PromisedFor k tolerance ws cs r out′
+  module _ (r : Updated) (out′ : List ℕ) (answer : r ≡ updateAnswer k tolerance ids ws cs (length out))
+      (buffer : out′ ≡ filled (isMade r) out 0 (numbersResumed k tolerance ids ws cs)) where
+    when-refused : (why : Refusal) → checkOld k tolerance cs ids ws ≡ Failed why → PromisedFor k tolerance ids ws cs r out′
     when-refused why e =
         let is : r ≡ Refused why = answer ∙ refused-on why e in
-        let late = early k tolerance cs ws why e in
+        let late = early k tolerance cs ids ws why e in
         record {
           made = λ u q. not-both (sym is ∙ q);
           stuck = λ q. absurd (late .1 (why-same (sym is ∙ q)));
@@ -128,7 +129,7 @@ module _ (k tolerance : ℕ) (ws cs out : List ℕ) where
         clash-checks : {w : Refusal} → Passed ≡ Failed w → _≡_ {A = ℕ} 0 1
         clash-checks q = cc
 
-    when-stuck : checkOld k tolerance cs ws ≡ Passed → kept ≡ 0 → PromisedFor k tolerance ws cs r out′
+    when-stuck : checkOld k tolerance cs ids ws ≡ Passed → kept ≡ 0 → PromisedFor k tolerance ids ws cs r out′
     when-stuck passed none =
         let is : r ≡ Refused no13 = answer ∙ passed-on passed ∙ stuck-on none in
         record {
@@ -138,12 +139,12 @@ module _ (k tolerance : ℕ) (ws cs out : List ℕ) where
           short = λ q. seven-thirteen (sym (why-same (sym is ∙ q)));
         }
 
-    when-short : checkOld k tolerance cs ws ≡ Passed → 0 < kept → leb (length (numbersOf new)) (length out) ≡ false
-        → PromisedFor k tolerance ws cs r out′
+    when-short : checkOld k tolerance cs ids ws ≡ Passed → 0 < kept → leb (length (numbersOf new)) (length out) ≡ false
+        → PromisedFor k tolerance ids ws cs r out′
     when-short passed some no-room =
         let is : r ≡ Refused no7 =
         answer ∙ passed-on passed ∙ found-on some ∙ ap (λ (t : Bool). pick t (Made (recordUpdated T tolerance R)) (Refused no7)) no-room in
-        let same : out′ ≡ out = buffer ∙ ap (λ (x : Updated). filled (isMade x) out 0 (numbersResumed k tolerance ws cs)) is in
+        let same : out′ ≡ out = buffer ∙ ap (λ (x : Updated). filled (isMade x) out 0 (numbersResumed k tolerance ids ws cs)) is in
         record {
           made = λ u q. not-both (sym is ∙ q);
           stuck = λ q. seven-thirteen (why-same (sym is ∙ q));
@@ -151,14 +152,14 @@ module _ (k tolerance : ℕ) (ws cs out : List ℕ) where
           short = λ q. (kept, new, ends-found some, omega (arith, ap length same, leb-false (length (numbersOf new)) (length out) no-room));
         }
 
-    when-made : checkOld k tolerance cs ws ≡ Passed → 0 < kept → leb (length (numbersOf new)) (length out) ≡ true
-        → PromisedFor k tolerance ws cs r out′
+    when-made : checkOld k tolerance cs ids ws ≡ Passed → 0 < kept → leb (length (numbersOf new)) (length out) ≡ true
+        → PromisedFor k tolerance ids ws cs r out′
     unfolding numbersResumed
     when-made passed some room =
         let is : r ≡ Made (recordUpdated T tolerance R) =
         answer ∙ passed-on passed ∙ found-on some ∙ ap (λ (t : Bool). pick t (Made (recordUpdated T tolerance R)) (Refused no7)) room in
         let written : out′ ≡ sets out 0 (numbersOf new) =
-        buffer ∙ ap (λ (x : Updated). filled (isMade x) out 0 (numbersResumed k tolerance ws cs)) is in
+        buffer ∙ ap (λ (x : Updated). filled (isMade x) out 0 (numbersResumed k tolerance ids ws cs)) is in
         record {
           made = λ u q. (
             new,
@@ -170,18 +171,18 @@ module _ (k tolerance : ℕ) (ws cs out : List ℕ) where
           short = λ q. not-both (sym q ∙ is);
         }
 
-    pub promised : PromisedFor k tolerance ws cs r out′
-    promised = by-checks (checkOld k tolerance cs ws) refl
+    pub promised : PromisedFor k tolerance ids ws cs r out′
+    promised = by-checks (checkOld k tolerance cs ids ws) refl
       where
-        by-room : checkOld k tolerance cs ws ≡ Passed → 0 < kept → (t : Bool) → leb (length (numbersOf new)) (length out) ≡ t
-            → PromisedFor k tolerance ws cs r out′
+        by-room : checkOld k tolerance cs ids ws ≡ Passed → 0 < kept → (t : Bool) → leb (length (numbersOf new)) (length out) ≡ t
+            → PromisedFor k tolerance ids ws cs r out′
         by-room passed some true e = when-made passed some e
         by-room passed some false e = when-short passed some e
 
-        by-kept : checkOld k tolerance cs ws ≡ Passed → (n : ℕ) → kept ≡ n → PromisedFor k tolerance ws cs r out′
+        by-kept : checkOld k tolerance cs ids ws ≡ Passed → (n : ℕ) → kept ≡ n → PromisedFor k tolerance ids ws cs r out′
         by-kept passed zero e = when-stuck passed e
         by-kept passed (suc n) e = by-room passed (omega arith) (leb (length (numbersOf new)) (length out)) refl
 
-        by-checks : (c : Checked) → checkOld k tolerance cs ws ≡ c → PromisedFor k tolerance ws cs r out′
+        by-checks : (c : Checked) → checkOld k tolerance cs ids ws ≡ c → PromisedFor k tolerance ids ws cs r out′
         by-checks Passed e = by-kept e kept refl
         by-checks (Failed why) e = when-refused why e

@@ -1,6 +1,6 @@
--- What two accepted sheets hand to the update passes its checks: the lines of a service as an old list, and its weights. Only a rule to a backend beyond
--- the weights is left to refuse.
-use Prim.Native.Nat.{ℕ, suc, _-_, _≤_, _<_}
+-- What two accepted sheets hand to the update passes its checks: the lines of a service as an old list, and its ids and weights. Nothing is left to refuse
+-- but that no r ends within.
+use Prim.Native.Nat.{ℕ, suc, _≤_, _<_}
 use mathlib.Core.Bool.{true}
 use mathlib.Core.List.{List, [], _∷_, reverseAux}
 use mathlib.Core.Path.{_≡_, refl, ap, sym, _∙_}
@@ -9,29 +9,27 @@ use lib.Dec.{leb, ltb, eqb}
 use lib.ListN.{length, getD}
 use borrow.Author.Tests.{ltb-true, eq-eqb, ne-eqb, lt-ltb, le-leb}
 use Rattle.numerals.specs.Pick.{both}
-use Rattle.numerals.specs.Limits.{mostBits, mostBackends, mostServices, mostRules, unit}
-use Rattle.numerals.specs.Refusals.{no2}
+use Rattle.numerals.specs.Limits.{mostBits, mostServices, mostRules, unit}
 use Rattle.numerals.proofs.Choice.{both-left, both-right}
-use Rattle.numerals.proofs.Searches.{true-both, true-all}
-use Rattle.expansion.specs.Answer.{orElse, inLimits, checkWeights}
+use Rattle.numerals.proofs.Searches.{true-both}
+use Rattle.expansion.specs.Answer.{inLimits, checkWeights}
 use Rattle.expansion.specs.OldList.{numbersOf, isProper, checkRules, checkList}
-use Rattle.expansion.specs.Resume.{allKnown, checkOld}
+use Rattle.expansion.specs.Resume.{checkOld}
 use Rattle.expansion.specs.declared.rule.Rule.{Rule}
 use Rattle.expansion.specs.declared.call.Checked.the-variants.{Sound as Passed}
-use Rattle.expansion.proofs.Checks.{limits as within}
-use Rattle.expansion.proofs.OldNumbers.{rules-numbers, numbers-count}
+use Rattle.expansion.proofs.OldNumbers.{numbers-count}
 use Rattle.packing.specs.Count.{Line, ownRules}
 use Rattle.sheets.specs.Reading.{got}
 use Rattle.sheets.specs.RuleSheet.{Table, countOf, inOrder, closed, isLine, readTable}
 use Rattle.sheets.specs.PercentageSheet.{Sheet, readSheet}
 use Rattle.sheets.specs.Calls.{hasService}
-use Rattle.sheets.specs.Update.{oldRules, hasWeights, newWeights}
+use Rattle.sheets.specs.Update.{oldRules, hasWeights, newIds, newWeights}
 use Rattle.sheets.proofs.Following.{count-same, count-other, by-service}
 use Rattle.sheets.proofs.FirstMatch.{own-here, own-other}
 use Rattle.sheets.proofs.TableChecks.{is-within, formed, InOrder}
 use Rattle.sheets.proofs.OrderedLines.{read-proper}
-use Rattle.sheets.proofs.SheetLimits.{limits, sum-places}
-use Rattle.update.proofs.BothSheets.{Both}
+use Rattle.sheets.proofs.SheetLimits.{limits, row-passes}
+use Rattle.update.proofs.BothSheets.{Both, new-row}
 
 -- the order of a line behind p: of its service, or of a later one behind its `*`
 module _ (p : Line) (ps : List Line) (l : Line) (h : inOrder (p ∷ ps) l ≡ true) where
@@ -136,23 +134,13 @@ rules-pass text t n e h =
     rw (lt-ltb 0 (length (numbersOf (ownRules n (t .lines)))) (own-numbers n (t .lines) some))
     (rules-from (t .k) n [] (t .lines) (P .bits) (count-none n) (P .sorted) (P .ends) some)
 
-pub weights-pass : (text : List ℕ) (S : Sheet) (n : ℕ) → readSheet text ≡ got S → hasWeights S n ≡ true → checkWeights (newWeights S n) ≡ Passed
-unfolding checkWeights hasWeights newWeights
-weights-pass text S n e h =
-    let L = limits text S e in
-    let ws : List ℕ = getD (S .weights) (n - 1) [] in
-    let there = within 1 (length (S .weights)) n h in
-    let R = L .row (n - 1) (omega (arith, L .rows, there .0, there .1)) in
-    simp (
-      lt-ltb 0 (length ws) (R .some),
-      le-leb (length ws) mostBackends (R .few),
-      true-all (length ws) (λ b. leb (getD ws b 0) unit) (λ b l. le-leb (getD ws b 0) unit (R .small b l)),
-      eq-eqb _ unit (sum-places ws ∙ R .balanced),
-    )
+pub weights-pass : (text : List ℕ) (S : Sheet) (n : ℕ) → readSheet text ≡ got S → hasWeights S n ≡ true
+    → checkWeights (newIds S n) (newWeights S n) ≡ Passed
+weights-pass text S n e h = row-passes (new-row text S n e h)
 
+-- of two sheets that have the service under one k nothing is refused: no rule is held against the weights
 pub both-pass : (old sheet : List ℕ) (n : ℕ) (t : Table) (S : Sheet) → Both old sheet n t S
-    → checkOld (t .k) (S .tolerance) (numbersOf (oldRules t n)) (newWeights S n)
-    ≡ orElse (allKnown (length (newWeights S n)) (oldRules t n)) no2
+    → checkOld (t .k) (S .tolerance) (numbersOf (oldRules t n)) (newIds S n) (newWeights S n) ≡ Passed
 unfolding checkOld
 both-pass old sheet n t S B =
     let P = read-proper old t (B .table) in
@@ -161,5 +149,4 @@ both-pass old sheet n t S B =
       le-leb (S .tolerance) unit (limits sheet S (B .sheet) .tolerant),
       rules-pass old t n (B .table) (B .service),
       weights-pass sheet S n (B .sheet) (B .weights),
-      rules-numbers (oldRules t n),
     )

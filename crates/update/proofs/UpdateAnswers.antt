@@ -12,7 +12,8 @@ use Rattle.numerals.specs.Limits.{mostRules}
 use Rattle.numerals.specs.Refusals.{no7, no13}
 use Rattle.numerals.specs.declared.refusal.Refusal.{Refusal}
 use Rattle.expansion.specs.Imbalance.{Targets}
-use Rattle.expansion.specs.Answer.{onChecked, targetsMade}
+use Rattle.expansion.specs.Answer.{onChecked}
+use Rattle.expansion.specs.Known.{knownIds, targetsKnown}
 use Rattle.expansion.specs.OldList.{rulesFrom, numbersOf}
 use Rattle.expansion.specs.Resume.{endsWithin, keptOf, listResumed, checkOld, numbersResumed, resumeOf, resumeAnswer}
 use Rattle.expansion.specs.declared.rule.Rule.{Rule}
@@ -42,9 +43,9 @@ same-why e = cc
 same-told : {a b : told.Kept} → resumed.Made a ≡ resumed.Made b → a ≡ b
 same-told e = cc
 
-module _ (k tolerance : ℕ) (ws cs : List ℕ) (room : ℕ) where
+module _ (k tolerance : ℕ) (ids ws cs : List ℕ) (room : ℕ) where
   abbrev T : Targets
-  T = targetsMade k ws
+  T = targetsKnown k (rulesFrom cs) ids ws
 
   abbrev R : List Rule
   R = rulesFrom cs
@@ -57,7 +58,7 @@ module _ (k tolerance : ℕ) (ws cs : List ℕ) (room : ℕ) where
 
   -- what an expansion that was made tells
   pub record Resumes (m : told.Kept) : Type 0 where
-    pub passed : checkOld k tolerance cs ws ≡ Passed
+    pub passed : checkOld k tolerance cs ids ws ≡ Passed
     pub some : 0 < kept
     pub kept-is : m .kept ≡ kept
     pub rules-are : m .rules ≡ length new
@@ -73,7 +74,7 @@ module _ (k tolerance : ℕ) (ws cs : List ℕ) (room : ℕ) where
   both-refused why r u p q =
       record { refused = λ w e. q ∙ ap Refused (same-why (sym p ∙ e)); made = λ m e. not-refused (sym e ∙ p) }
 
-  beside-on : checkOld k tolerance cs ws ≡ Passed → Beside (resumeOf T tolerance R room) (updateOf T tolerance R room)
+  beside-on : checkOld k tolerance cs ids ws ≡ Passed → Beside (resumeOf T tolerance R room) (updateOf T tolerance R room)
   unfolding resumeOf updateOf
   beside-on passed = by-kept kept refl
     where
@@ -106,26 +107,27 @@ module _ (k tolerance : ℕ) (ws cs : List ℕ) (room : ℕ) where
           both-refused no13 (resumeOf T tolerance R room) (updateOf T tolerance R room) (simp stuck) (simp stuck)
       by-kept (suc n) e = by-room (omega arith) (leb (length (numbersOf new)) room) refl
 
-  pub beside : Beside (resumeAnswer k tolerance ws cs room) (updateAnswer k tolerance ws cs room)
+  pub beside : Beside (resumeAnswer k tolerance ids ws cs room) (updateAnswer k tolerance ids ws cs room)
   unfolding resumeAnswer
-  beside = by-checks (checkOld k tolerance cs ws) refl
+  beside = by-checks (checkOld k tolerance cs ids ws) refl
     where
-      by-checks : (c : Checked) → checkOld k tolerance cs ws ≡ c → Beside (resumeAnswer k tolerance ws cs room) (updateAnswer k tolerance ws cs room)
+      by-checks : (c : Checked) → checkOld k tolerance cs ids ws ≡ c
+          → Beside (resumeAnswer k tolerance ids ws cs room) (updateAnswer k tolerance ids ws cs room)
       by-checks Passed e =
-          let is : resumeAnswer k tolerance ws cs room ≡ resumeOf T tolerance R room =
+          let is : resumeAnswer k tolerance ids ws cs room ≡ resumeOf T tolerance R room =
           ap (λ (c : Checked). onChecked resumed.Refused c (resumeOf T tolerance R room)) e in
-          let us : updateAnswer k tolerance ws cs room ≡ updateOf T tolerance R room =
-          update-form k tolerance ws cs room ∙ ap (λ (c : Checked). onChecked Refused c (updateOf T tolerance R room)) e in
+          let us : updateAnswer k tolerance ids ws cs room ≡ updateOf T tolerance R room =
+          update-form k tolerance ids ws cs room ∙ ap (λ (c : Checked). onChecked Refused c (updateOf T tolerance R room)) e in
           let B = beside-on e in
           record { refused = λ why q. us ∙ B .refused why (sym is ∙ q); made = λ m q. let M = B .made m (sym is ∙ q) in (M .0, us ∙ M .1) }
       by-checks (Failed why) e =
-          both-refused why (resumeAnswer k tolerance ws cs room) (updateAnswer k tolerance ws cs room)
+          both-refused why (resumeAnswer k tolerance ids ws cs room) (updateAnswer k tolerance ids ws cs room)
           (ap (λ (c : Checked). onChecked resumed.Refused c (resumeOf T tolerance R room)) e)
-          (update-form k tolerance ws cs room ∙ ap (λ (c : Checked). onChecked Refused c (updateOf T tolerance R room)) e)
+          (update-form k tolerance ids ws cs room ∙ ap (λ (c : Checked). onChecked Refused c (updateOf T tolerance R room)) e)
 
   -- the record by its numbers
   pub record-is : (r n c : ℕ) → r ≡ kept → n ≡ length new → c ≡ churn k R new → record { k = k; kept = r; rules = n; churn = c } ≡ recordUpdated T tolerance R
-  unfolding recordUpdated targetsMade
+  unfolding recordUpdated targetsKnown
   record-is r n c p q e = rw (p, q, e)
 
   module _ (m : told.Kept) (M : Resumes m) where
@@ -139,8 +141,8 @@ module _ (k tolerance : ℕ) (ws cs : List ℕ) (room : ℕ) where
         omega (
           arith,
           M .rules-are,
-          kept-few k tolerance cs ws kept (M .passed) (M .some) most,
-          old-passed k tolerance cs ws (M .passed) .1 .1 .few,
+          kept-few k tolerance cs ids ws kept (M .passed) (M .some) most,
+          old-passed k tolerance cs ids ws (M .passed) .proper .few,
         )
 
     pub size-is : 3 * m .rules ≡ length (numbersOf new)
@@ -149,20 +151,20 @@ module _ (k tolerance : ℕ) (ws cs : List ℕ) (room : ℕ) where
     -- both are lists of rules of k bits
     pub old-rules : RulesOf k R
     old-rules =
-        let P = old-passed k tolerance cs ws (M .passed) in
-        record { each = λ i l. let K = P .1 .1 .each i l in (K .rule, known-few k (length ws) _ K (P .0 .few)) }
+        let P = old-passed k tolerance cs ids ws (M .passed) in
+        record { each = λ i l. let K = P .proper .each i l in (K .rule, known-few k (knownIds R ids) _ K (P .most)) }
 
     pub new-rules : RulesOf k new
     unfolding listResumed
     new-rules =
-        let P = old-passed k tolerance cs ws (M .passed) in
+        let P = old-passed k tolerance cs ids ws (M .passed) in
         record {
           each = λ i l.
-              let K = kept-known k tolerance cs ws kept (M .passed) (M .some) most i l in (K .rule, known-few k (length ws) _ K (P .0 .few));
+              let K = kept-known k tolerance cs ids ws kept (M .passed) (M .some) most i l in (K .rule, known-few k (knownIds R ids) _ K (P .most));
         }
 
     -- the list that was made stands at the start of the lent buffer
-    pub list-stored : (out out′ : List ℕ) → length out ≡ room → out′ ≡ sets out 0 (numbersResumed k tolerance ws cs)
+    pub list-stored : (out out′ : List ℕ) → length out ≡ room → out′ ≡ sets out 0 (numbersResumed k tolerance ids ws cs)
         → rulesFrom (take (3 * m .rules) out′) ≡ new
     unfolding numbersResumed
     list-stored out out′ long e =

@@ -8,7 +8,8 @@ use lib.ListN.{length}
 use Rattle.numerals.specs.Pick.{pick}
 use Rattle.numerals.specs.Refusals.{no7, no13}
 use Rattle.expansion.specs.Imbalance.{Targets}
-use Rattle.expansion.specs.Answer.{onChecked, targetsMade}
+use Rattle.expansion.specs.Answer.{onChecked}
+use Rattle.expansion.specs.Known.{targetsKnown}
 use Rattle.expansion.specs.OldList.{rulesFrom, numbersOf}
 use Rattle.expansion.specs.Resume.{keptOf, listResumed, checkOld, resumeOf, resumeAnswer}
 use Rattle.expansion.specs.declared.rule.Rule.{Rule}
@@ -35,9 +36,11 @@ by-tests u m Passed true fits = refl
 by-tests u m Passed false true = refl
 by-tests u m Passed false false = refl
 
-pub update-form : (k tolerance : ℕ) (ws cs : List ℕ) (room : ℕ)
-    → updateAnswer k tolerance ws cs room ≡ onChecked Refused (checkOld k tolerance cs ws) (updateOf (targetsMade k ws) tolerance (rulesFrom cs) room)
+pub update-form : (k tolerance : ℕ) (ids ws cs : List ℕ) (room : ℕ)
+    → updateAnswer k tolerance ids ws cs room
+    ≡ onChecked Refused (checkOld k tolerance cs ids ws) (updateOf (targetsKnown k (rulesFrom cs) ids ws) tolerance (rulesFrom cs) room)
 unfolding updateAnswer resumeAnswer resumeOf updateOf
-update-form k tolerance ws cs room =
-    by-tests (recordUpdated (targetsMade k ws) tolerance (rulesFrom cs)) _ (checkOld k tolerance cs ws) (eqb (keptOf (targetsMade k ws) tolerance (rulesFrom cs)) 0)
-    (leb (length (numbersOf (listResumed (targetsMade k ws) tolerance (rulesFrom cs)))) room)
+update-form k tolerance ids ws cs room =
+    by-tests (recordUpdated (targetsKnown k (rulesFrom cs) ids ws) tolerance (rulesFrom cs)) _ (checkOld k tolerance cs ids ws)
+    (eqb (keptOf (targetsKnown k (rulesFrom cs) ids ws) tolerance (rulesFrom cs)) 0)
+    (leb (length (numbersOf (listResumed (targetsKnown k (rulesFrom cs) ids ws) tolerance (rulesFrom cs)))) room)

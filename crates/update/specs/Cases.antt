@@ -1,4 +1,5 @@
--- Worked cases of the update (document 02, Req 03): P1's list of document 01 ("Figures to try"), in numbers, under other weights; and a list that is stuck.
+-- Worked cases of the update (document 02, Req 03 and 04): P1's list of document 01 ("Figures to try"), in numbers, under other weights; a list that is
+-- stuck; and a tie between a backend that is missing from the new weights and one that isn't.
 use Prim.Native.Nat.{ℕ}
 use mathlib.Core.List.{List, [], _∷_}
 use mathlib.Core.Path.{_≡_}
@@ -15,19 +16,24 @@ thirds = 5 ∷ 4 ∷ 1 ∷ 3 ∷ 0 ∷ 1 ∷ 1 ∷ 0 ∷ 2 ∷ 0 ∷ 0 ∷ 3 ∷
 -- new weights on that list, k 5: what is answered, and the new list
 pub record Case : Type 0 where
   pub tolerance : ℕ
+  pub ids : List ℕ
   pub weights : List ℕ
   pub update : update.Update
   pub new : List ℕ
 
 pub record Shows (c : Case) : Type 0 where
-  pub answer : updateAnswer 5 (c .tolerance) (c .weights) thirds 12 ≡ Made (c .update)
-  pub new : numbersResumed 5 (c .tolerance) (c .weights) thirds ≡ c .new
+  pub answer : updateAnswer 5 (c .tolerance) (c .ids) (c .weights) thirds 12 ≡ Made (c .update)
+  pub new : numbersResumed 5 (c .tolerance) (c .ids) (c .weights) thirds ≡ c .new
+
+abbrev three : List ℕ
+three = 1 ∷ 2 ∷ 3 ∷ []
 
 -- the weights that the list was made for: all four rules are kept, and nothing moves
 abbrev pub unchanged : Case
 unchanged =
     record {
       tolerance = 20000;
+      ids = three;
       weights = 166667 ∷ 333333 ∷ 500000 ∷ [];
       update = record { k = 5; kept = 4; rules = 4; churn = 0 };
       new = thirds;
@@ -38,6 +44,7 @@ abbrev pub quarter : Case
 quarter =
     record {
       tolerance = 20000;
+      ids = three;
       weights = 250000 ∷ 250000 ∷ 500000 ∷ [];
       update = record { k = 5; kept = 3; rules = 4; churn = 3 };
       new = 3 ∷ 4 ∷ 1 ∷ 3 ∷ 0 ∷ 1 ∷ 1 ∷ 0 ∷ 2 ∷ 0 ∷ 0 ∷ 3 ∷ [];
@@ -48,6 +55,7 @@ abbrev pub afresh : Case
 afresh =
     record {
       tolerance = 20000;
+      ids = three;
       weights = 500000 ∷ 300000 ∷ 200000 ∷ [];
       update = record { k = 5; kept = 1; rules = 4; churn = 21 };
       new = 4 ∷ 3 ∷ 2 ∷ 2 ∷ 1 ∷ 2 ∷ 1 ∷ 0 ∷ 1 ∷ 0 ∷ 0 ∷ 3 ∷ [];
@@ -58,11 +66,45 @@ abbrev pub hidden : Case
 hidden =
     record {
       tolerance = 0;
+      ids = three;
       weights = 0 ∷ 0 ∷ 1000000 ∷ [];
       update = record { k = 5; kept = 2; rules = 3; churn = 16 };
       new = 1 ∷ 0 ∷ 3 ∷ 1 ∷ 0 ∷ 2 ∷ 0 ∷ 0 ∷ 3 ∷ [];
     }
 
--- `*` alone to 1, k 1, new weights 50 50: one rule can't halve the tree
+-- 2:50 3:50: 1 is missing and counts as weight 0. The newest rule is dropped, and a new `*000` hides the one that 1 keeps.
+abbrev pub retired : Case
+retired =
+    record {
+      tolerance = 20000;
+      ids = 2 ∷ 3 ∷ [];
+      weights = 500000 ∷ 500000 ∷ [];
+      update = record { k = 5; kept = 3; rules = 4; churn = 5 };
+      new = 3 ∷ 0 ∷ 2 ∷ 3 ∷ 0 ∷ 1 ∷ 1 ∷ 0 ∷ 2 ∷ 0 ∷ 0 ∷ 3 ∷ [];
+    }
+
+-- 2:33.3333 3:50 40:16.6667: 40 takes the place of 1, and only the suffixes that 1 held move
+abbrev pub replaced : Case
+replaced =
+    record {
+      tolerance = 20000;
+      ids = 2 ∷ 3 ∷ 40 ∷ [];
+      weights = 333333 ∷ 500000 ∷ 166667 ∷ [];
+      update = record { k = 5; kept = 2; rules = 4; churn = 5 };
+      new = 5 ∷ 4 ∷ 40 ∷ 3 ∷ 0 ∷ 40 ∷ 1 ∷ 0 ∷ 2 ∷ 0 ∷ 0 ∷ 3 ∷ [];
+    }
+
+-- `*` alone to 1, k 1, new weights 1:50 2:50: one rule can't halve the tree
 abbrev pub Halted : Type 0
-Halted = updateAnswer 1 0 (500000 ∷ 500000 ∷ []) (0 ∷ 0 ∷ 1 ∷ []) 3 ≡ Refused no13
+Halted = updateAnswer 1 0 (1 ∷ 2 ∷ []) (500000 ∷ 500000 ∷ []) (0 ∷ 0 ∷ 1 ∷ []) 3 ≡ Refused no13
+
+-- k 2, `*11` twice and `*1` to 1, `*` to 3
+abbrev pub tiedOld : List ℕ
+tiedOld = 2 ∷ 3 ∷ 1 ∷ 2 ∷ 3 ∷ 1 ∷ 1 ∷ 1 ∷ 1 ∷ 0 ∷ 0 ∷ 3 ∷ []
+
+-- new weights 2:100 3:0: after two kept rules 1, which is missing, and 3 have the same excess, and the lower id gives first
+pub record Tied : Type 0 where
+  pub answer : updateAnswer 2 0 (2 ∷ 3 ∷ []) (1000000 ∷ 0 ∷ []) tiedOld 12 ≡ Made (record { k = 2; kept = 2; rules = 4; churn = 4 })
+  pub new :
+      numbersResumed 2 0 (2 ∷ 3 ∷ []) (1000000 ∷ 0 ∷ []) tiedOld
+      ≡ 1 ∷ 0 ∷ 2 ∷ 1 ∷ 1 ∷ 2 ∷ 1 ∷ 1 ∷ 1 ∷ 0 ∷ 0 ∷ 3 ∷ []

@@ -7,8 +7,8 @@ use lib.ListN.{length, take}
 use Rattle.numerals.specs.Refusals.{no7, no13}
 use Rattle.expansion.specs.Imbalance.{Targets}
 use Rattle.expansion.specs.Steps.{endOf}
-use Rattle.expansion.specs.Answer.{targetsMade}
 use Rattle.expansion.specs.OldList.{rulesFrom, numbersOf}
+use Rattle.expansion.specs.Known.{targetsKnown}
 use Rattle.expansion.specs.Resume.{frameKept, listKept, checkOld}
 use Rattle.expansion.specs.declared.rule.Rule.{Rule}
 use Rattle.expansion.specs.declared.rule.Ended.the-variants.{Within}
@@ -50,6 +50,6 @@ pub record Promised (T : Targets) (tolerance : ℕ) (old : List Rule) (passed : 
       → (kept : ℕ) × (new : List Rule) × Ends T tolerance old kept new × (length numbers < length (numbersOf new))
 
 -- of the call without a text
-abbrev pub PromisedFor : ℕ → ℕ → List ℕ → List ℕ → Updated → List ℕ → Type 0
-PromisedFor k tolerance ws old r numbers =
-    Promised (targetsMade k ws) tolerance (rulesFrom old) (checkOld k tolerance old ws ≡ Sound) r numbers
+abbrev pub PromisedFor : ℕ → ℕ → List ℕ → List ℕ → List ℕ → Updated → List ℕ → Type 0
+PromisedFor k tolerance ids ws old r numbers =
+    Promised (targetsKnown k (rulesFrom old) ids ws) tolerance (rulesFrom old) (checkOld k tolerance old ids ws ≡ Sound) r numbers

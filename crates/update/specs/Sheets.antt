@@ -1,4 +1,4 @@
--- The update on two texts: the old list from a rule sheet, the new weights and the tolerance from a percentage sheet (`sheets` specs/Update).
+-- The update on two texts: the old list from a rule sheet, the new weights with their ids and the tolerance from a percentage sheet (`sheets` specs/Update).
 use Prim.Native.Nat.{ℕ}
 use mathlib.Core.Path.{_≡_}
 use mathlib.Core.Bool.{Bool, true, false}
@@ -9,7 +9,7 @@ use Rattle.sheets.specs.PercentageSheet.{Sheet, readSheet}
 use Rattle.sheets.specs.RuleSheet.{Table, readTable}
 use Rattle.sheets.specs.Calls.{refusedAt, answered, valuesOf, hasService}
 use Rattle.sheets.specs.Reading.{got}
-use Rattle.sheets.specs.Update.{oldRules, hasWeights, newWeights, ofService}
+use Rattle.sheets.specs.Update.{oldRules, hasWeights, newIds, newWeights, ofService}
 use Rattle.sheets.specs.declared.answer.Refused.{Refused as Why}
 use Rattle.expansion.specs.Resume.{numbersResumed}
 use Rattle.update.specs.Update.{updateAnswer}
@@ -19,7 +19,7 @@ use Rattle.update.specs.declared.answer.Updated.the-variants as updated
 use Rattle.update.specs.declared.answer.SheetUpdated.{SheetUpdated}
 use Rattle.update.specs.declared.answer.SheetUpdated.the-variants.{Made, Refused}
 
--- a refusal of the call without a text has line 0 and is about neither sheet, a rule for a backend beyond the weights too: each sheet alone is proper
+-- a refusal of the call without a text has line 0 and is about neither sheet: each of them is proper
 abbrev pub neither : Refusal → Why
 neither why = refusedAt why 0
 
@@ -27,11 +27,11 @@ abbrev pub ofUpdated : Updated → SheetUpdated
 ofUpdated (updated.Made u) = Made u
 ofUpdated (updated.Refused why) = Refused (neither why)
 
--- the list, the weights and the tolerance that were read, handed to the call without a text
+-- the list, the ids, the weights and the tolerance that were read, handed to the call without a text
 unfoldable pub sheetsIn : Table → Sheet → ℕ → ℕ → SheetUpdated
 sheetsIn t S n room =
     ofService Refused t S n
-    (ofUpdated (updateAnswer (t .k) (S .tolerance) (newWeights S n) (numbersOf (oldRules t n)) room))
+    (ofUpdated (updateAnswer (t .k) (S .tolerance) (newIds S n) (newWeights S n) (numbersOf (oldRules t n)) room))
 
 unfoldable pub sheetsAnswer : List ℕ → List ℕ → ℕ → ℕ → SheetUpdated
 sheetsAnswer old sheet n room =
@@ -46,11 +46,11 @@ isMade (Refused r) = false
 unfoldable pub sheetsNumbers : List ℕ → List ℕ → ℕ → List ℕ
 sheetsNumbers old sheet n =
     valuesOf (readTable old) (λ t. valuesOf (readSheet sheet) (λ S.
-    numbersResumed (t .k) (S .tolerance) (newWeights S n) (numbersOf (oldRules t n))))
+    numbersResumed (t .k) (S .tolerance) (newIds S n) (newWeights S n) (numbersOf (oldRules t n))))
 
 -- what the request promises, of the old list and the new weights that were read
 abbrev pub PromisedBoth : List ℕ → List ℕ → ℕ → SheetUpdated → List ℕ → Type 0
 PromisedBoth old sheet n r numbers =
     (t : Table) (S : Sheet) → readTable old ≡ got t → readSheet sheet ≡ got S → hasService t n ≡ true → hasWeights S n ≡ true → t .k ≡ S .k
     → (u : Updated) × (r ≡ ofUpdated u)
-    × PromisedFor (t .k) (S .tolerance) (newWeights S n) (numbersOf (oldRules t n)) u numbers
+    × PromisedFor (t .k) (S .tolerance) (newIds S n) (newWeights S n) (numbersOf (oldRules t n)) u numbers

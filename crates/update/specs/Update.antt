@@ -1,13 +1,14 @@
--- New weights on a loaded table (document 02, Req 03; the paper's section 6.1): of an old list the r oldest rules are kept, and the expansion goes on from
--- there for the new weights (`expansion` specs/Resume). The answer is some r that ends within tolerance, its list and its churn.
+-- New weights on a loaded table (document 02, Req 03 and 04; the paper's section 6.1): of an old list the r oldest rules are kept, and the expansion goes on
+-- from there for the new weights (`expansion` specs/Resume), backends matched by id (specs/Known). The answer is some r that ends within tolerance, its list
+-- and its churn.
 use Prim.Native.Nat.{ℕ, _^_}
 use mathlib.Core.Bool.{Bool, true, false}
 use mathlib.Core.List.{List}
 use lib.ListN.{length}
 use Rattle.expansion.specs.FirstMatch.{differing}
 use Rattle.expansion.specs.Imbalance.{Targets}
-use Rattle.expansion.specs.Answer.{targetsMade}
 use Rattle.expansion.specs.OldList.{rulesFrom}
+use Rattle.expansion.specs.Known.{targetsKnown}
 use Rattle.expansion.specs.Resume.{keptOf, listResumed, resumeAnswer}
 use Rattle.expansion.specs.declared.rule.Rule.{Rule}
 use Rattle.expansion.specs.declared.resuming.Resumed.{Resumed}
@@ -16,7 +17,7 @@ use Rattle.update.specs.declared.answer.Update as update
 use Rattle.update.specs.declared.answer.Updated.{Updated}
 use Rattle.update.specs.declared.answer.Updated.the-variants.{Made, Refused}
 
--- churn: the count over all 2^k suffixes whose backend differs
+-- churn: the count over all 2^k suffixes whose backend's id differs
 unfoldable pub churn : ℕ → List Rule → List Rule → ℕ
 churn k old new = differing (2 ^ k) old new
 
@@ -36,9 +37,9 @@ ofResumed u (resumed.Made m) = Made u
 ofResumed u (resumed.Refused why) = Refused why
 
 -- the answer, for an old list in numbers and a lent buffer that has `room` places
-unfoldable pub updateAnswer : ℕ → ℕ → List ℕ → List ℕ → ℕ → Updated
-updateAnswer k tolerance ws old room =
-    ofResumed (recordUpdated (targetsMade k ws) tolerance (rulesFrom old)) (resumeAnswer k tolerance ws old room)
+unfoldable pub updateAnswer : ℕ → ℕ → List ℕ → List ℕ → List ℕ → ℕ → Updated
+updateAnswer k tolerance ids ws old room =
+    ofResumed (recordUpdated (targetsKnown k (rulesFrom old) ids ws) tolerance (rulesFrom old)) (resumeAnswer k tolerance ids ws old room)
 
 -- a list was made; only then is the lent buffer filled
 abbrev pub isMade : Updated → Bool

@@ -45,7 +45,7 @@ fn spread(holder: &mut [u16], rules: &[usize], places: &[u16], k: usize)
     }
 }
 
-// How many of the k-bit suffixes the two lists give to unlike backends.
+// How many of the k-bit suffixes the two lists give to backends of unlike ids.
 pub fn count_churn(old: &[usize], new: &[usize], k: usize) -> usize
     requires { ⌜ (k ≤ mostBits) × (RulesOf k (rulesFrom (now old)) × RulesOf k (rulesFrom (now new))) ⌝ }
     ensures { λ r. ⌜ r ≡ churn k (rulesFrom (now (old .entry))) (rulesFrom (now (new .entry))) ⌝ }

@@ -41,8 +41,9 @@ pub fn update_sheets(old: &[u8], sheet: &[u8], service: usize, rules: &mut [usiz
     ensures promise { λ r. ⌜ texts.PromisedBoth (now (old .entry)) (now (sheet .entry)) service r (now (rules .exit)) ⌝ }
 {
     let mut list = [0usize; MOST_NUMBERS];
+    let mut ids = [0usize; MOST_BACKENDS];
     let mut weights = [0u64; MOST_BACKENDS];
-    let read = sheets::read_update(old, sheet, service, &mut list, &mut weights);
+    let read = sheets::read_update(old, sheet, service, &mut list, &mut ids, &mut weights);
     match read {
         UpdateRead::Refused(r) => SheetUpdated::Refused(r),
         UpdateRead::Made(m) => {
@@ -51,6 +52,7 @@ pub fn update_sheets(old: &[u8], sheet: &[u8], service: usize, rules: &mut [usiz
                 m.k,
                 m.tolerance,
                 &list[..n],
+                &ids[..m.backends],
                 &weights[..m.backends],
                 rules,
             );

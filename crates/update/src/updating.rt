@@ -11,21 +11,22 @@ ghost use Rattle.update.specs.Update.{updateAnswer, isMade};
 ghost use Rattle.update.specs.Promise.{PromisedFor};
 
 // Of an old list in numbers, the newest rule first, the oldest rules are kept, as many as can be so that the steps of document
-// 01 go on from there, for new weights, to a list that is within tolerance and has no more rules than the old one. The new
-// list in numbers, the newest rule first, into a lent buffer.
+// 01 go on from there, for new weights, to a list that is within tolerance and has no more rules than the old one. Backends
+// are matched by id. The new list in numbers, the newest rule first, into a lent buffer.
 pub fn update(
     k: usize,
     tolerance: u64,
     old: &[usize],
+    ids: &[usize],
     weights: &[u64],
     rules: &mut [usize],
 ) -> Updated
-    ensures answer { λ r. ⌜ r ≡ updateAnswer k tolerance (now (weights .entry)) (now (old .entry)) (length (now (rules .entry))) ⌝ }
+    ensures answer { λ r. ⌜ r ≡ updateAnswer k tolerance (now (ids .entry)) (now (weights .entry)) (now (old .entry)) (length (now (rules .entry))) ⌝ }
     ensures rules { λ r. ⌜ now (rules .exit) ≡ filled (isMade r) (now (rules .entry)) 0
-        (numbersResumed k tolerance (now (weights .entry)) (now (old .entry))) ⌝ }
-    ensures promise { λ r. ⌜ PromisedFor k tolerance (now (weights .entry)) (now (old .entry)) r (now (rules .exit)) ⌝ }
+        (numbersResumed k tolerance (now (ids .entry)) (now (weights .entry)) (now (old .entry))) ⌝ }
+    ensures promise { λ r. ⌜ PromisedFor k tolerance (now (ids .entry)) (now (weights .entry)) (now (old .entry)) r (now (rules .exit)) ⌝ }
 {
-    let resumed = expansion::resume(k, tolerance, old, weights, rules);
+    let resumed = expansion::resume(k, tolerance, old, ids, weights, rules);
     match resumed {
         Resumed::Refused(why) => Updated::Refused(why),
         Resumed::Made(m) => {

@@ -1,11 +1,15 @@
 //! What vectors `L` ask: an old list and new weights in numbers.
 
+use super::expansion::rows_text;
 use super::loaded::{any_list, changed, loaded, near_shares, spoil_list, Loaded};
+use super::shapes::{first_ids, ids, spoil_ids};
 use crate::expansion::{Ending, Rule};
+use crate::limits::MOST_ID;
 use crate::lists::{list_of, numbers_of};
 use crate::numerals::WHOLE;
 use crate::random::Random;
-use crate::update::{run, update};
+use crate::refusal::Refusal;
+use crate::update::{run, update, Known, Updated};
 
 /// All numbers of a call but those of its buffer.
 #[derive(Clone, Debug)]
@@ -13,18 +17,26 @@ pub struct Ask {
     pub k: u64,
     pub tolerance: u64,
     pub old: Vec<u64>,
+    pub ids: Vec<u64>,
     pub weights: Vec<u64>,
 }
 
 impl Ask {
-    /// The payload: two lines, the old list and the weights.
+    /// The payload: three lines, the old list, the ids and the weights.
     pub fn payload(&self) -> Vec<u8> {
-        let mut text = String::new();
-        for row in [&self.old, &self.weights] {
-            let row: Vec<String> = row.iter().map(u64::to_string).collect();
-            text += &(row.join(" ") + "\n");
-        }
-        text.into_bytes()
+        rows_text(&[&self.old, &self.ids, &self.weights]).into_bytes()
+    }
+
+    /// What is made of it where there is room.
+    pub fn made(&self) -> Result<Updated, Refusal> {
+        let Ask {
+            k,
+            tolerance,
+            old,
+            ids,
+            weights,
+        } = self;
+        update(*k, *tolerance, old, ids, weights, &mut [0; 96])
     }
 }
 
@@ -33,20 +45,23 @@ fn ask_of(case: &Loaded) -> Ask {
         k: u64::from(case.k),
         tolerance: case.tolerance,
         old: numbers_of(case.old.iter()),
-        weights: case.weights.clone(),
+        ids: case.new.ids.clone(),
+        weights: case.new.weights.clone(),
     }
 }
 
 /// P1's list, newest rule first.
-const P1: [u64; 12] = [5, 4, 1, 3, 0, 1, 1, 0, 2, 0, 0, 3];
+pub(super) const P1: [u64; 12] = [5, 4, 1, 3, 0, 1, 1, 0, 2, 0, 0, 3];
 const SIXTHS: [u64; 3] = [166_667, 333_333, 500_000];
 const QUARTERS: [u64; 3] = [250_000, 250_000, 500_000];
 
+/// With the ids 1, 2, ..
 fn ask(k: u64, tolerance: u64, old: &[u64], weights: &[u64]) -> Ask {
     Ask {
         k,
         tolerance,
         old: old.to_vec(),
+        ids: first_ids(weights.len()),
         weights: weights.to_vec(),
     }
 }
@@ -116,13 +131,14 @@ pub fn every_keep(random: &mut Random) -> Vec<Ask> {
                 continue;
             }
             let k = (1 + (keep + more) % 12).max(5) as u8;
-            let old = any_list(random, k, keep + more, 4);
-            let weights = near_shares(k, &old[more as usize..], 4);
+            let ids = ids(random, 4);
+            let old = any_list(random, k, keep + more, &ids);
+            let new = near_shares(k, &old[more as usize..], &ids);
             let case = Loaded {
                 k,
                 tolerance: 100,
                 old,
-                weights,
+                new,
             };
             asks.push(ask_of(&case));
         }
@@ -136,15 +152,16 @@ pub fn longest(random: &mut Random, count: u64) -> Vec<Ask> {
     for turn in 0..count {
         let k = (5 + turn % 8) as u8;
         let backends = *random.pick(&[3, 8, 32]);
-        let old = any_list(random, k, 32, backends);
+        let ids = ids(random, 32);
+        let old = any_list(random, k, 32, &ids[..backends]);
         let from = random.within(1, 24) as usize;
-        let near = near_shares(k, &old[from..], 32);
-        let weights = changed(random, &near);
+        let near = near_shares(k, &old[from..], &ids);
+        let new = changed(random, &near);
         let case = Loaded {
             k,
             tolerance: *random.pick(&[100, 2_000, 20_000]),
             old,
-            weights,
+            new,
         };
         asks.push(ask_of(&case));
     }
@@ -161,10 +178,11 @@ pub fn at_random(random: &mut Random, count: u64) -> Vec<Ask> {
 /// ends within it. The rules of a run are the same for each tolerance, but that
 /// it ends sooner.
 fn tightest(ask: &Ask, old: &[Rule], keep: usize) -> u64 {
+    let known = Known::new(old, &ask.ids, &ask.weights);
     let (mut low, mut high) = (0, WHOLE);
     while low < high {
         let middle = (low + high) / 2;
-        match run(ask.k as u8, middle, old, keep, &ask.weights).0 {
+        match run(ask.k as u8, middle, old, keep, &known).0 {
             Ending::Within => high = middle,
             _ => low = middle + 1,
         }
@@ -198,23 +216,22 @@ pub fn tight(ask: &Ask) -> Vec<Ask> {
     asks
 }
 
-/// Cases that would drop rules, but one of these goes to a backend beyond the
-/// weights.
-pub fn dropped_beyond(random: &mut Random, asks: &[Ask]) -> Vec<Ask> {
-    let mut beyond = Vec::new();
+/// Cases that drop rules, where one of these goes to a backend that is missing
+/// from the weights.
+pub fn dropped_missing(random: &mut Random, asks: &[Ask]) -> Vec<Ask> {
+    let mut missing = Vec::new();
     for ask in asks {
-        let made = update(ask.k, ask.tolerance, &ask.old, &ask.weights, &mut [0; 96]);
-        let keep = made.map_or(0, |made| made.keep);
-        let (rules, backends) = (ask.old.len() / 3, ask.weights.len() as u64);
-        if keep == 0 || keep == rules || backends == 32 {
+        let keep = ask.made().map_or(0, |made| made.keep);
+        let rules = ask.old.len() / 3;
+        if keep == 0 || keep == rules {
             continue;
         }
         let mut ask = ask.clone();
         let dropped = random.below((rules - keep) as u64) as usize;
-        ask.old[3 * dropped + 2] = *random.pick(&[backends + 1, 32]);
-        beyond.push(ask);
+        ask.old[3 * dropped + 2] = *random.pick(&[1, 33, MOST_ID]);
+        missing.push(ask);
     }
-    beyond
+    missing
 }
 
 /// Cases with something wrong in the numbers, most of them.
@@ -222,12 +239,13 @@ pub fn spoilt(random: &mut Random, count: u64) -> Vec<Ask> {
     let mut asks = at_random(random, count);
     for ask in &mut asks {
         let at = random.below(ask.weights.len() as u64) as usize;
-        match random.below(8) {
+        match random.below(10) {
             0 => ask.k = random.within(0, 14),
             1 => ask.tolerance = random.any_size(),
             2 => ask.weights[at] = random.any_size(),
             3 => ask.weights.truncate(at),
             4 => ask.weights[at] += 1,
+            5 | 6 => spoil_ids(random, &mut ask.ids),
             _ => spoil_list(random, &mut ask.old),
         }
     }
@@ -235,11 +253,11 @@ pub fn spoilt(random: &mut Random, count: u64) -> Vec<Ask> {
 }
 
 /// One thing that is wrong, in the order in which it is looked for.
-const FAULTS: [fn(&mut Ask); 15] = [
+const FAULTS: [fn(&mut Ask); 17] = [
     |ask| ask.k = 13,
     |ask| ask.tolerance = WHOLE + 1,
     |ask| ask.old.clear(),
-    |ask| set(&mut ask.old, 2, 33),
+    |ask| set(&mut ask.old, 2, 10_000),
     |ask| set(&mut ask.old, 1, 32),
     |ask| ask.old = [[5, 4, 1].repeat(30), ask.old.clone()].concat(),
     |ask| set(&mut ask.old, 3, 6),
@@ -248,9 +266,11 @@ const FAULTS: [fn(&mut Ask); 15] = [
     |ask| ask.old.truncate(9),
     |ask| ask.weights.clear(),
     |ask| ask.weights.resize(33, 0),
+    |ask| ask.ids.truncate(2),
+    |ask| set(&mut ask.ids, 1, 1),
+    |ask| set(&mut ask.ids, 2, 10_000),
     |ask| set(&mut ask.weights, 1, WHOLE + 1),
     |ask| set(&mut ask.weights, 0, 7),
-    |ask| set(&mut ask.old, 5, 4),
 ];
 
 fn set(numbers: &mut [u64], at: usize, number: u64) {
@@ -280,6 +300,24 @@ pub fn faulty(stuck: bool, next: usize) -> Vec<Ask> {
     asks
 }
 
+/// Numbers at the limits of a list's numbers, and far beyond them.
+const NUMBERS: [u64; 14] = [
+    0,
+    1,
+    2,
+    5,
+    6,
+    12,
+    13,
+    33,
+    256,
+    9_999,
+    10_000,
+    65_537,
+    1 << 32,
+    u64::MAX,
+];
+
 /// Lists refused for their numbers, rule by rule, and a few that aren't.
 pub fn lists() -> Vec<Ask> {
     let many = |rules: usize, last: &[u64]| [&[1, 0, 1].repeat(rules)[..], last].concat();
@@ -292,14 +330,14 @@ pub fn lists() -> Vec<Ask> {
         vec![1, 0, 1, 0],
         vec![0, 0, 1, 0, 0, 1],
         vec![0, 0, 1, 1, 0, 1],
-        vec![1, 0, 1, 2, 0, 1, 0, 0, 33],
-        vec![1, 0, 1, 2, 0, 33, 0, 0, 1],
+        vec![1, 0, 1, 2, 0, 1, 0, 0, 10_000],
+        vec![1, 0, 1, 2, 0, 10_000, 0, 0, 1],
         vec![1, 0, 1, 2, 0, 1, 0],
         vec![2, 0, 1, 1, 0, 1],
         vec![2, 0, 1, 1, 0, 1, 0, 0, 3],
         vec![2, 3, 1, 2, 3, 1, 0, 0, 3],
     ];
-    for number in [0, 1, 2, 5, 6, 12, 13, 32, 33, 64, 256, 1 << 32, u64::MAX] {
+    for number in NUMBERS {
         lists.push(vec![number, 0, 1, 0, 0, 1]);
         lists.push(vec![1, number, 1, 0, 0, 1]);
         lists.push(vec![0, number, 1]);
@@ -322,7 +360,7 @@ pub fn weight_counts() -> Vec<Ask> {
             asks.push(ask(5, WHOLE, &[1, 0, 1, 0, 0, 1], &vec![weight; count]));
         }
     }
-    for backend in [1, 2, 3, 31, 32] {
+    for backend in [1, 2, 3, 33, MOST_ID] {
         asks.push(ask(5, WHOLE, &[1, 0, 1, 0, 0, backend], &[31_250; 32]));
         asks.push(ask(5, WHOLE, &[1, 0, backend, 0, 0, 1], &[500_000; 2]));
     }

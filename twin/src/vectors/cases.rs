@@ -6,7 +6,7 @@ use super::percentage_sheets::small;
 use super::rule_sheets::{some_service, table};
 use super::shapes::{rule_table, sheet_text};
 use super::spoil::spoil;
-use crate::limits::{MOST_BACKENDS, MOST_VOLUME};
+use crate::limits::{MOST_ID, MOST_VOLUME};
 use crate::random::Random;
 use crate::rule_sheet::text_of;
 use crate::table::Table;
@@ -230,7 +230,7 @@ fn rename(random: &mut Random, case: &mut Case) {
 }
 
 /// Words that are numerals or nearly so.
-const NUMERALS: [&str; 22] = [
+const NUMERALS: [&str; 24] = [
     "0",
     "1",
     "2",
@@ -238,6 +238,8 @@ const NUMERALS: [&str; 22] = [
     "65",
     "256",
     "257",
+    "9999",
+    "10000",
     "4294967295",
     "4294967296",
     "4294967297",
@@ -276,8 +278,9 @@ fn volume_word(random: &mut Random) -> Vec<u8> {
 
 /// A backend of the table or any other, most often within its limits.
 fn backend_word(random: &mut Random, table: &Table) -> Vec<u8> {
-    let backend = match random.below(4) {
-        0 => random.below(MOST_BACKENDS + 2),
+    let backend = match random.below(8) {
+        0 => *random.pick(&[0, 1, 2, MOST_ID - 1, MOST_ID, MOST_ID + 1]),
+        1 => random.within(1, MOST_ID),
         _ => u64::from(random.pick(&table.lines).rule.backend),
     };
     numeral_word(random, backend)
@@ -404,8 +407,8 @@ mod tests {
         }
         assert!(silent > 300 && answers > 350, "{silent} {answers}");
         for refusal in [
-            "1 1 1", "1 1 2", "2 0 0", "2 2 1", "2 2 2", "3 2 2", "5 1 2", "6 1 2", "8 0 1",
-            "8 0 2", "10 1 1", "11 0 1", "11 0 2", "12 0 0", "13 0 0",
+            "1 1 1", "1 1 2", "2 2 1", "2 2 2", "3 2 2", "5 1 2", "6 1 2", "8 0 1", "8 0 2",
+            "10 1 1", "11 0 1", "11 0 2", "12 0 0", "13 0 0",
         ] {
             let line = format!("REFUSED {refusal}\n");
             assert!(refusals.contains(&line), "{refusal}");

@@ -1,7 +1,7 @@
 //! Vectors for the expansion of one service.
 
 use super::records::{Record, Records};
-use super::shapes::{tolerance, weights};
+use super::shapes::{first_ids, ids, spoil_ids, tolerance, weights};
 use crate::count;
 use crate::expansion::{expand, Ending, Expansion};
 use crate::numerals::WHOLE;
@@ -14,8 +14,8 @@ pub fn answer(record: &Record) -> Option<String> {
     let ("E", &[k, tolerance, budget]) = (record.kind, record.numbers.as_slice()) else {
         return None;
     };
-    let weights = numbers(std::str::from_utf8(record.payload).ok()?)?;
-    let list = expand(k, tolerance, budget, &weights);
+    let [ids, weights] = rows(std::str::from_utf8(record.payload).ok()?)?;
+    let list = expand(k, tolerance, budget, &ids, &weights);
     Some(list.map_or_else(refused_text, |list| list_text(&list)))
 }
 
@@ -28,6 +28,21 @@ pub(super) fn refused_text(refusal: Refusal) -> String {
 pub fn numbers(text: &str) -> Option<Vec<u64>> {
     let fields = text.split(' ').filter(|_| !text.is_empty());
     fields.map(|field| field.parse().ok()).collect()
+}
+
+/// So many lines of numbers, each ended by LF.
+pub(super) fn rows<const N: usize>(text: &str) -> Option<[Vec<u64>; N]> {
+    let rows: Option<Vec<Vec<u64>>> = text.strip_suffix('\n')?.split('\n').map(numbers).collect();
+    rows?.try_into().ok()
+}
+
+/// Lines of numbers, each ended by LF.
+pub(super) fn rows_text(rows: &[&[u64]]) -> String {
+    let line = |row: &&[u64]| {
+        let row: Vec<String> = row.iter().map(u64::to_string).collect();
+        row.join(" ") + "\n"
+    };
+    rows.iter().map(line).collect()
 }
 
 /// A suffix as text.
@@ -58,15 +73,20 @@ pub fn add_all(records: &mut Records) {
     listed(records);
     at_random(records, &mut random);
     at_limits(records, &mut random);
+    named(records);
     refused(records);
+    refused_ids(records);
     refused_at_random(records, &mut random);
 }
 
 fn add_list(records: &mut Records, numbers: [u64; 3], weights: &[u64]) {
+    add_named(records, numbers, &first_ids(weights.len()), weights);
+}
+
+fn add_named(records: &mut Records, numbers: [u64; 3], ids: &[u64], weights: &[u64]) {
     let [k, tolerance, budget] = numbers;
-    let weights: Vec<String> = weights.iter().map(u64::to_string).collect();
     let header = format!("E {k} {tolerance} {budget}");
-    records.add(&header, weights.join(" ").as_bytes());
+    records.add(&header, rows_text(&[ids, weights]).as_bytes());
 }
 
 /// P1 to P6, and P1 and P3 with every budget, depth and some tolerances.
@@ -94,21 +114,98 @@ fn listed(records: &mut Records) {
     }
 }
 
+/// The P cases and like weights under ids with gaps, long ones and both limits.
+fn named(records: &mut Records) {
+    for ids in [
+        [1, 2, 9_999],
+        [9_997, 9_998, 9_999],
+        [255, 256, 257],
+        [10, 200, 3_000],
+    ] {
+        for weights in [[166_667, 333_333, 500_000], [250_000, 250_000, 500_000]] {
+            add_named(records, [5, 0, 32], &ids, &weights);
+        }
+        add_named(records, [1, 0, 32], &ids, &[333_334, 333_333, 333_333]);
+        add_named(records, [12, 0, 32], &ids, &[0, WHOLE, 0]);
+    }
+    for (from, apart) in [(1, 1), (9_968, 1), (312, 312), (30, 321)] {
+        let ids: Vec<u64> = (0..32).map(|place| from + apart * place).collect();
+        for k in [1, 5, 12] {
+            add_named(records, [k, 0, 32], &ids, &[31_250; 32]);
+        }
+    }
+    add_named(records, [7, 0, 32], &[1], &[WHOLE]);
+    add_named(records, [7, 0, 32], &[9_999], &[WHOLE]);
+}
+
+/// Ids for two backends, of which only the last are right.
+const IDS: [&[u64]; 14] = [
+    &[],
+    &[1],
+    &[1, 2, 3],
+    &[0, 1],
+    &[1, 0],
+    &[1, 10_000],
+    &[10_000, 1],
+    &[1, 65_537],
+    &[1, u64::MAX],
+    &[5, 5],
+    &[5, 4],
+    &[9_999, 1],
+    &[9_999, 9_999],
+    &[1, 9_999],
+];
+
+/// Ids that are too few or too many, out of their limits, equal or out of line,
+/// with weights that are good, too large, unbalanced and too many.
+fn refused_ids(records: &mut Records) {
+    let unlike: [&[u64]; 6] = [
+        &[500_000; 2],
+        &[WHOLE + 1, 0],
+        &[1; 2],
+        &[],
+        &[0; 33],
+        &[WHOLE],
+    ];
+    for ids in IDS {
+        for weights in unlike {
+            add_named(records, [5, 0, 32], ids, weights);
+        }
+        add_named(records, [13, 0, 32], ids, &[500_000; 2]);
+        add_named(records, [5, 0, 33], ids, &[500_000; 2]);
+    }
+    for (ids, weights) in [
+        (31, 32),
+        (33, 32),
+        (32, 33),
+        (33, 33),
+        (34, 33),
+        (40, 1),
+        (0, 32),
+    ] {
+        add_named(records, [5, 0, 32], &first_ids(ids), &vec![31_250; weights]);
+    }
+    for at in [0, 1, 15, 30, 31] {
+        for id in [0, 16, 33, 9_999, 10_000] {
+            let mut ids = first_ids(32);
+            ids[at] = id;
+            add_named(records, [5, 0, 32], &ids, &[31_250; 32]);
+        }
+    }
+}
+
 /// Weights of every shape, with every k, tolerance and budget.
 fn at_random(records: &mut Records, random: &mut Random) {
     for turn in 0..1_000 {
         let most = *random.pick(&[4, 8, 32]);
         let count = random.within(1, most) as usize;
-        let weights = weights(random, count);
+        let (ids, weights) = (ids(random, count), weights(random, count));
         let budget = match random.below(2) {
             0 => 32,
             _ => random.within(1, 32),
         };
-        add_list(
-            records,
-            [1 + turn % 12, tolerance(random), budget],
-            &weights,
-        );
+        let numbers = [1 + turn % 12, tolerance(random), budget];
+        add_named(records, numbers, &ids, &weights);
     }
 }
 
@@ -117,16 +214,16 @@ fn at_limits(records: &mut Records, random: &mut Random) {
     for turn in 0..60 {
         let k = 1 + turn % 12;
         let count = random.within(2, 6) as usize;
-        let weights = weights(random, count);
-        let Ok(list) = expand(k, 0, random.within(1, 8), &weights) else {
+        let (ids, weights) = (ids(random, count), weights(random, count));
+        let Ok(list) = expand(k, 0, random.within(1, 8), &ids, &weights) else {
             continue;
         };
-        let shares = count::shares(k as u8, count, list.rules.iter().rev());
+        let shares = count::shares(k as u8, &ids, list.rules.iter().rev());
         let errors = count::errors(k as u8, &weights, &shares);
         let greatest = errors.iter().map(|error| error.unsigned_abs()).max();
         let edge = greatest.unwrap_or(0) >> k;
         for tolerance in [edge.saturating_sub(1), edge, edge + 1] {
-            add_list(records, [k, tolerance, 32], &weights);
+            add_named(records, [k, tolerance, 32], &ids, &weights);
         }
     }
 }
@@ -171,7 +268,7 @@ fn refused(records: &mut Records) {
 fn refused_at_random(records: &mut Records, random: &mut Random) {
     for _ in 0..120 {
         let count = random.within(1, 34) as usize;
-        let mut weights = weights(random, count);
+        let (mut ids, mut weights) = (ids(random, count), weights(random, count));
         let mut numbers = [
             random.within(1, 12),
             tolerance(random),
@@ -179,14 +276,15 @@ fn refused_at_random(records: &mut Records, random: &mut Random) {
         ];
         for _ in 0..random.within(1, 2) {
             let at = random.below(weights.len() as u64) as usize;
-            match random.below(5) {
+            match random.below(6) {
                 0 => numbers[random.below(3) as usize] = random.any_size(),
                 1 => weights[at] = random.any_size(),
                 2 => weights[at] += random.within(1, 2),
                 3 => weights[at] = weights[at].saturating_sub(1),
+                4 => spoil_ids(random, &mut ids),
                 _ => weights.truncate(at.max(1)),
             }
         }
-        add_list(records, numbers, &weights);
+        add_named(records, numbers, &ids, &weights);
     }
 }

@@ -7,7 +7,7 @@ use super::sheets::shown;
 use super::spoil::spoil;
 use crate::expansion::Rule;
 use crate::gauges::{gauges, reading, Gauge, Reading};
-use crate::limits::{MOST_BACKENDS, MOST_VOLUME};
+use crate::limits::{MOST_ID, MOST_VOLUME};
 use crate::packing::pack_checked;
 use crate::random::Random;
 use crate::rule_sheet::text_of;
@@ -140,7 +140,7 @@ pub fn add_all(records: &mut Records) {
 /// its sheet and the least and the greatest.
 fn sample(records: &mut Records) {
     for (service, own) in [(1, 55), (2, 45)] {
-        for backend in [1, 2, 3, 4, 32] {
+        for backend in [1, 2, 3, 4, MOST_ID] {
             for volume in [0, own, MOST_VOLUME] {
                 of(service, volume, backend).ask_all(records, SAMPLE.as_bytes());
             }
@@ -167,7 +167,7 @@ fn limits(records: &mut Records) {
     {
         ask(records, of(1, volume, 2));
     }
-    for backend in [0, 31, 33, 34, 64, 255, u64::MAX]
+    for backend in [0, 32, 33, 9_998, 9_999, 10_000, 10_001, 65_535, u64::MAX]
         .into_iter()
         .chain(OVER)
         .chain(cut.map(|over| over + 1))
@@ -191,14 +191,14 @@ fn refused(records: &mut Records) {
         "TABLE 13 1 0\n1 * 1\n",
         "TABLE 5 2049 0\n1 * 1\n",
         "TABLE 2 2 0\n1 *000 1\n1 * 1\n",
-        "TABLE 5 1 0\n1 * 33\n",
+        "TABLE 5 1 0\n1 * 10000\n",
         "TABLE 5 2 0\n1 * 1\n65 * 1\n",
         &format!("TABLE 5 33 0\n{many}"),
         "TABLE 5 1 0\n",
         "TABLE 5 2 0\n1 * 1\n1 * 1\n",
         "TABLE 5 1 0\n1 *0 1\n",
         "TABLE 5 2 0\n1 * 1\n",
-        "SHEET 5 2 5\nSERVICE 1 100\n",
+        "SHEET 5 2 5\nSERVICE 1 1:100\n",
     ];
     let mut turn = 0;
     for sheet in sheets {
@@ -206,7 +206,7 @@ fn refused(records: &mut Records) {
             (1, 1, 1),
             (9, 1, 1),
             (1, 10_001, 1),
-            (1, 1, 33),
+            (1, 1, 10_000),
             (9, 10_001, 1),
             (9, 1, 0),
             (1, u64::MAX, 0),
@@ -223,7 +223,7 @@ fn numbers_refused(records: &mut Records) {
     let sheet = b"TABLE 3 2 0\n2 *1 4\n2 * 9\n";
     for service in [2, 1] {
         for volume in [MOST_VOLUME, MOST_VOLUME + 1, u64::MAX] {
-            for backend in [4, 0, 33, u64::MAX] {
+            for backend in [4, 0, 10_000, u64::MAX] {
                 of(service, volume, backend).ask_all(records, sheet);
             }
         }
@@ -234,10 +234,10 @@ fn numbers_refused(records: &mut Records) {
 fn every_k(records: &mut Records) {
     for k in 1..=12 {
         let bits = &"011010111001"[..k];
-        let whole = format!("TABLE {k} 1 0\n64 * 32\n");
-        of(64, MOST_VOLUME, 32).ask_all(records, whole.as_bytes());
-        of(64, 1, 32).ask(records, whole.as_bytes(), Both);
-        of(64, MOST_VOLUME, 31).ask(records, whole.as_bytes(), Both);
+        let whole = format!("TABLE {k} 1 0\n64 * 9999\n");
+        of(64, MOST_VOLUME, 9_999).ask_all(records, whole.as_bytes());
+        of(64, 1, 9_999).ask(records, whole.as_bytes(), Both);
+        of(64, MOST_VOLUME, 9_998).ask(records, whole.as_bytes(), Both);
         let one = format!("TABLE {k} 2 0\n3 *{bits} 6\n3 * 5\n");
         for volume in [1, 9_999] {
             for backend in [5, 6] {
@@ -294,11 +294,12 @@ fn every_backend(records: &mut Records) {
         of(1, 10_000 - backend, backend).ask(records, sheet.as_bytes(), Both);
         of(1, 777, backend).ask(records, sheet.as_bytes(), call_of(backend));
     }
-    let rules: String = (1..32).map(|i| format!("1 *{i:05b} {i}\n")).collect();
-    for (k, volume) in [(5, 10_000), (7, 3)] {
-        let sheet = format!("TABLE {k} 32 0\n{rules}1 * 32\n");
-        for backend in 0..=33 {
-            of(1, volume, backend).ask(records, sheet.as_bytes(), call_of(backend));
+    for (k, volume, apart) in [(5, 10_000, 1), (7, 3, 312)] {
+        let rule = |i| format!("1 *{i:05b} {}\n", apart * i);
+        let rules: String = (1..32).map(rule).collect();
+        let sheet = format!("TABLE {k} 32 0\n{rules}1 * {}\n", apart * 32);
+        for place in 0..=33 {
+            of(1, volume, apart * place).ask(records, sheet.as_bytes(), call_of(place));
         }
     }
 }
@@ -319,7 +320,7 @@ fn services(records: &mut Records) {
     }
     let full: String = (1..=64)
         .map(|service| {
-            let rule = format!("{service} *101010101010 32\n");
+            let rule = format!("{service} *101010101010 9999\n");
             rule.repeat(31) + &format!("{service} * {}\n", service % 32 + 1)
         })
         .collect();
@@ -374,7 +375,7 @@ fn counts(records: &mut Records, random: &mut Random) {
 /// One of the backends that a table names, or now and then any.
 fn some_backend(random: &mut Random, table: &Table) -> u64 {
     match random.below(8) {
-        0 => random.within(1, MOST_BACKENDS),
+        0 => random.within(1, MOST_ID),
         _ => u64::from(random.pick(&table.lines).rule.backend),
     }
 }

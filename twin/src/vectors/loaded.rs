@@ -1,25 +1,27 @@
 //! Old lists of every shape with new weights, made at random.
 
-use super::shapes::{order, rule_table, service, weights, OrderShape};
+use super::shapes::{ids, named, order, rule_table, weights, OrderShape};
 use crate::expansion::{make_list, Rule};
+use crate::limits::MOST_ID;
 use crate::numerals::WHOLE;
-use crate::packing::{pack_checked, Order};
+use crate::packing::{pack_checked, Order, Service};
 use crate::random::Random;
 use crate::suffix::Suffix;
 use crate::table::Table;
 
-/// An old list, newest rule first, and what is asked of it.
+/// An old list, newest rule first, and what is asked of it: a service with the
+/// new ids and weights.
 #[derive(Clone, Debug)]
 pub struct Loaded {
     pub k: u8,
     pub tolerance: u64,
     pub old: Vec<Rule>,
-    pub weights: Vec<u64>,
+    pub new: Service,
 }
 
 /// A case that isn't refused before it is found stuck.
 pub fn loaded(random: &mut Random, k: u8) -> Loaded {
-    let (old, weights) = match random.below(3) {
+    let (old, new) = match random.below(3) {
         0 => by_hand(random, k),
         _ => expanded(random, k),
     };
@@ -28,7 +30,7 @@ pub fn loaded(random: &mut Random, k: u8) -> Loaded {
         k,
         tolerance,
         old,
-        weights,
+        new,
     }
 }
 
@@ -46,23 +48,70 @@ fn tolerance(random: &mut Random, k: u8) -> u64 {
 }
 
 /// The list of an expansion, often cut, with weights near its own.
-fn expanded(random: &mut Random, k: u8) -> (Vec<Rule>, Vec<u64>) {
+fn expanded(random: &mut Random, k: u8) -> (Vec<Rule>, Service) {
     let most = *random.pick(&[3, 5, 8, 32]);
     let count = random.within(1, most) as usize;
-    let before = weights(random, count);
+    let before = named(1, &ids(random, count), &weights(random, count));
     let budget = match random.below(3) {
         0 => random.within(1, 32) as usize,
         _ => 32,
     };
-    let list = make_list(k, 0, budget, &before);
+    let list = make_list(k, 0, budget, &before.ids, &before.weights);
     let old: Vec<Rule> = list.rules.iter().rev().copied().collect();
     let after = changed(random, &before);
     (old, after)
 }
 
-/// Other weights of at least as many backends.
-pub fn changed(random: &mut Random, before: &[u64]) -> Vec<u64> {
-    let mut after = before.to_vec();
+/// Other weights; now and then a backend comes in or is retired, or all ids are
+/// others.
+pub fn changed(random: &mut Random, before: &Service) -> Service {
+    let mut after = before.clone();
+    let count = before.weights.len();
+    move_weights(random, &mut after.weights);
+    match random.below(10) {
+        0 => come_in(random, &mut after),
+        1 => after.weights.rotate_left(1),
+        2 => after.weights = weights(random, count),
+        3 | 4 => retire(random, &mut after),
+        5 => {
+            retire(random, &mut after);
+            come_in(random, &mut after);
+        }
+        6 if random.once_in(3) => after.ids = ids(random, count),
+        _ => (),
+    }
+    after
+}
+
+/// A new backend, most often with a part of another one's weight; none if there
+/// are 32.
+pub fn come_in(random: &mut Random, service: &mut Service) {
+    let id = random.within(1, MOST_ID);
+    let place = service.ids.partition_point(|&other| other < id);
+    if service.ids.len() == 32 || service.ids.get(place) == Some(&id) {
+        return;
+    }
+    let from = random.below(service.ids.len() as u64) as usize;
+    let part = service.weights[from] / random.within(1, 4);
+    service.weights[from] -= part;
+    service.ids.insert(place, id);
+    service.weights.insert(place, part);
+}
+
+/// Leaves a backend out; its weight goes to another one. The last one stays.
+pub fn retire(random: &mut Random, service: &mut Service) {
+    let count = service.ids.len() as u64;
+    if count == 1 {
+        return;
+    }
+    let place = random.below(count) as usize;
+    service.ids.remove(place);
+    let weight = service.weights.remove(place);
+    service.weights[random.below(count - 1) as usize] += weight;
+}
+
+/// Parts of some weights go to others.
+fn move_weights(random: &mut Random, after: &mut [u64]) {
     for _ in 0..random.below(4) {
         let from = random.below(after.len() as u64) as usize;
         let to = random.below(after.len() as u64) as usize;
@@ -76,45 +125,39 @@ pub fn changed(random: &mut Random, before: &[u64]) -> Vec<u64> {
         after[from] -= moved;
         after[to] += moved;
     }
-    match random.below(10) {
-        0 if after.len() < 32 => after.push(0),
-        1 => after.rotate_left(1),
-        2 => after = weights(random, before.len()),
-        _ => (),
-    }
-    after
 }
 
 /// Suffixes with lengths that don't grow, to few backends, then `*`; the new
 /// weights are near the shares, or any.
-fn by_hand(random: &mut Random, k: u8) -> (Vec<Rule>, Vec<u64>) {
+fn by_hand(random: &mut Random, k: u8) -> (Vec<Rule>, Service) {
     let (most_rules, most_backends) = (*random.pick(&[2, 5, 9, 32]), *random.pick(&[2, 3, 6, 32]));
     let rules = random.within(1, most_rules);
-    let backends = random.within(1, most_backends);
-    let old = any_list(random, k, rules, backends);
-    let count = backends as usize;
-    let weights = match random.below(3) {
-        0 => weights(random, count),
+    let count = random.within(1, most_backends) as usize;
+    let ids = ids(random, count);
+    let old = any_list(random, k, rules, &ids);
+    let new = match random.below(3) {
+        0 => named(1, &ids, &weights(random, count)),
         1 => {
-            let near = near_shares(k, &old, count);
+            let near = near_shares(k, &old, &ids);
             changed(random, &near)
         }
-        _ => near_shares(k, &old[(rules / 2) as usize..], count),
+        _ => near_shares(k, &old[(rules / 2) as usize..], &ids),
     };
-    (old, weights)
+    (old, new)
 }
 
-/// The weights that a list's shares make, cut to whole millionths.
-pub fn near_shares(k: u8, rules: &[Rule], count: usize) -> Vec<u64> {
-    let shares = crate::count::shares(k, count, rules.iter());
+/// The weights that the shares of these ids in a list make, cut to whole
+/// millionths; the first has the rest.
+pub fn near_shares(k: u8, rules: &[Rule], ids: &[u64]) -> Service {
+    let shares = crate::count::shares(k, ids, rules.iter());
     let mut weights: Vec<u64> = shares.iter().map(|share| (share * WHOLE) >> k).collect();
     weights[0] += WHOLE - weights.iter().sum::<u64>();
-    weights
+    named(1, ids, &weights)
 }
 
 /// A list of so many rules: any lengths, equal ones, all of k bits, few
 /// suffixes again and again.
-pub fn any_list(random: &mut Random, k: u8, rules: u64, backends: u64) -> Vec<Rule> {
+pub fn any_list(random: &mut Random, k: u8, rules: u64, ids: &[u64]) -> Vec<Rule> {
     let bits = u64::from(k);
     let (least, places) = match random.below(5) {
         0 => (bits, 1 << 12),
@@ -130,14 +173,14 @@ pub fn any_list(random: &mut Random, k: u8, rules: u64, backends: u64) -> Vec<Ru
         let place = random.below((1 << length).min(places)) as u16;
         Rule {
             suffix: Suffix::at_place(length as u8, place),
-            backend: random.within(1, backends) as u8,
+            backend: *random.pick(ids) as u16,
         }
     };
     lengths.into_iter().map(rule).collect()
 }
 
 /// A rule sheet, and a percentage sheet with new weights for its services; now
-/// and then of another k, without its last service or with fewer backends.
+/// and then of another k, without its last service or with one backend.
 pub fn two_sheets(random: &mut Random) -> (Table, Order) {
     let (table, mut order) = match random.below(3) {
         0 => any_sheets(random),
@@ -147,7 +190,7 @@ pub fn two_sheets(random: &mut Random) -> (Table, Order) {
     match random.below(24) {
         0 | 1 => order.k = random.within(1, 12),
         2 if order.services.len() > 1 => drop(order.services.pop()),
-        3 => order.services[0].weights = vec![WHOLE],
+        3 => order.services[0] = named(1, &order.services[0].ids[..1], &[WHOLE]),
         _ => (),
     }
     (table, order)
@@ -165,15 +208,16 @@ fn any_sheets(random: &mut Random) -> (Table, Order) {
             .iter()
             .map(|line| line.rule)
             .collect();
-        let most = rules.iter().map(|rule| rule.backend).max();
-        let weights = match most {
-            Some(most) => {
-                let near = near_shares(table.k, &rules, most.into());
+        let mut ids: Vec<u64> = rules.iter().map(|rule| rule.backend.into()).collect();
+        ids.sort_unstable();
+        ids.dedup();
+        services.push(match ids.is_empty() {
+            true => named(1, &[random.within(1, MOST_ID)], &[WHOLE]),
+            false => {
+                let near = near_shares(table.k, &rules, &ids);
                 changed(random, &near)
             }
-            None => vec![WHOLE],
-        };
-        services.push(service(1, &weights));
+        });
     }
     let order = Order {
         k,
@@ -197,13 +241,13 @@ fn packed_sheets(random: &mut Random) -> (Table, Order) {
     }
     let table = pack_checked(&order).table;
     for service in &mut order.services {
-        service.weights = changed(random, &service.weights);
+        *service = changed(random, service);
     }
     (table, order)
 }
 
 /// Numbers at the limits of a list's numbers, and far beyond them.
-const NUMBERS: [u64; 14] = [
+const NUMBERS: [u64; 16] = [
     0,
     1,
     2,
@@ -215,6 +259,8 @@ const NUMBERS: [u64; 14] = [
     33,
     4_095,
     4_096,
+    9_999,
+    10_000,
     1 << 32,
     1 << 63,
     u64::MAX,

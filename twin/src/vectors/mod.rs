@@ -5,6 +5,7 @@ pub mod cases;
 mod counts;
 pub mod expansion;
 mod gauges;
+mod known;
 pub mod loaded;
 pub mod numerals;
 pub mod packing;
@@ -130,14 +131,22 @@ mod tests {
     }
 
     #[test]
-    fn a_count_shows_its_whole_buffer() {
-        let said = |header| said("sheets", header, "TABLE 2 2 0\n1 *1 32\n1 * 3\n");
-        let (none, behind) = (" 0".repeat(28), " 9999".repeat(4));
-        let counts = format!(" counts 0 0 2{none} 2");
-        assert_eq!(said("C 1 32"), format!("shares 2{counts}{behind}\n"));
-        assert_eq!(said("C 1 33"), format!("shares 2{counts} 9999{behind}\n"));
-        assert_eq!(said("C 2 0"), format!("REFUSED 8 0 counts{behind}\n"));
-        assert_eq!(said("C 1 1"), format!("REFUSED 7 0 counts 9999{behind}\n"));
+    fn a_count_is_of_one_id() {
+        let said = |header| said("sheets", header, "TABLE 2 2 0\n1 *01 9999\n1 * 3\n");
+        assert_eq!(said("C 1 9999"), "share 2 1\n");
+        assert_eq!(said("C 1 3"), "share 2 3\n");
+        assert_eq!(said("C 1 1"), "share 2 0\n");
+        assert_eq!(said("C 1 10000"), "REFUSED 2 0\n");
+        assert_eq!(said("C 2 10000"), "REFUSED 8 0\n");
+    }
+
+    #[test]
+    fn lists_take_ids_beside_weights() {
+        let said = |payload| said("expansion", "E 1 0 32", payload);
+        let list = "within 2 *>7:1000000 *0>9999:0\n";
+        assert_eq!(said("7 9999\n500000 500000\n"), list);
+        assert_eq!(said("7\n500000 500000\n"), "refused 1\n");
+        assert_eq!(said("\n\n"), "refused 2\n");
     }
 
     #[test]
@@ -155,40 +164,43 @@ mod tests {
     }
 
     #[test]
-    fn rows_are_answered_as_lines_are() {
-        let said = |header, payload| said("packing", header, payload);
-        let packed = said("K 1 0 9", "7 500000 500000\n8 1000000\n");
-        assert_eq!(said("Q 1 0 9", "7 8\n2 1\n500000 500000 1000000\n"), packed);
-        assert_eq!(said("Q 1 0 9", "\n\n\n"), "refused 5\n");
-        assert_eq!(said("Q 1 0 9", "\n\n1\n"), "refused 1\n");
+    fn rows_are_packed() {
+        let said = |payload| said("packing", "Q 1 0 9", payload);
+        assert_eq!(
+            said("7 8\n2 1\n3 9999 1\n500000 500000 1000000\n"),
+            "total 0 grants 2 1 lines 1 *0 9999,1 * 3,2 * 1\n"
+        );
+        assert_eq!(said("\n\n\n\n"), "refused 5\n");
+        assert_eq!(said("\n\n\n1\n"), "refused 1\n");
+        assert_eq!(said("\n\n1\n\n"), "refused 1\n");
     }
 
     #[test]
     fn new_weights_show_their_whole_buffer() {
-        let behind = " 9999".repeat(4);
-        let half = "1 0 2 0 0 1\n750000 250000\n";
+        let behind = " 77777".repeat(4);
+        let half = "1 0 9999 0 0 1\n1 9999\n750000 250000\n";
         let updated = |header, payload| said("update", header, payload);
         assert_eq!(
             updated("L 2 0 7", half),
-            format!("made 1 2 1 rules 2 0 2 0 0 1 9999{behind}\n")
+            format!("made 1 2 1 rules 2 0 9999 0 0 1 77777{behind}\n")
         );
-        let nothing = updated("L 2 0 1", "\n\n");
-        assert_eq!(nothing, format!("refused 2 rules 9999{behind}\n"));
+        let nothing = updated("L 2 0 1", "\n\n\n");
+        assert_eq!(nothing, format!("refused 2 rules 77777{behind}\n"));
         assert_eq!(
             updated("L 2 0 6", half),
-            format!("made 1 2 1 rules 2 0 2 0 0 1{behind}\n")
+            format!("made 1 2 1 rules 2 0 9999 0 0 1{behind}\n")
         );
         assert_eq!(
             updated(
                 "T 1 24 3",
-                "TABLE 2 1 0\n1 * 1\nSHEET 2 0 1\nSERVICE 1 100\n"
+                "TABLE 2 1 0\n1 * 1\nSHEET 2 0 1\nSERVICE 1 1:100\n"
             ),
-            format!("REFUSED 1 3 1 rules 9999 9999 9999{behind}\n")
+            format!("REFUSED 1 3 1 rules 77777 77777 77777{behind}\n")
         );
         assert_eq!(
             updated(
                 "T 1 18 3",
-                "TABLE 2 1 0\n1 * 1\nSHEET 2 0 1\nSERVICE 1 100\n"
+                "TABLE 2 1 0\n1 * 1\nSHEET 2 0 1\nSERVICE 1 1:100\n"
             ),
             format!("made 2 1 1 0 rules 0 0 1{behind}\n")
         );
@@ -246,8 +258,7 @@ mod tests {
                 .iter()
                 .any(|(_, words)| words.starts_with(&start) && words.ends_with(&end));
             let about = match number {
-                1 | 4 | 5 | 8 | 11 => which > 0,
-                2 => true,
+                1 | 2 | 4 | 5 | 8 | 11 => which > 0,
                 3 | 6 => which == 2,
                 9 | 10 => which == 1,
                 _ => which == 0,

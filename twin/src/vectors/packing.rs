@@ -1,11 +1,12 @@
 //! Vectors for the packing of services into one table.
 
-use super::expansion::{numbers, suffix_text};
+use super::expansion::suffix_text;
 use super::records::{Record, Records};
-use super::rows;
-use super::shapes::{order, service, OrderShape};
+use super::rows::{self, add_order as add};
+use super::shapes::{self, order, service, spoil_ids, OrderShape};
+use crate::limits::MOST_ID;
 use crate::numerals::WHOLE;
-use crate::packing::{pack, Order, Packing, Service};
+use crate::packing::{Order, Packing, Service};
 use crate::random::Random;
 use crate::refusal::Refusal;
 
@@ -13,15 +14,6 @@ use crate::refusal::Refusal;
 pub fn answer(record: &Record) -> Option<String> {
     let text = std::str::from_utf8(record.payload).ok()?;
     match (record.kind, record.numbers.as_slice()) {
-        ("K", &[k, tolerance, capacity]) => {
-            let services: Option<Vec<Service>> = text.lines().map(read_service).collect();
-            Some(shown(pack(&Order {
-                k,
-                tolerance,
-                capacity,
-                services: services?,
-            })))
-        }
         ("Q", &[k, tolerance, capacity]) => rows::answer(k, tolerance, capacity, text),
         _ => None,
     }
@@ -33,13 +25,6 @@ pub(super) fn shown(packing: Result<Packing, Refusal>) -> String {
         Ok(packing) => packing_text(&packing),
         Err(refusal) => format!("refused {}", refusal.number()),
     }
-}
-
-/// Reads `volume w1 w2 ..`.
-fn read_service(line: &str) -> Option<Service> {
-    let numbers = numbers(line)?;
-    let (&volume, weights) = numbers.split_first()?;
-    Some(service(volume, weights))
 }
 
 /// The total, the grants, and the lines in the order of the rule sheet.
@@ -66,25 +51,6 @@ pub fn add_all(records: &mut Records) {
     refused(records);
     refused_at_random(records, &mut random);
     rows::add_all(records);
-}
-
-fn add(records: &mut Records, order: &Order) {
-    let mut payload = String::new();
-    for service in &order.services {
-        payload += &service.volume.to_string();
-        for weight in &service.weights {
-            payload += &format!(" {weight}");
-        }
-        payload.push('\n');
-    }
-    let Order {
-        k,
-        tolerance,
-        capacity,
-        ..
-    } = order;
-    let header = format!("K {k} {tolerance} {capacity}");
-    records.add(&header, payload.as_bytes());
 }
 
 /// The sample sheet with every capacity, the traps, and volumes of zero.
@@ -225,13 +191,17 @@ fn refused_at_random(records: &mut Records, random: &mut Random) {
         let mut order = order(random, &shape);
         let at = random.below(shape.services) as usize;
         let service = &mut order.services[at];
-        match random.below(6) {
+        match random.below(7) {
             0 => service.volume = random.within(10_000, 10_002),
             1 => service.weights[0] = random.any_size(),
-            2 => service.weights.push(1),
+            2 => {
+                service.ids.push(MOST_ID);
+                service.weights.push(1);
+            }
             3 => order.k = random.within(12, 14),
             4 => order.capacity = shape.services - 1,
-            _ => service.weights = vec![0; random.within(31, 34) as usize],
+            5 => spoil_ids(random, &mut service.ids),
+            _ => *service = shapes::service(1, &vec![0; random.within(31, 34) as usize]),
         }
         add(records, &order);
     }

@@ -11,6 +11,7 @@ pub fn add_all(records: &mut Records) {
     let mut random = Random::new(4);
     listed(records);
     fields(records);
+    backends(records);
     at_limits(records, &mut random);
     good(records, &mut random);
     spoilt(records, &mut random);
@@ -40,7 +41,8 @@ fn add(records: &mut Records, text: &str) {
     records.add("R", text.as_bytes());
 }
 
-pub(super) const SAMPLE: &str = "SHEET 5 2 5\nSERVICE 55 16.6667 33.3333 50\nSERVICE 45 25 25 50\n";
+pub(super) const SAMPLE: &str =
+    "SHEET 5 2 5\nSERVICE 55 1:16.6667 2:33.3333 3:50\nSERVICE 45 1:25 2:25 3:50\n";
 
 /// The sample, cut after every byte and with every capacity; the P cases.
 fn listed(records: &mut Records) {
@@ -61,16 +63,16 @@ fn listed(records: &mut Records) {
 
 /// P1 to P6 and P9 to P12: k and tolerance, and the weights.
 const CASES: [(&str, &str); 10] = [
-    ("5 2", "16.6667 33.3333 50"),
-    ("5 0", "16.6667 33.3333 50"),
-    ("5 0", "25 25 50"),
-    ("1 0", "100"),
-    ("1 0", "50 50"),
-    ("1 0", "33.3334 33.3333 33.3333"),
-    ("1 0", "18.4.2"),
-    ("1 0", "100.0000"),
-    ("1 0", "100.0001"),
-    ("1 0", "018.4"),
+    ("5 2", "1:16.6667 2:33.3333 3:50"),
+    ("5 0", "1:16.6667 2:33.3333 3:50"),
+    ("5 0", "1:25 2:25 3:50"),
+    ("1 0", "1:100"),
+    ("1 0", "1:50 2:50"),
+    ("1 0", "1:33.3334 2:33.3333 3:33.3333"),
+    ("1 0", "1:18.4.2"),
+    ("1 0", "1:100.0000"),
+    ("1 0", "1:100.0001"),
+    ("1 0", "1:018.4"),
 ];
 
 /// The sheets of the P cases.
@@ -86,24 +88,24 @@ fn wrong_forms(records: &mut Records) {
         "SHEET\n",
         "SHEET 5 2 5\n\n",
         "SHEET 5 2 5\n ",
-        "SHEET 5 2 5\r\nSERVICE 1 100\r\n",
-        "SHEET 5 2 5\nSERVICE 1 100\n\n",
-        "SHEET 5 2 5\nSERVICE 1 100\nSERVICE",
-        "SHEET  5 2 5\nSERVICE 1 100\n",
+        "SHEET 5 2 5\r\nSERVICE 1 1:100\r\n",
+        "SHEET 5 2 5\nSERVICE 1 1:100\n\n",
+        "SHEET 5 2 5\nSERVICE 1 1:100\nSERVICE",
+        "SHEET  5 2 5\nSERVICE 1 1:100\n",
         "SHEET 5 2 5\nSERVICE 1\n",
         "SHEET 5 2 5\nSERVICE 1 \n",
         "SHEET 5 2 5\nSERVICE\n",
         "SHEET 5 2 5\nSERVICE \n",
-        "SHEET 5 2 5\n SERVICE 1 100\n",
-        "SHEET 5 2 5\nSERVICE  1 100\n",
-        "SHEET 5 2 5\nSERVICE 1  100\n",
-        "SHEET 5 2 5\nSERVICE 1 100 \n",
-        "SHEET 5 2 5 \nSERVICE 1 100\n",
-        "sheet 5 2 5\nSERVICE 1 100\n",
+        "SHEET 5 2 5\n SERVICE 1 1:100\n",
+        "SHEET 5 2 5\nSERVICE  1 1:100\n",
+        "SHEET 5 2 5\nSERVICE 1  1:100\n",
+        "SHEET 5 2 5\nSERVICE 1 1:100 \n",
+        "SHEET 5 2 5 \nSERVICE 1 1:100\n",
+        "sheet 5 2 5\nSERVICE 1 1:100\n",
         "SHEET 5 2 5\nSHEET 5 2 5\n",
-        "SERVICE 1 100\n",
+        "SERVICE 1 1:100\n",
         "TABLE 5 1 0\n1 * 1\n",
-        "SHEET 5 2 5\n\0SERVICE 1 100\n",
+        "SHEET 5 2 5\n\0SERVICE 1 1:100\n",
     ] {
         add(records, text);
     }
@@ -115,25 +117,30 @@ fn fields(records: &mut Records) {
         .5 0.5 x 1x 18446744073709551616 18446744073709551617 4294967297 100 100.0 100.0000 100.0001 101 \
         99.9999 0.0001 0.00001 18. 18.4.2 018.4 18.40000";
     for number in numbers.split(' ').chain([""]) {
-        add(records, &format!("SHEET {number} 2 5\nSERVICE 1 100\n"));
+        add(records, &format!("SHEET {number} 2 5\nSERVICE 1 1:100\n"));
         add(
             records,
-            &format!("SHEET 5 {number} 5\nSERVICE 1 50 30 20\n"),
+            &format!("SHEET 5 {number} 5\nSERVICE 1 1:50 2:30 3:20\n"),
         );
         add(
             records,
-            &format!("SHEET 5 2 {number}\nSERVICE 1 50 30 20\n"),
+            &format!("SHEET 5 2 {number}\nSERVICE 1 1:50 2:30 3:20\n"),
         );
         add(
             records,
-            &format!("SHEET 5 2 5\nSERVICE {number} 50 30 20\n"),
+            &format!("SHEET 5 2 5\nSERVICE {number} 1:50 2:30 3:20\n"),
         );
+        add(records, &format!("SHEET 5 2 5\nSERVICE 1 7:{number}\n"));
         add(records, &format!("SHEET 5 2 5\nSERVICE 1 {number}\n"));
-        add(records, &format!("SHEET 5 2 5\nSERVICE 1 {number} 50 50\n"));
+        add(records, &format!("SHEET 5 2 5\nSERVICE 1 {number}:100\n"));
         add(
             records,
-            &format!("SHEET 5 2 1\nSERVICE 1 50 50\nSERVICE 1 50 50 {number}\n"),
+            &format!("SHEET 5 2 5\nSERVICE 1 4:50 {number}:50\n"),
         );
+        let front = format!("SHEET 5 2 5\nSERVICE 1 1:{number} 2:50 3:50\n");
+        add(records, &front);
+        let head = "SHEET 5 2 1\nSERVICE 1 1:50 2:50\nSERVICE 1 1:50 2:50";
+        add(records, &format!("{head} 3:{number}\n"));
     }
     for bad in ["x", "5 x", "5 2 x", "13 101 0", "13", "5 101"] {
         add(records, &format!("SHEET {bad} 1 1\nSERVICE\n"));
@@ -141,9 +148,110 @@ fn fields(records: &mut Records) {
     }
 }
 
+/// Backends of a service that are right.
+const GOOD: [&str; 8] = [
+    "1:100",
+    "9999:100",
+    "1:50 9999:50",
+    "9998:50 9999:50",
+    "12:25 345:25 6789:50",
+    "1000:0 1001:0 2000:100",
+    "3:33.3333 70:33.3334 800:33.3333",
+    "9:10 10:20 99:30 100:0 999:30 1000:10",
+];
+
+/// Backends of a service that are wrong in some way.
+const BAD: [&str; 36] = [
+    "0:100",
+    "10000:100",
+    "0:50 1:50",
+    "9999:50 10000:50",
+    "01:50 2:50",
+    "1:50 02:50",
+    "0009:100",
+    "100",
+    "50 50",
+    "1:50 50",
+    "50 2:50",
+    ":100",
+    "1:50 :50",
+    "1:",
+    "1:50 5:",
+    "1:100 5:",
+    ":",
+    "1:50:50",
+    "1::100",
+    "1:100:",
+    ":1:100",
+    "1:2:3",
+    "5:50 5:50",
+    "5:50 4:50",
+    "1:20 3:30 2:50",
+    "1:20 9999:30 2:50",
+    "2:50 2:49",
+    "2:50 1:49",
+    "1:50 2:49",
+    "9999:99.9999",
+    "1.0:100",
+    "+1:100",
+    "x:100",
+    "1:x",
+    "1;100",
+    "1: 100",
+];
+
+/// Each of these as the first service and behind one of other ids, the volume
+/// good or bad; and sheets of bare percentages.
+fn backends(records: &mut Records) {
+    for weights in GOOD.iter().chain(&BAD) {
+        add(records, &format!("SHEET 5 2 9\nSERVICE 1 {weights}\n"));
+        let second = format!("SHEET 5 2 9\nSERVICE 1 7:100\nSERVICE 9 {weights}\n");
+        add(records, &second);
+        add(records, &format!("SHEET 5 2 1\nSERVICE x {weights}\nX\n"));
+    }
+    many_backends(records);
+    let bare = SAMPLE
+        .replace(" 1:", " ")
+        .replace(" 2:", " ")
+        .replace(" 3:", " ");
+    add(records, &bare);
+    add(
+        records,
+        &bare.replace("\nSERVICE 55", "\nSERVICE 1 1:100\nSERVICE 55"),
+    );
+    for (head, weights) in ["5 2", "5 0", "1 0"]
+        .iter()
+        .zip(["25 25 50", "100", "50 50"])
+    {
+        add(records, &format!("SHEET {head} 32\nSERVICE 1 {weights}\n"));
+    }
+}
+
+/// 31 to 34 backends of ids that are good, too long, equal, descending or from 0.
+fn many_backends(records: &mut Records) {
+    for count in [31, 32, 33, 34] {
+        let forms: [fn(usize) -> usize; 6] = [
+            |i| i,
+            |i| 9_967 + i,
+            |i| 9_968 + i,
+            |_| 7,
+            |i| 99 - i,
+            |i| i - 1,
+        ];
+        for form in forms {
+            for part in ["3.125", "3", "x"] {
+                let parts: String = (1..=count)
+                    .map(|i| format!(" {}:{part}", form(i)))
+                    .collect();
+                add(records, &format!("SHEET 12 0 64\nSERVICE 1{parts}\n"));
+            }
+        }
+    }
+}
+
 /// Numbers of services and backends, and lengths of the text, at their limits.
 fn at_limits(records: &mut Records, random: &mut Random) {
-    let line = "SERVICE 1 100\n";
+    let line = "SERVICE 1 1:100\n";
     for services in [1, 2, 63, 64, 65] {
         for capacity in [1, 62, 63, 64, 65, 2_048] {
             let lines = line.repeat(services);
@@ -154,16 +262,16 @@ fn at_limits(records: &mut Records, random: &mut Random) {
         "SERVICE",
         "SERVICE\n",
         "SERVICE x\n",
-        "SERVIC 1 100\n",
+        "SERVIC 1 1:100\n",
         "\n",
         "x",
-        "SERVICE 1 50\n",
+        "SERVICE 1 1:50\n",
     ] {
         add(records, &format!("SHEET 1 0 64\n{}{last}", line.repeat(64)));
     }
     for weights in [31, 32, 33, 34, 100] {
-        for (volume, part) in [("1", "3.125"), ("x", "3.125"), ("1", ""), ("1", "1")] {
-            let parts = format!(" {part}").repeat(weights);
+        for (volume, part) in [("1", ":3.125"), ("x", ":3.125"), ("1", ""), ("1", ":1")] {
+            let parts: String = (1..=weights).map(|id| format!(" {id}{part}")).collect();
             add(
                 records,
                 &format!("SHEET 12 0 64\nSERVICE {volume}{parts}\n"),
@@ -186,7 +294,8 @@ fn large(records: &mut Records, random: &mut Random) {
         (order.k, order.tolerance, order.capacity) = (12, 0, capacity);
         records.add("R", &sheet_text(random, &order));
     }
-    let widest = "SERVICE 10000".to_string() + &" 3.1250".repeat(32) + "\n";
+    let weights: String = (9_968..10_000).map(|id| format!(" {id}:3.1250")).collect();
+    let widest = format!("SERVICE 10000{weights}\n");
     add(
         records,
         &format!("SHEET 12 0.0000 2048\n{}", widest.repeat(64)),
@@ -195,13 +304,13 @@ fn large(records: &mut Records, random: &mut Random) {
 
 /// Texts of 65,535 to 65,537 bytes.
 fn long(records: &mut Records) {
-    let head = "SHEET 5 2 5\nSERVICE 1 100\n";
+    let head = "SHEET 5 2 5\nSERVICE 1 1:100\n";
     for length in [65_535, 65_536, 65_537] {
         let rest = length - head.len();
         add(records, &format!("{head}{}\n", "9".repeat(rest - 1)));
         add(
             records,
-            &format!("{head}SERVICE 1 {}\n", "1".repeat(rest - 11)),
+            &format!("{head}SERVICE 1 1:{}\n", "1".repeat(rest - 13)),
         );
     }
     add(
@@ -270,7 +379,7 @@ fn unbalanced(records: &mut Records, random: &mut Random) {
         let mut text = sheet_text(random, &order);
         if random.once_in(4) {
             text.pop();
-            text.extend(format!(" {}\n", percentage_text(random, 1)).bytes());
+            text.extend(format!(" 9999:{}\n", percentage_text(random, 1)).bytes());
         }
         records.add("R", &text);
     }

@@ -9,8 +9,8 @@ use crate::packing::Packing;
 use crate::plan::plan;
 use crate::random::Random;
 
-/// What a buffer is filled with: a number that no figure, cell or count can be.
-pub(super) const MARK: u64 = 9_999;
+/// What a buffer is filled with: a number that no figure and no cell can be.
+pub(super) const MARK: u64 = 77_777;
 
 /// How many numbers behind each buffer are shown, although they aren't lent.
 pub(super) const BEHIND: usize = 4;
@@ -83,20 +83,20 @@ fn listed(records: &mut Records) {
 
 /// Each refusal, with no room and with some.
 fn refused(records: &mut Records) {
-    let many_weights = format!("SHEET 5 0 9\nSERVICE 1{}\n", " 1".repeat(33));
-    let many_services = format!("SHEET 1 0 64\n{}", "SERVICE 1 100\n".repeat(65));
+    let many_weights = format!("SHEET 5 0 9\nSERVICE 1{}\n", " 1:1".repeat(33));
+    let many_services = format!("SHEET 1 0 64\n{}", "SERVICE 1 1:100\n".repeat(65));
     for text in [
         "",
         "SHEET 5 2 5",
-        "SHEET 5 2 5\nSERVICE 1 100\nSERVICE 1 100",
-        "SHEET 5 2 5\nSERVICE 1 100\nSERVIC 1 100\n",
-        "SHEET 13 2 5\nSERVICE 1 100\n",
-        "SHEET 5 2 5\nSERVICE 1 100\nSERVICE 1 100.0001\n",
-        "SHEET 5 2 5\nSERVICE 1 50 49.9999\n",
+        "SHEET 5 2 5\nSERVICE 1 1:100\nSERVICE 1 1:100",
+        "SHEET 5 2 5\nSERVICE 1 1:100\nSERVIC 1 100\n",
+        "SHEET 13 2 5\nSERVICE 1 1:100\n",
+        "SHEET 5 2 5\nSERVICE 1 1:100\nSERVICE 1 1:100.0001\n",
+        "SHEET 5 2 5\nSERVICE 1 1:50 2:49.9999\n",
         &many_weights,
         &many_services,
         "SHEET 5 2 5\n",
-        "SHEET 5 2 1\nSERVICE 1 100\nSERVICE 1 100\n",
+        "SHEET 5 2 1\nSERVICE 1 1:100\nSERVICE 1 1:100\n",
     ] {
         for rooms in [(0, 0), (2, 3), (6, 8)] {
             add(records, rooms, text.as_bytes());
@@ -112,7 +112,7 @@ fn at_limits(records: &mut Records, random: &mut Random) {
     for rooms in [(3, 128), (3, 127), (2, 128)] {
         add(records, rooms, one.as_bytes());
     }
-    let plain = format!("SHEET 1 0 64\n{}", "SERVICE 1 100\n".repeat(64));
+    let plain = format!("SHEET 1 0 64\n{}", "SERVICE 1 1:100\n".repeat(64));
     for rooms in [(192, 256), (193, 257), (191, 256), (192, 255)] {
         add(records, rooms, plain.as_bytes());
     }
@@ -126,12 +126,12 @@ fn at_limits(records: &mut Records, random: &mut Random) {
 fn uneven(random: &mut Random) -> String {
     let mut rest = 1_000_000;
     let mut line = "SERVICE 10000".to_string();
-    for _ in 1..32 {
+    for id in 1..32 {
         let weight = random.within(20_001, 31_999);
         rest -= weight;
-        line += &format!(" {}", percentage_text(random, weight));
+        line += &format!(" {id}:{}", percentage_text(random, weight));
     }
-    line + &format!(" {}\n", percentage_text(random, rest))
+    line + &format!(" 9999:{}\n", percentage_text(random, rest))
 }
 
 /// Sheets that keep the rules, with rooms around what they need.

@@ -1,21 +1,22 @@
-//! Vectors `Q`: orders in three rows, the volumes, the sizes and the weights.
+//! Vectors `Q`: orders in four rows, the volumes, the sizes, the ids and the
+//! weights.
 
-use super::expansion::numbers;
+use super::expansion::{rows, rows_text};
 use super::packing::shown;
 use super::records::Records;
-use super::shapes::{order, service, OrderShape};
+use super::shapes::{order, service, spoil_ids, OrderShape};
 use crate::numerals::WHOLE;
 use crate::packing::Order;
 use crate::random::Random;
 use crate::rows::{pack_rows, rows_of, Rows};
 
-/// The answer, as for an order in lines.
+/// The packing, or the number of the refusal.
 pub fn answer(k: u64, tolerance: u64, capacity: u64, text: &str) -> Option<String> {
-    let rows: Option<Vec<Vec<u64>>> = text.strip_suffix('\n')?.split('\n').map(numbers).collect();
-    let [volumes, sizes, weights] = <[Vec<u64>; 3]>::try_from(rows?).ok()?;
+    let [volumes, sizes, ids, weights] = rows(text)?;
     let rows = Rows {
         volumes,
         sizes,
+        ids,
         weights,
     };
     Some(shown(pack_rows(k, tolerance, capacity, &rows)))
@@ -29,22 +30,19 @@ pub fn add_all(records: &mut Records) {
     heads(records);
     unlike_rows(records);
     before_others(records);
+    unlike_ids(records);
     at_limits(records);
     spoilt(records, &mut random);
 }
 
 fn add(records: &mut Records, head: [u64; 3], rows: &Rows) {
     let [k, tolerance, capacity] = head;
-    let mut payload = String::new();
-    for row in [&rows.volumes, &rows.sizes, &rows.weights] {
-        let row: Vec<String> = row.iter().map(u64::to_string).collect();
-        payload += &(row.join(" ") + "\n");
-    }
+    let payload = rows_text(&[&rows.volumes, &rows.sizes, &rows.ids, &rows.weights]);
     let header = format!("Q {k} {tolerance} {capacity}");
     records.add(&header, payload.as_bytes());
 }
 
-fn add_order(records: &mut Records, order: &Order) {
+pub(super) fn add_order(records: &mut Records, order: &Order) {
     let head = [order.k, order.tolerance, order.capacity];
     add(records, head, &rows_of(&order.services));
 }
@@ -53,9 +51,16 @@ fn add_rows(records: &mut Records, volumes: &[u64], sizes: &[u64], weights: &[u6
     let rows = Rows {
         volumes: volumes.to_vec(),
         sizes: sizes.to_vec(),
+        ids: ids_of(sizes, weights.len()),
         weights: weights.to_vec(),
     };
     add(records, [5, 0, 64], &rows);
+}
+
+/// So many ids, which begin at 1 again with each size.
+fn ids_of(sizes: &[u64], count: usize) -> Vec<u64> {
+    let sized = sizes.iter().flat_map(|&size| 1..=size);
+    sized.chain(1..).take(count).collect()
 }
 
 fn sample() -> Rows {
@@ -178,6 +183,56 @@ fn before_others(records: &mut Records) {
     }
 }
 
+/// Sizes of services and their ids; the weights are two for each.
+const SIZED: [(&[u64], &[u64]); 20] = [
+    (&[2], &[1, 9_999]),
+    (&[2], &[9_998, 9_999]),
+    (&[2], &[]),
+    (&[2], &[1]),
+    (&[2], &[1, 2, 3]),
+    (&[2], &[2, 1, 3]),
+    (&[2], &[0, 1]),
+    (&[2], &[1, 0]),
+    (&[2], &[1, 10_000]),
+    (&[2], &[1, u64::MAX]),
+    (&[2], &[5, 5]),
+    (&[2], &[5, 4]),
+    (&[2, 2], &[1, 2, 1, 2]),
+    (&[2, 2], &[8, 9, 6, 7]),
+    (&[2, 2], &[1, 2, 2, 1]),
+    (&[2, 2], &[1, 2, 3]),
+    (&[2, 2], &[2, 1, 3]),
+    (&[2, 2], &[1, 2, 3, 4, 5]),
+    (&[33], &[1]),
+    (&[0], &[1]),
+];
+
+/// Ids that are too few or too many for their sizes, out of their limits, equal
+/// or out of line, in one service and from service to service.
+fn unlike_ids(records: &mut Records) {
+    let half = [500_000; 2];
+    for (sizes, ids) in SIZED {
+        for (volume, weights) in [(1, half), (1, [1; 2]), (10_001, half), (1, [WHOLE + 1; 2])] {
+            let rows = Rows {
+                volumes: vec![volume; sizes.len()],
+                sizes: sizes.to_vec(),
+                ids: ids.to_vec(),
+                weights: weights.repeat(sizes.len()),
+            };
+            add(records, [5, 0, 64], &rows);
+        }
+    }
+    for ids in [0, 1, 31, 32, 33, 64] {
+        let rows = Rows {
+            volumes: vec![1],
+            sizes: vec![32],
+            ids: (1..=ids).collect(),
+            weights: vec![31_250; 32],
+        };
+        add(records, [5, 0, 64], &rows);
+    }
+}
+
 /// 63 to 70 services, with all of their numbers or without some.
 fn at_limits(records: &mut Records) {
     let row = |count: usize, number: u64| vec![number; count];
@@ -210,12 +265,13 @@ fn spoilt(records: &mut Records, random: &mut Random) {
         let order = order(random, &shape);
         let mut rows = rows_of(&order.services);
         for _ in 0..random.within(1, 2) {
-            let row = match random.below(3) {
-                0 => &mut rows.volumes,
-                1 => &mut rows.sizes,
-                _ => &mut rows.weights,
-            };
-            spoil_row(random, row);
+            match random.below(5) {
+                0 => spoil_row(random, &mut rows.volumes),
+                1 => spoil_row(random, &mut rows.sizes),
+                2 => spoil_row(random, &mut rows.ids),
+                3 => spoil_ids(random, &mut rows.ids),
+                _ => spoil_row(random, &mut rows.weights),
+            }
         }
         add(records, [order.k, order.tolerance, order.capacity], &rows);
     }

@@ -1,7 +1,8 @@
 //! Vectors `U`, `L` and `H`: texts of rule sheets, lookup and churn.
 
+use super::loaded::{come_in, retire};
 use super::records::Records;
-use super::shapes::{order, rule_table, OrderShape};
+use super::shapes::{order, renamed, rule_table, OrderShape};
 use super::spoil::spoil;
 use crate::packing::pack_checked;
 use crate::random::Random;
@@ -19,6 +20,7 @@ pub fn add_all(records: &mut Records) {
     lookups(records, &mut random);
     churns_listed(records);
     churns(records, &mut random);
+    churns_by_id(records, &mut random);
 }
 
 fn add(records: &mut Records, text: &str) {
@@ -33,7 +35,7 @@ fn listed(records: &mut Records) {
         add(records, &SAMPLE[..length]);
     }
     let numbers = "0 1 2 3 12 13 32 33 64 65 2048 2049 00 01 -1 +1 1.0 x 18446744073709551617 4294967297 \
-        2621439999999999 2621440000000000 2621440000000001 * *0 *1 *01 *000 *2 ** 0* *00000 *000000";
+        9999 10000 10001 65537 1:1 :1 2621439999999999 2621440000000000 2621440000000001 * *0 *1 *01 *000 *2 ** 0* *00000 *000000";
     for number in numbers.split(' ').chain([""]) {
         add(records, &format!("TABLE {number} 1 0\n1 * 1\n"));
         add(records, &format!("TABLE 5 {number} 0\n1 * 1\n"));
@@ -75,7 +77,7 @@ pub(super) const LINES: [&str; 23] = [
     "1 * 1,2 * 1,2 * 1",
     "2 *0 1,1 * 1,2 * 1",
     "1 *0 1,1 * 1,1 *0 1",
-    "5 *00000 32,5 *1111 1,5 * 7,9 *1 1,9 * 1,64 * 32",
+    "5 *00000 9999,5 *1111 1,5 * 7,9 *1 1,9 * 1,64 * 9999",
     "1 *0 1,1 *1 1",
     "1 *1 1,1 *0 1,1 * 1",
 ];
@@ -108,8 +110,8 @@ fn at_limits(records: &mut Records) {
     add(records, &format!("TABLE 5 34 0\n{again}"));
     let mut lines = String::new();
     for service in 1..=64 {
-        lines += &format!("{service} *101010101010 32\n").repeat(31);
-        lines += &format!("{service} * 32\n");
+        lines += &format!("{service} *101010101010 9999\n").repeat(31);
+        lines += &format!("{service} * 9999\n");
     }
     add(records, &format!("TABLE 12 2048 2621440000000000\n{lines}"));
     add(records, &format!("TABLE 12 2047 2621440000000000\n{lines}"));
@@ -226,7 +228,7 @@ fn churns_listed(records: &mut Records) {
         "TABLE 5 1 0\n",
         "TABLE 5 2 0\n1 * 1\n",
         "TABLE 5 1 0\n1 *0 1\n",
-        "TABLE 5 1 0\n1 * 33\n",
+        "TABLE 5 1 0\n1 * 10000\n",
     ];
     for first in sheets {
         for second in sheets {
@@ -251,7 +253,7 @@ fn churns(records: &mut Records, random: &mut Random) {
         if random.once_in(4) {
             second = first.clone();
             let count = second.lines.len() as u64;
-            second.lines[random.below(count) as usize].rule.backend = random.within(1, 4) as u8;
+            second.lines[random.below(count) as usize].rule.backend = random.within(1, 4) as u16;
         }
         let service = some_service(random, &first);
         let (mut old, mut new) = (text_of(&first), text_of(&second));
@@ -264,3 +266,53 @@ fn churns(records: &mut Records, random: &mut Random) {
         add_churn(records, service, &old, &new);
     }
 }
+
+/// Tables packed before and after backends of a service were retired or came in,
+/// so that places move and ids stay; and tables of the same places under other
+/// ids.
+fn churns_by_id(records: &mut Records, random: &mut Random) {
+    for turn in 0..90 {
+        let shape = OrderShape {
+            services: random.within(1, 2),
+            backends: *random.pick(&[3, 5, 9, 32]),
+            bits: 12,
+        };
+        let mut order = order(random, &shape);
+        order.capacity = *random.pick(&[9, 64]);
+        let old = pack_checked(&order).table;
+        for service in &mut order.services {
+            for _ in 0..random.within(1, 2) {
+                match turn % 3 {
+                    0 => come_in(random, service),
+                    _ => retire(random, service),
+                }
+            }
+        }
+        let new = pack_checked(&order).table;
+        add_churn(records, 1, &text_of(&old), &text_of(&new));
+        if turn % 2 == 0 {
+            let other = renamed(random, &old);
+            add_churn(records, 1, &text_of(&old), &text_of(&other));
+        }
+    }
+    for (old, new) in ID_PAIRS {
+        let [old, new] = [old, new].map(|lines| {
+            let n = lines.split(',').count();
+            format!("TABLE 5 {n} 0\n{}\n", lines.replace(',', "\n"))
+        });
+        add_churn(records, 1, old.as_bytes(), new.as_bytes());
+        add_churn(records, 1, new.as_bytes(), old.as_bytes());
+    }
+}
+
+/// Lines between commas, of which only ids differ, or only places.
+const ID_PAIRS: [(&str, &str); 8] = [
+    ("1 * 1", "1 * 9999"),
+    ("1 * 9999", "1 * 9999"),
+    ("1 *00 1,1 *0 2,1 * 3", "1 *0 2,1 * 3"),
+    ("1 *00 10,1 *0 20,1 * 30", "1 *00 1,1 *0 2,1 * 3"),
+    ("1 *00 1,1 *0 2,1 * 3", "1 *00 2,1 *0 3,1 * 4"),
+    ("1 *00 7,1 *0 8,1 * 9", "1 *00 8,1 *0 7,1 * 9"),
+    ("1 *0 1,1 * 257", "1 *0 257,1 * 1"),
+    ("1 *0 255,1 * 256", "1 *0 511,1 * 512"),
+];

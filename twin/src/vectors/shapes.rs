@@ -1,18 +1,47 @@
 //! Weights, orders and tables of every shape, made at random.
 
 use crate::expansion::Rule;
+use crate::limits::MOST_ID;
 use crate::numerals::WHOLE;
 use crate::packing::{Order, Service};
 use crate::random::Random;
 use crate::suffix::Suffix;
 use crate::table::{RuleLine, Table};
 
-/// A service from its volume and weights.
-pub fn service(volume: u64, weights: &[u64]) -> Service {
+/// A service from its volume, ids and weights.
+pub fn named(volume: u64, ids: &[u64], weights: &[u64]) -> Service {
     Service {
         volume,
+        ids: ids.to_vec(),
         weights: weights.to_vec(),
     }
+}
+
+/// A service from its volume and weights, with the ids 1, 2, ..
+pub fn service(volume: u64, weights: &[u64]) -> Service {
+    named(volume, &first_ids(weights.len()), weights)
+}
+
+/// The ids 1, 2, .. of a number of backends.
+pub fn first_ids(count: usize) -> Vec<u64> {
+    (1..=count as u64).collect()
+}
+
+/// Ascending ids of a number of backends: 1, 2, .., with gaps, long ones, and
+/// with both limits.
+pub fn ids(random: &mut Random, count: usize) -> Vec<u64> {
+    let widest = MOST_ID - count as u64;
+    let spare = *random.pick(&[0, 0, 2, 30, 900, widest, widest, widest]);
+    let mut gaps: Vec<u64> = (0..count).map(|_| random.below(spare + 1)).collect();
+    gaps.sort_unstable();
+    if spare == widest && random.once_in(2) {
+        gaps[0] = 0;
+        gaps[count - 1] = widest;
+    }
+    gaps.iter()
+        .zip(1..)
+        .map(|(gap, place)| gap + place)
+        .collect()
 }
 
 /// Weights of a number of backends, which sum to 1,000,000.
@@ -128,7 +157,10 @@ pub fn order(random: &mut Random, shape: &OrderShape) -> Order {
         let volume = random.below(volumes) + u64::from(volumes == 1) * 7;
         match services.first() {
             Some(first) if same => services.push(first.clone()),
-            _ => services.push(service(volume, &weights(random, count))),
+            _ => {
+                let (ids, weights) = (ids(random, count), weights(random, count));
+                services.push(named(volume, &ids, &weights));
+            }
         }
     }
     let room = *random.pick(&[1, 4, 16, 64, 2_048]);
@@ -160,9 +192,8 @@ pub fn sheet_text(random: &mut Random, order: &Order) -> Vec<u8> {
     let mut text = format!("SHEET {} {tolerance} {}\n", order.k, order.capacity);
     for service in &order.services {
         text += &format!("SERVICE {}", service.volume);
-        for &weight in &service.weights {
-            text += " ";
-            text += &percentage_text(random, weight);
+        for (id, &weight) in service.ids.iter().zip(&service.weights) {
+            text += &format!(" {id}:{}", percentage_text(random, weight));
         }
         text += "\n";
     }
@@ -199,11 +230,40 @@ fn add_rules(random: &mut Random, k: u64, service: u8, most: u64, lines: &mut Ve
     lengths.sort_unstable_by(|a, b| b.cmp(a));
     lengths.push(0);
     let backends = *random.pick(&[2, 3, 32]);
+    let ids = ids(random, backends);
     for length in lengths {
         let place = random.below(1 << length) as u16;
         let suffix = Suffix::at_place(length as u8, place);
-        let backend = random.within(1, backends) as u8;
+        let backend = *random.pick(&ids) as u16;
         let rule = Rule { suffix, backend };
         lines.push(RuleLine { service, rule });
     }
+}
+
+/// One thing wrong with ids: one out of its limits, one out of line, equal, left
+/// out or too many.
+pub fn spoil_ids(random: &mut Random, ids: &mut Vec<u64>) {
+    let at = random.below(ids.len() as u64 + 1) as usize;
+    match random.below(6) {
+        0 if at < ids.len() => ids[at] = *random.pick(&[0, 1, MOST_ID, MOST_ID + 1, u64::MAX]),
+        1 if at < ids.len() => ids[at] = random.within(1, MOST_ID),
+        2 if at < ids.len() => drop(ids.remove(at)),
+        3 if at < ids.len() => ids.insert(at, ids[at]),
+        4 if at > 1 => ids.swap(at - 1, at - 2),
+        _ => ids.push(random.within(1, MOST_ID)),
+    }
+}
+
+/// The table with the same places under other ids, or partly the same.
+pub fn renamed(random: &mut Random, table: &Table) -> Table {
+    let mut before: Vec<u16> = table.lines.iter().map(|line| line.rule.backend).collect();
+    before.sort_unstable();
+    before.dedup();
+    let after = ids(random, before.len());
+    let mut table = table.clone();
+    for line in &mut table.lines {
+        let place = before.partition_point(|&id| id < line.rule.backend);
+        line.rule.backend = after[place] as u16;
+    }
+    table
 }

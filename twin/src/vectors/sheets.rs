@@ -3,7 +3,7 @@
 
 use super::records::{Record, Records};
 use super::{counts, percentage_sheets, plans, rule_sheets, writes};
-use crate::calls::{churn, lookup, split, split_into};
+use crate::calls::{churn, count_share, lookup, split, split_into};
 use crate::rule_sheet::{read, text_of};
 
 /// What the twin says to one record; nothing if the record is of no kind.
@@ -28,7 +28,10 @@ pub fn answer(record: &Record) -> Option<String> {
             let count = churn(first, second, service);
             Some(shown(count.map(|count| format!("churn {count}"))))
         }
-        ("C", &[service, room]) => counts::answer(text, service, room),
+        ("C", &[service, backend]) => {
+            let share = count_share(text, service, backend);
+            Some(shown(share.map(|(k, count)| format!("share {k} {count}"))))
+        }
         ("P", &[figures, table]) => plans::answer(text, figures, table),
         ("W", &[k, total, room]) => writes::answer(k, total, room, text),
         _ => None,

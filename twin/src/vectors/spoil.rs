@@ -3,10 +3,10 @@
 use crate::random::Random;
 
 /// Bytes that stand in sheets or next to those that do.
-const BYTES: &[u8] = b"0123456789 .\n*SERVICHTABL/:+-\r\t\0\xff\x0b";
+const BYTES: &[u8] = b"0123456789 .\n:::*SERVICHTABL/;+-\r\t\0\xff\x0b";
 
 /// Fields that are at some limit, or of no form.
-const FIELDS: [&str; 58] = [
+const FIELDS: [&str; 77] = [
     "",
     "0",
     "1",
@@ -26,6 +26,7 @@ const FIELDS: [&str; 58] = [
     "2047",
     "2048",
     "2049",
+    "9999",
     "10000",
     "10001",
     "65536",
@@ -65,17 +66,114 @@ const FIELDS: [&str; 58] = [
     "SERVICE",
     "SHEET",
     "TABLE",
+    "1:50",
+    "1:100",
+    "9999:0",
+    "9999:50",
+    "10000:50",
+    "0:50",
+    "01:50",
+    ":50",
+    ":",
+    "5:",
+    "5:50:",
+    "5::50",
+    "1:2:3",
+    "2:18.4.2",
+    "2:100.0001",
+    "+1:50",
+    "1.0:50",
+    "65537:50",
+];
+
+/// Ids, most of them at some limit or of no form.
+const IDS: [&str; 17] = [
+    "0",
+    "1",
+    "2",
+    "9",
+    "9998",
+    "9999",
+    "10000",
+    "00",
+    "01",
+    "0009",
+    "",
+    ":",
+    "+1",
+    "x",
+    "65537",
+    "4294967297",
+    "18446744073709551617",
 ];
 
 /// A sheet with one to three things wrong, or by chance still right.
 pub fn spoil(random: &mut Random, text: &[u8]) -> Vec<u8> {
     let mut text = text.to_vec();
     for _ in 0..*random.pick(&[1, 1, 1, 2, 3]) {
-        text = match random.below(4) {
-            0 | 1 => random.damage(&text, BYTES),
-            2 => spoil_field(random, &text),
-            _ => spoil_line(random, &text),
+        text = match random.below(7) {
+            0..=2 => random.damage(&text, BYTES),
+            3 => spoil_field(random, &text),
+            4 => spoil_backend(random, &text),
+            5 => spoil_line(random, &text),
+            _ => spoil_colon(random, &text),
         };
+    }
+    text
+}
+
+/// Puts another id in front of a percentage, or exchanges, doubles or bares it;
+/// a line without percentages gets another id as its last field.
+fn spoil_backend(random: &mut Random, text: &[u8]) -> Vec<u8> {
+    let mut lines: Vec<Vec<u8>> = text.split(|&b| b == b'\n').map(<[u8]>::to_vec).collect();
+    let line = random.below(lines.len() as u64) as usize;
+    let mut fields: Vec<Vec<u8>> = lines[line]
+        .split(|&b| b == b' ')
+        .map(<[u8]>::to_vec)
+        .collect();
+    let named: Vec<usize> = (0..fields.len())
+        .filter(|&at| fields[at].contains(&b':'))
+        .collect();
+    let id = random.pick(&IDS).as_bytes().to_vec();
+    if named.is_empty() {
+        *fields.last_mut().expect("a line has a field") = id;
+    } else {
+        let (at, other) = (*random.pick(&named), *random.pick(&named));
+        let parts: Vec<&[u8]> = fields[at].splitn(2, |&b| b == b':').collect();
+        let own = fields[other]
+            .split(|&b| b == b':')
+            .next()
+            .unwrap_or_default()
+            .to_vec();
+        match random.below(6) {
+            0 | 1 => fields[at] = [&id, &b":"[..], parts[1]].concat(),
+            2 | 3 => fields[at] = [&own, &b":"[..], parts[1]].concat(),
+            4 => fields[at] = parts[random.below(2) as usize].to_vec(),
+            _ => fields.swap(at, other),
+        }
+    }
+    lines[line] = fields.join(&b' ');
+    lines.join(&b'\n')
+}
+
+/// Leaves a colon out, doubles it or makes it a space; a text without one gets
+/// one.
+fn spoil_colon(random: &mut Random, text: &[u8]) -> Vec<u8> {
+    let mut text = text.to_vec();
+    let colons: Vec<usize> = (0..text.len()).filter(|&at| text[at] == b':').collect();
+    if colons.is_empty() {
+        text.insert(random.below(text.len() as u64 + 1) as usize, b':');
+        return text;
+    }
+    let at = *random.pick(&colons);
+    match random.below(4) {
+        0 => drop(text.remove(at)),
+        1 => text.insert(at, b':'),
+        2 => text[at] = b' ',
+        _ => {
+            let next = (at + 1).min(text.len() - 1);
+            text.swap(at, next);
+        }
     }
     text
 }
@@ -115,7 +213,7 @@ fn spoil_line(random: &mut Random, text: &[u8]) -> Vec<u8> {
 }
 
 /// Numbers at some limit of a table's lines, or far above it.
-const NUMBERS: [u64; 16] = [
+const NUMBERS: [u64; 18] = [
     0,
     1,
     2,
@@ -129,6 +227,8 @@ const NUMBERS: [u64; 16] = [
     255,
     256,
     4_096,
+    9_999,
+    10_000,
     1 << 32,
     1 << 63,
     u64::MAX,

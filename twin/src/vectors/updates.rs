@@ -2,7 +2,7 @@
 //! each with a lent buffer of so many numbers.
 
 use super::asks::{self, Ask};
-use super::expansion::{numbers, refused_text};
+use super::expansion::{refused_text, rows};
 use super::loaded::two_sheets;
 use super::plans::{row_text, BEHIND, MARK};
 use super::records::{Record, Records};
@@ -10,7 +10,7 @@ use super::rule_sheets::{some_service, LINES};
 use super::shapes::sheet_text;
 use super::sheets::shown;
 use super::spoil::spoil;
-use super::{percentage_sheets, rule_sheets};
+use super::{known, percentage_sheets, rule_sheets};
 use crate::calls::split;
 use crate::random::Random;
 use crate::rule_sheet::text_of;
@@ -24,8 +24,8 @@ pub fn answer(record: &Record) -> Option<String> {
     let lent = &mut list[..room];
     let answer = match (record.kind, record.numbers.as_slice()) {
         ("L", &[k, tolerance, _]) => {
-            let [old, weights] = two_rows(std::str::from_utf8(record.payload).ok()?)?;
-            let made = update(k, tolerance, &old, &weights, lent);
+            let [old, ids, weights] = rows(std::str::from_utf8(record.payload).ok()?)?;
+            let made = update(k, tolerance, &old, &ids, &weights, lent);
             made.map_or_else(refused_text, |made| format!("made {}", made_text(made)))
         }
         ("T", &[service, length, _]) => {
@@ -39,12 +39,6 @@ pub fn answer(record: &Record) -> Option<String> {
     Some(format!("{answer} rules{}", row_text(&list)))
 }
 
-/// Two lines of numbers.
-fn two_rows(text: &str) -> Option<[Vec<u64>; 2]> {
-    let rows: Option<Vec<Vec<u64>>> = text.strip_suffix('\n')?.split('\n').map(numbers).collect();
-    rows?.try_into().ok()
-}
-
 fn made_text(made: Updated) -> String {
     format!("{} {} {}", made.keep, made.rules, made.churn)
 }
@@ -55,10 +49,12 @@ pub fn add_all(records: &mut Records) {
     in_numbers(records, &mut random);
     refused_numbers(records, &mut random);
     tight_numbers(records);
+    named_numbers(records);
     sheets_listed(records);
     sheets_in_lines(records);
     sheets_at_limits(records);
     sheets_with_rooms(records);
+    sheets_of_ids(records);
     sheets_at_random(records, &mut random);
 }
 
@@ -69,8 +65,7 @@ fn add(records: &mut Records, ask: &Ask, room: usize) {
 
 /// The room that the answer needs; a little if it is refused.
 fn needed(ask: &Ask) -> usize {
-    let made = update(ask.k, ask.tolerance, &ask.old, &ask.weights, &mut [0; 96]);
-    made.map_or(3, |made| 3 * made.rules)
+    ask.made().map_or(3, |made| 3 * made.rules)
 }
 
 /// Most often the room needed; else one less, one more, three less or none.
@@ -120,7 +115,7 @@ fn refused_numbers(records: &mut Records, random: &mut Random) {
     }
 }
 
-/// The lowest tolerances of lists, and dropped rules that are refused.
+/// The lowest tolerances of lists, and dropped rules to missing backends.
 fn tight_numbers(records: &mut Records) {
     let mut random = Random::new(11);
     let mut loose: Vec<Ask> = asks::shaped().into_iter().step_by(2).collect();
@@ -130,8 +125,26 @@ fn tight_numbers(records: &mut Records) {
     for ask in &tight {
         add(records, ask, needed(ask));
     }
-    for ask in asks::dropped_beyond(&mut random, &tight).iter().step_by(6) {
-        add(records, ask, 3);
+    for ask in asks::dropped_missing(&mut random, &tight).iter().step_by(6) {
+        add(records, ask, needed(ask));
+    }
+}
+
+/// Backends that are missing, that come in and that are tied, and refused ids.
+fn named_numbers(records: &mut Records) {
+    let mut random = Random::new(13);
+    let asks = [
+        known::p1_named(),
+        known::of_other_backends(&mut random, 120),
+        known::all_known(&mut random),
+        known::tied(),
+        known::tied_givers(),
+    ];
+    for ask in asks.concat() {
+        add(records, &ask, needed(&ask));
+    }
+    for (turn, ask) in known::refused_ids().iter().enumerate() {
+        add(records, ask, 12 * (turn % 2));
     }
 }
 
@@ -150,21 +163,21 @@ const OLD: [&str; 10] = [
     "TABLE 5 1 0\n",
     "TABLE 5 2 0\n1 * 1\n",
     "TABLE 5 1 0\n1 *0 1\n",
-    "TABLE 5 1 0\n1 * 33\n",
+    "TABLE 5 1 0\n1 * 10000\n",
     "TABLE 5 1 0\n1 * 1",
 ];
 
 /// Percentage sheets, the refused ones too.
 const SHEETS: [&str; 10] = [
     percentage_sheets::SAMPLE,
-    "SHEET 5 0 9\nSERVICE 1 75 25\n",
-    "SHEET 4 100 9\nSERVICE 1 50 50\nSERVICE 1 100\n",
-    "SHEET 5 100 9\nSERVICE 1 50 50\nSERVICE 1 100\nSERVICE 0 0 100\n",
+    "SHEET 5 0 9\nSERVICE 1 1:75 2:25\n",
+    "SHEET 4 100 9\nSERVICE 1 1:50 2:50\nSERVICE 1 1:100\n",
+    "SHEET 5 100 9\nSERVICE 1 1:50 2:50\nSERVICE 1 1:100\nSERVICE 0 1:0 2:100\n",
     "",
     "SHEET 5 2 5\n",
-    "SHEET 5 2 1\nSERVICE 1 100\nSERVICE 1 100\n",
-    "SHEET 5 2 9\nSERVICE 1 50 49\n",
-    "SHEET 5 2 9\nSERVICE 1 50 018.4\n",
+    "SHEET 5 2 1\nSERVICE 1 1:100\nSERVICE 1 1:100\n",
+    "SHEET 5 2 9\nSERVICE 1 1:50 2:49\n",
+    "SHEET 5 2 9\nSERVICE 1 1:50 2:018.4\n",
     "SHEET 5 2 9\nSERVICES 1 100\n",
 ];
 
@@ -186,14 +199,14 @@ fn sheets_listed(records: &mut Records) {
     let many = "1 *0 1\n".repeat(32);
     let many = format!("TABLE 5 33 0\n{many}1 * 1\n");
     add_sheets(records, 1, many.as_bytes(), b"", 3);
-    let many = format!("SHEET 5 0 9\nSERVICE 1{}\n", " 0".repeat(33));
+    let many = format!("SHEET 5 0 9\nSERVICE 1{}\n", " 1:0".repeat(33));
     add_sheets(records, 3, OLD[0].as_bytes(), many.as_bytes(), 3);
 }
 
 /// Lines in and out of order, and the tables of the P cases with the weights of
 /// each.
 fn sheets_in_lines(records: &mut Records) {
-    let sheet = b"SHEET 5 50 9\nSERVICE 1 50 50\nSERVICE 1 100\nSERVICE 1 25 75\n";
+    let sheet = b"SHEET 5 50 9\nSERVICE 1 1:50 2:50\nSERVICE 1 1:100\nSERVICE 1 1:25 2:75\n";
     for lines in LINES {
         let (n, text) = (lines.split(',').count(), lines.replace(',', "\n"));
         let old = format!("TABLE 5 {n} 12\n{text}\n");
@@ -211,22 +224,23 @@ fn sheets_in_lines(records: &mut Records) {
 /// 64 services, 32 rules and 32 backends, and one more of each.
 fn sheets_at_limits(records: &mut Records) {
     let mut lines: String = (1..64).map(|service| format!("{service} * 1\n")).collect();
-    lines += &"64 *101010101010 32\n".repeat(31);
+    lines += &"64 *101010101010 9999\n".repeat(31);
     let old = format!("TABLE 12 95 0\n{lines}64 * 32\n");
-    let (most, weights) = ("SERVICE 1 100\n".repeat(63), " 3.125".repeat(32));
+    let most = "SERVICE 1 1:100\n".repeat(63);
+    let weights: String = (1..=32).map(|id| format!(" {id}:3.125")).collect();
     let sheet = format!("SHEET 12 100 64\n{most}SERVICE 1{weights}\n");
     for (service, room) in [(64, 96), (64, 95), (65, 96)] {
         add_sheets(records, service, old.as_bytes(), sheet.as_bytes(), room);
     }
     for sheet in [
         sheet.replace("12 100", "12 0"),
-        sheet.clone() + "SERVICE 1 100\n",
-        sheet.replace(" 3.125\n", " 3 0.125\n"),
-        sheet.replace(" 3.125\n", "\n"),
+        sheet.clone() + "SERVICE 1 1:100\n",
+        sheet.replace(":3.125\n", ":3 33:0.125\n"),
+        sheet.replace(" 32:3.125\n", "\n"),
     ] {
         add_sheets(records, 64, old.as_bytes(), sheet.as_bytes(), 96);
     }
-    let sheet = b"SHEET 12 100 64\nSERVICE 1 100\n";
+    let sheet = b"SHEET 12 100 64\nSERVICE 1 1:100\n";
     for more in ["64 * 32\n64 * 32\n", "64 *0 1\n64 * 32\n", "65 * 1\n"] {
         let old = format!("TABLE 12 96 0\n{lines}{more}");
         add_sheets(records, 1, old.as_bytes(), sheet, 3);
@@ -245,15 +259,65 @@ fn sheets_with_rooms(records: &mut Records) {
         add_sheets(records, service, old, sheet, 9);
     }
     for sheet in [
-        "SHEET 4 100 9\nSERVICE 1 100\nSERVICE 1 100\n",
-        "SHEET 5 100 9\nSERVICE 1 100\nSERVICE 1 50 50\n",
-        "SHEET 5 0 9\nSERVICE 1 50 50\nSERVICE 1 10 20 70\n",
-        "SHEET 5 0 9\nSERVICE 1 100\nSERVICE 1 50 25 25\n",
-        "SHEET 5 100 9\nSERVICE 1 100\nSERVICE 1 0 0 100\n",
+        "SHEET 4 100 9\nSERVICE 1 1:100\nSERVICE 1 1:100\n",
+        "SHEET 5 100 9\nSERVICE 1 1:100\nSERVICE 1 1:50 2:50\n",
+        "SHEET 5 0 9\nSERVICE 1 1:50 2:50\nSERVICE 1 1:10 2:20 3:70\n",
+        "SHEET 5 0 9\nSERVICE 1 1:100\nSERVICE 1 1:50 2:25 3:25\n",
+        "SHEET 5 100 9\nSERVICE 1 1:100\nSERVICE 1 1:0 2:0 3:100\n",
     ] {
         for room in [0, 8, 9] {
             add_sheets(records, 2, old, sheet.as_bytes(), room);
         }
+    }
+}
+
+/// Rule sheets of ids, k 5.
+const NAMED_OLD: [&str; 5] = [
+    "1 *0 20,1 * 30,2 *0 1,2 * 9999",
+    "1 *00 10,1 *0 20,1 * 30,2 * 10",
+    "1 *11 5,1 *1 5,1 *0 7,1 * 5,2 * 4",
+    "1 * 9999,2 * 1",
+    "1 *0 20,1 * 10000",
+];
+
+/// The backends of two services.
+const NAMED_NEW: [[&str; 2]; 9] = [
+    ["30:100", "9999:100"],
+    ["20:50 30:50", "1:50 9999:50"],
+    ["10:25 20:25 30:50", "10:100"],
+    ["20:25 30:75", "2:100"],
+    ["6:50 8:50", "3:50 5:50"],
+    ["1:0 5:50 7:0 9999:50", "1:100 9999:0"],
+    ["30:50 20:50", "1:100"],
+    ["20:50 30:50", "50 50"],
+    ["50 50", "1:100"],
+];
+
+/// Each of these with each, for both services; 32 rules to as many backends with
+/// weights of 32 others.
+fn sheets_of_ids(records: &mut Records) {
+    for lines in NAMED_OLD {
+        let (n, text) = (lines.split(',').count(), lines.replace(',', "\n"));
+        let old = format!("TABLE 5 {n} 0\n{text}\n");
+        for (turn, [one, two]) in NAMED_NEW.iter().enumerate() {
+            let tolerance = [0, 30][turn % 2];
+            let sheet = format!("SHEET 5 {tolerance} 9\nSERVICE 1 {one}\nSERVICE 0 {two}\n");
+            for service in [1, 2] {
+                add_sheets(records, service, old.as_bytes(), sheet.as_bytes(), 12);
+            }
+        }
+    }
+    let rules: String = (1..32)
+        .map(|i| format!("3 *{i:012b} {}\n", 2 * i))
+        .collect();
+    let old = format!("TABLE 12 32 0\n{rules}3 * 9999\n");
+    let weights: String = (0..32).map(|i| format!(" {}:3.125", 2 * i + 1)).collect();
+    for tolerance in ["100", "99.2431", "99.2432", "3.125", "3", "0"] {
+        let sheet = format!(
+            "SHEET 12 {tolerance} 9\n{0}{0}SERVICE 1{weights}\n",
+            "SERVICE 1 8:100\n"
+        );
+        add_sheets(records, 3, old.as_bytes(), sheet.as_bytes(), 96);
     }
 }
 

@@ -106,7 +106,23 @@ fn heads(records: &mut Records) {
 fn fields(records: &mut Records) {
     let table = [1, 2, 1, 1, 1, 0, 0, 2];
     for at in 0..table.len() {
-        for number in [0, 1, 2, 4, 12, 13, 32, 33, 64, 65, 1 << 32, u64::MAX] {
+        for number in [
+            0,
+            1,
+            2,
+            4,
+            12,
+            13,
+            32,
+            33,
+            64,
+            65,
+            9_999,
+            10_000,
+            65_537,
+            1 << 32,
+            u64::MAX,
+        ] {
             let mut numbers = table;
             numbers[at] = number;
             add(records, 3, 0, 30, &numbers);
@@ -118,7 +134,7 @@ fn fields(records: &mut Records) {
 fn suffixes(records: &mut Records) {
     for length in 0..=13 {
         for value in [(1 << length) - 1, 1 << length] {
-            let table = [64, length, value, 32, 64, 0, 0, 32];
+            let table = [64, length, value, 9_999, 64, 0, 0, 1];
             add(records, 12, 0, needed(12, 0, &table), &table);
         }
     }
@@ -159,7 +175,7 @@ fn thirty_third_rules(records: &mut Records) {
         &[1, 0, 0, 1, 1, 0, 0, 1],
         &[2, 0, 0, 1],
         &[1, 2, 0, 1],
-        &[1, 1, 0, 33],
+        &[1, 1, 0, 10_000],
     ];
     for before in [30, 31, 32, 33] {
         for tail in tails {
@@ -176,7 +192,9 @@ fn thirty_third_rules(records: &mut Records) {
 
 /// 64 services, 2,048 lines, the longest text, and more.
 fn at_limits(records: &mut Records) {
-    let stars: Vec<u64> = (1..=65).flat_map(|service| [service, 0, 0, 32]).collect();
+    let stars: Vec<u64> = (1..=65)
+        .flat_map(|service| [service, 0, 0, 9_999])
+        .collect();
     add(records, 1, 0, needed(1, 0, &stars[..256]), &stars[..256]);
     add(records, 1, 0, 9, &stars);
     let lines = |rule: [u64; 3]| {
@@ -191,7 +209,7 @@ fn at_limits(records: &mut Records) {
     add(records, 1, 0, needed(1, 0, &small) - 1, &small);
     small.extend([64, 0, 0, 1]);
     add(records, 1, 0, 9, &small);
-    let wide = lines([12, 2_730, 32]);
+    let wide = lines([12, 2_730, 9_999]);
     let room = needed(12, MOST_TOTAL, &wide);
     add(records, 12, MOST_TOTAL, room, &wide);
 }
@@ -204,11 +222,11 @@ fn left_over(records: &mut Records) {
         &[],
         &[1, 0, 0, 1],
         &[1, 1, 0, 1],
-        &[1, 0, 0, 1, 2, 5, 31, 32],
+        &[1, 0, 0, 1, 2, 5, 31, 9_999],
         &[65, 0, 0, 1],
         &[1, 6, 0, 1],
         &[1, 0, 1, 1],
-        &[1, 0, 0, 33, 1, 0, 0, 1],
+        &[1, 0, 0, 10_000, 1, 0, 0, 1],
         &[1, 0, 0, 1, 1, 0, 0, 1],
         &thirty_three,
     ];

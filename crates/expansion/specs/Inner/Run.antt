@@ -4,11 +4,11 @@ use mathlib.Core.Path.{_≡_}
 use mathlib.Core.List.{List, _∷_}
 use lib.Dec.{ltb}
 use lib.ListN.{length, getD}
-use Rattle.numerals.specs.Limits.{mostBits, mostBackends, mostRules, mostSuffixes, unit}
+use Rattle.numerals.specs.Limits.{mostBits, mostKnown, mostRules, mostSuffixes, unit}
 use Rattle.numerals.specs.Pick.{pick}
 use Rattle.numerals.specs.Sums.{sumTo}
 use Rattle.expansion.specs.FirstMatch.{nobody, share}
-use Rattle.expansion.specs.Imbalance.{backends, label, imbalance}
+use Rattle.expansion.specs.Imbalance.{Targets, backends, label, imbalance}
 use Rattle.expansion.specs.Steps.{Frame, after, endOf, listOf, stair}
 use Rattle.expansion.specs.Inner.Sound.{Distinct, Labelled, Sound}
 use Rattle.expansion.specs.KeptShares.{Keeps}
@@ -22,15 +22,14 @@ use Rattle.expansion.specs.declared.run.Run.{Run}
 use Rattle.expansion.specs.declared.run.Next.{Next}
 use Rattle.expansion.specs.declared.run.Next.the-variants.{Stop, Go}
 
--- one expansion with weights in millionths. Document 01's `frame` has the cap k - 1 and starts from the one rule `*`.
+-- backends with these labels and weights in millionths
+abbrev pub labelledBy : ℕ → List ℕ → List ℕ → Targets
+labelledBy k labels ws = record { k = k; unit = unit; labels = labels; weights = ws }
+
+-- one expansion for them. Document 01's `frame` has the cap k - 1 and starts from the one rule `*`.
 abbrev pub framed : ℕ → ℕ → ℕ → List ℕ → List ℕ → List Rule → Frame
 framed k cap tolerance labels ws start =
-    record {
-      targets = record { k = k; unit = unit; labels = labels; weights = ws };
-      tolerance = tolerance;
-      cap = cap;
-      start = start;
-    }
+    record { targets = labelledBy k labels ws; tolerance = tolerance; cap = cap; start = start }
 
 -- what the checks of a call leave, with a label of its own for each backend
 pub record Valid (k tolerance : ℕ) (labels ws : List ℕ) : Type 0 where
@@ -38,7 +37,7 @@ pub record Valid (k tolerance : ℕ) (labels ws : List ℕ) : Type 0 where
   pub few-bits : k ≤ mostBits
   pub tolerable : tolerance ≤ unit
   pub someone : 0 < length ws
-  pub few : length ws ≤ mostBackends
+  pub few : length ws ≤ mostKnown
   pub balanced : sumTo (length ws) (λ b. getD ws b 0) ≡ unit
   pub labelled : length labels ≡ length ws
   pub distinct : Distinct (λ b. getD labels b nobody) (length ws)
@@ -49,7 +48,7 @@ pub record Fits (F : Frame) : Type 0 where
   pub millionths : F .targets .unit ≡ unit
   pub few-bits : F .targets .k ≤ mostBits
   pub tolerable : F .tolerance ≤ unit
-  pub few : backends (F .targets) ≤ mostBackends
+  pub few : backends (F .targets) ≤ mostKnown
   pub labelled : length (F .targets .labels) ≡ backends (F .targets)
   pub sound : Sound F
 
@@ -68,7 +67,7 @@ pub record Stands (F : Frame) (x : ℕ) (holder low : List ℕ) (st : State) : T
   pub fits : Fits F
   pub keeps : Keeps (F .targets) (after F x) (st .ledger)
   pub holds : Holds (F .targets) (after F x) holder low
-  pub long : (length holder ≡ mostSuffixes) × (length low ≡ mostBackends)
+  pub long : (length holder ≡ mostSuffixes) × (length low ≡ mostKnown)
   pub stair : st .imbalance ≡ imbalance (F .targets) (after F x)
   pub next : st .next ≡ nextOf (st .ledger) (backends (F .targets)) (F .targets .k) (F .tolerance) (F .cap)
 

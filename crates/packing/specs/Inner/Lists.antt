@@ -1,6 +1,6 @@
 -- The lists of all services as the program stores them, and how that stands to the definitions. Service s has the places from stride * s on: the
 -- first is for no rule, the c-th after it for the c-th oldest rule.
-use Prim.Native.Nat.{ℕ, zero, suc, _+_, _*_, _≤_, _<_}
+use Prim.Native.Nat.{ℕ, zero, suc, _+_, _*_, _≤_, _<_, min}
 use mathlib.Core.Path.{_≡_}
 use mathlib.Core.List.{List, [], _∷_, reverse}
 use lib.ListN.{length, getD, take, drop}
@@ -46,24 +46,27 @@ pub record Listed (n : ℕ) (frames : ℕ → Frame) (lists : ℕ → List Rule)
   pub backend : (s j : ℕ) → s < n → j < length (lists s) → getD backends (placeOf s (suc j)) 0 ≡ ruleAt lists s j .backend
 
 -- the lists of the first n services by the frames of document 01: no list looks at a volume
-abbrev pub ListedTo : ℕ → ℕ → List ℕ → List ℕ → ℕ → List ℕ → List ℕ → List ℕ → List ℕ → List ℕ → List ℕ → Type 0
-ListedTo k tolerance sizes ws n lens values backends stairs counts ends =
+abbrev pub ListedTo : ℕ → ℕ → List ℕ → List ℕ → List ℕ → ℕ → List ℕ → List ℕ → List ℕ → List ℕ → List ℕ → List ℕ → Type 0
+ListedTo k tolerance sizes ids ws n lens values backends stairs counts ends =
     (volumes : List ℕ) → length volumes ≡ n
-    → let S = servicesOf k volumes sizes ws in
+    → let S = servicesOf k volumes sizes ids ws in
     Listed (services S) (frameOf S tolerance) (listFor S tolerance) lens values backends stairs counts ends
 
--- where the weights of service s begin: after those of the services before it
+-- where the ids and the weights of service s begin in their rows: after those of the services before it
 unfoldable pub start : List ℕ → ℕ → ℕ
 start [] s = 0
 start (n ∷ ns) zero = 0
 start (n ∷ ns) (suc s) = n + start ns s
 
--- what the checks leave for the lists: the weights of each service stand in the row and pass the checks of the expansion
-pub record Sized (k tolerance : ℕ) (sizes ws : List ℕ) : Type 0 where
+-- the numbers of service s in a row
+unfoldable pub part : List ℕ → List ℕ → ℕ → List ℕ
+part sizes row s = take (getD sizes s 0) (drop (start sizes s) row)
+
+-- what the checks leave for the lists: the ids and the weights of each service stand in their rows and pass the checks of the expansion
+pub record Sized (k tolerance : ℕ) (sizes ids ws : List ℕ) : Type 0 where
   pub few : length sizes ≤ mostServices
-  pub inside : (s : ℕ) → s < length sizes → start sizes s + getD sizes s 0 ≤ length ws
-  pub sound :
-      (s : ℕ) → s < length sizes → checkCall k tolerance ruleBudget (take (getD sizes s 0) (drop (start sizes s) ws)) ≡ Passed
+  pub inside : (s : ℕ) → s < length sizes → start sizes s + getD sizes s 0 ≤ min (length ids) (length ws)
+  pub sound : (s : ℕ) → s < length sizes → checkCall k tolerance ruleBudget (part sizes ids s) (part sizes ws s) ≡ Passed
 
 -- the grants of n services kept in a listing
 pub record Granted (n : ℕ) (g : Grants) (grants : List ℕ) : Type 0 where

@@ -19,7 +19,7 @@ pub record Convex (P : Problem) : Type 0 where
       (s x : ℕ) → s < P .services → P .least s ≤ x
       → P .cost s (suc x) - P .cost s (suc (suc x)) ≤ P .cost s x - P .cost s (suc x)
 
--- services as the percentage sheet has them: the weights of each sum to the unit, each backend has a label, and no two have one label
+-- services as the percentage sheet has them: the weights of each sum to the unit, each backend has an id, and no two have one id
 pub record Balanced (S : Services) : Type 0 where
   pub bits : 0 < S .k
   pub positive : 0 < S .unit

@@ -14,18 +14,25 @@ use Rattle.sheets.specs.declared.answer.UpdateRead.{UpdateRead}
 use Rattle.sheets.specs.declared.answer.UpdateRead.the-variants.{Made, Refused}
 
 -- measures m of service n, against the second sheet's k and services and the lent places
-unfoldable pub judged : UpdateRecord → ℕ → ℕ → ℕ → ℕ → ℕ → UpdateRead
-judged m k services n rulesRoom weightsRoom =
+unfoldable pub judged : UpdateRecord → ℕ → ℕ → ℕ → ℕ → ℕ → ℕ → UpdateRead
+judged m k services n rulesRoom idsRoom weightsRoom =
     pick (ltb 0 (m .rules))
     (pick (inLimits 1 services n)
     (pick (eqb (m .k) k)
-    (pick (both (leb (3 * m .rules) rulesRoom) (leb (m .backends) weightsRoom)) (Made m)
+    (pick (both (leb (3 * m .rules) rulesRoom) (both (leb (m .backends) idsRoom) (leb (m .backends) weightsRoom))) (Made m)
     (Refused (refusedAt no7 0)))
     (Refused (refusedAt no12 0)))
     (Refused (about 2 no8 0)))
     (Refused (about 1 no8 0))
 
--- the percentage sheet in memory, by its sizes and its row of weights; the volumes are none of an update's
-abbrev pub sheetIn : Head → List ℕ → List ℕ → Sheet
-sheetIn h sizes row =
-    record { k = h .k; tolerance = h .tolerance; capacity = h .capacity; volumes = []; weights = chunks sizes row }
+-- the percentage sheet in memory, by its sizes, its row of ids and its row of weights; the volumes are none of an update's
+abbrev pub sheetIn : Head → List ℕ → List ℕ → List ℕ → Sheet
+sheetIn h sizes named row =
+    record {
+      k = h .k;
+      tolerance = h .tolerance;
+      capacity = h .capacity;
+      volumes = [];
+      ids = chunks sizes named;
+      weights = chunks sizes row;
+    }

@@ -10,11 +10,11 @@ in-limits-requires : tie.Need-in-limits-requires
 in-limits-requires c κs = tt
 
 returns : tie.Need-returns
-returns c = sym (call-bits _ _ _ _ (sym (c .before .in-limits .ensures) ∙ not-true _ (c .if1 .taken)))
+returns c = sym (call-bits _ _ _ _ _ (sym (c .before .in-limits .ensures) ∙ not-true _ (c .if1 .taken)))
 
 returns-2 : tie.Need-returns-2
 unfolding unit
-returns-2 c = sym (call-tolerance _ _ _ _ (sym (c .before .before .in-limits .ensures) ∙ not-false _ (c .before .if1 .left)) (c .if2 .taken))
+returns-2 c = sym (call-tolerance _ _ _ _ _ (sym (c .before .before .in-limits .ensures) ∙ not-false _ (c .before .if1 .left)) (c .if2 .taken))
 
 in-limits-requires-2 : tie.Need-in-limits-requires-2
 in-limits-requires-2 c κs = tt
@@ -23,7 +23,7 @@ returns-3 : tie.Need-returns-3
 unfolding unit
 returns-3 c =
     sym
-    (call-budget _ _ _ _
+    (call-budget _ _ _ _ _
     (sym (c .before .before .before .before .in-limits .ensures) ∙ not-false _ (c .before .before .before .if1 .left))
     (c .before .before .if2 .left)
     (sym (c .before .in-limits2 .ensures) ∙ not-true _ (c .if3 .taken)))
@@ -36,7 +36,7 @@ unfolding unit
 returns-4 c =
     c .check-weights .ensures
     ∙ sym
-    (call-weights _ _ _ _
+    (call-weights _ _ _ _ _
     (sym (c .before .before .before .before .before .in-limits .ensures) ∙ not-false _ (c .before .before .before .before .if1 .left))
     (c .before .before .before .if2 .left)
     (sym (c .before .before .in-limits2 .ensures) ∙ not-false _ (c .before .if3 .left)))

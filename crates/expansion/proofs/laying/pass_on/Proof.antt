@@ -13,8 +13,8 @@ add-shares c =
     omega (
       arith,
       less-few (a .shares .now) (a .from) (a .to) (a .size) (P .long) (P .from-known) (P .to-known) (P .enough) (a .to),
-      P .few (a .to) (P .to-known),
-      P .few (a .from) (P .from-known),
+      P .few .1,
+      P .few .0,
     )
 
 pub pass-on-spec : {M : Type 1} → statement M

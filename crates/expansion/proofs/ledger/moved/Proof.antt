@@ -37,7 +37,7 @@ use denote.Triple.Clauses.{ensured, lasts}
 use denote.Triple.Table.{entered, cited}
 use denote.Triple.Walked.{says, needs, Stays, stay-none, walkOf, goes-none, Walks, ends-at, walked, walk-meets}
 use denote.Exit.{yes}
-use Rattle.numerals.specs.Limits.{mostBackends}
+use Rattle.numerals.specs.Limits.{mostKnown}
 use Rattle.expansion.specs.Inner.Ledger.{Movable, movedOf}
 use Rattle.expansion.specs.declared.ledger.Backend.{Backend}
 use Rattle.expansion.specs.declared.ledger.Ledger.{Ledger}
@@ -74,8 +74,8 @@ module _ {M : Type 1} (𝓤 : URA M) (H : Heap 𝓤) (A : Atoms 𝓤) (W : Given
   fits : Fits es
   fits = of-ledger ledger _ is
 
-  typed : (xs : List Backend) → Fits xs → T (hasTy (tyArray B′.mir mostBackends) (arr xs)) × WT (arr xs)
-  typed xs g = array-lawful 𝓤 H A W Entry (LL.lawful B.the-type B′.the-laws 𝓤 H A W) mostBackends .typed xs _ g .0
+  typed : (xs : List Backend) → Fits xs → T (hasTy (tyArray B′.mir mostKnown) (arr xs)) × WT (arr xs)
+  typed xs g = array-lawful 𝓤 H A W Entry (LL.lawful B.the-type B′.the-laws 𝓤 H A W) mostKnown .typed xs _ g .0
 
   -- the arguments and their machine values
   abbrev Arg : Type 0
@@ -108,16 +108,16 @@ module _ {M : Type 1} (𝓤 : URA M) (H : Heap 𝓤) (A : Atoms 𝓤) (W : Given
       (fullShare, tt),
       tt,
       (lent b 0 γ es, (giver, (receiver, (count, tt)))),
-      (sliceVal (b, 0) mostBackends ∷ [], (vint w64 giver ∷ [], (vint w64 receiver ∷ [], (vint w64 count ∷ [], tt)))),
+      (sliceVal (b, 0) mostKnown ∷ [], (vint w64 giver ∷ [], (vint w64 receiver ∷ [], (vint w64 count ∷ [], tt)))),
     ),
     tt,
   )
 
   goes : (b α : ℕ) (γ : GName)
-      → ent 𝓤 (sep 𝓤 (A .lft (α ∷ []) fullShare) (sem 𝓤 H A (MutSlice (named 0) (α ∷ []) Entry .own (lent b 0 γ es) (sliceVal (b, 0) mostBackends ∷ []))))
+      → ent 𝓤 (sep 𝓤 (A .lft (α ∷ []) fullShare) (sem 𝓤 H A (MutSlice (named 0) (α ∷ []) Entry .own (lent b 0 γ es) (sliceVal (b, 0) mostKnown ∷ []))))
       (Shift 𝓤 H A mem run .pre (to-shift b α γ))
   goes b α γ =
-      qed W (‵ (flft (α ∷ []) fullShare) ∷ ‵ (MutSlice (named 0) (α ∷ []) Entry .own (lent b 0 γ es) (sliceVal (b, 0) mostBackends ∷ [])) ∷ []) ∵ says ! m $
+      qed W (‵ (flft (α ∷ []) fullShare) ∷ ‵ (MutSlice (named 0) (α ∷ []) Entry .own (lent b 0 γ es) (sliceVal (b, 0) mostKnown ∷ [])) ∷ []) ∵ says ! m $
       nothing ! $ move ! (1 ∷ 0 ∷ []) $ join ! $ frame ! $
       nothing ! $ number ! count count-fits $ number ! receiver receiver-fits $ number ! giver giver-fits $ move ! (1 ∷ 0 ∷ []) $ fjoin ! $ done !
 

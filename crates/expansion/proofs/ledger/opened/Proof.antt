@@ -7,7 +7,7 @@ use native.Mathlib.Omega.{arith}
 use denote.Ref.{now}
 use lib.ListN.{length, getD, set, length-set}
 use lib.Seq.{getD-set-same, getD-set-other}
-use Rattle.numerals.specs.Limits.{mostBackends, unit}
+use Rattle.numerals.specs.Limits.{mostKnown, unit}
 use Rattle.expansion.specs.KeptShares.{noBackend, entryAt, entryOf}
 use Rattle.expansion.specs.declared.ledger.Backend.{Backend}
 use Rattle.expansion.proofs.ledger.opened.Statement.{statement}
@@ -16,7 +16,7 @@ use Rattle.expansion.proofs.ledger.opened.Tie as tie
 abbrev Inv-loop : tie.InvT-loop
 Inv-loop weights shares k ledger₀ b₀ ledger b =
     (b ≤ length weights)
-    × ((length (ledger .at) ≡ mostBackends)
+    × ((length (ledger .at) ≡ mostKnown)
     × ((i : ℕ) → i < b → entryAt ledger i ≡ entryOf unit k (getD weights i 0) (getD shares i 0)))
 
 abbrev μ-loop : tie.MeasureT-loop

@@ -7,10 +7,9 @@ use lib.ListN.{length}
 use borrow.Author.Needs.{needs}
 use borrow.Author.Tests.{not-true, not-false}
 use Rattle.numerals.specs.Limits.{mostBits, unit}
-use Rattle.numerals.specs.declared.refusal.Refusal.the-variants.{BadField}
-use Rattle.expansion.specs.Answer.{andThen, orElse, inLimits, checkWeights}
-use Rattle.expansion.specs.OldList.{rulesFrom, checkRules}
-use Rattle.expansion.specs.Resume.{allKnown, checkOld}
+use Rattle.expansion.specs.Answer.{andThen, inLimits, checkWeights}
+use Rattle.expansion.specs.OldList.{checkRules}
+use Rattle.expansion.specs.Resume.{checkOld}
 use Rattle.expansion.proofs.Checks.{limits}
 use Rattle.expansion.proofs.OldChecks.{old-bits, old-tolerance, old-none, old-rules}
 use Rattle.expansion.proofs.old_list.check_old.Statement.{statement}
@@ -20,19 +19,19 @@ in-limits-requires : tie.Need-in-limits-requires
 in-limits-requires c κs = search needs
 
 returns : tie.Need-returns
-returns c = sym (old-bits _ _ _ _ (sym (c .before .in-limits .ensures) ∙ not-true _ (c .if1 .taken)))
+returns c = sym (old-bits _ _ _ _ _ (sym (c .before .in-limits .ensures) ∙ not-true _ (c .if1 .taken)))
 
 -- k is in its limits
-bits : (c : tie.Else1) → inLimits 1 mostBits (c .before .before .before .before .args .k) ≡ true
+bits : (c : tie.Else1) → inLimits 1 mostBits (c .before .before .before .before .before .args .k) ≡ true
 bits c = sym (c .before .in-limits .ensures) ∙ not-false _ (c .if1 .left)
 
 returns-2 : tie.Need-returns-2
 unfolding unit
-returns-2 c = sym (old-tolerance _ _ _ _ (bits (c .before)) (c .if2 .taken))
+returns-2 c = sym (old-tolerance _ _ _ _ _ (bits (c .before)) (c .if2 .taken))
 
 returns-3 : tie.Need-returns-3
 unfolding unit
-returns-3 c = sym (old-none _ _ _ _ (bits (c .before .before)) (c .before .if2 .left) (c .if3 .taken))
+returns-3 c = sym (old-none _ _ _ _ _ (bits (c .before .before)) (c .before .if2 .left) (c .if3 .taken))
 
 check-rules-requires : tie.Need-check-rules-requires
 check-rules-requires c κs = limits 1 mostBits _ (bits (c .before .before)) .1
@@ -43,15 +42,14 @@ enum-known-ruled c = search needs
 -- what is left to check
 left :
     (c : tie.Else3)
-    → let a = c .before .before .before .before .before .before .args in
-    let ws = a .weights .now in
-    checkOld (a .k) (a .tolerance) (a .old .now) ws
-    ≡ andThen (checkRules (a .k) 0 (a .k) (a .old .now)) (andThen (checkWeights ws) (orElse (allKnown (length ws) (rulesFrom (a .old .now))) BadField))
+    → let a = c .before .before .before .before .before .before .before .args in
+    checkOld (a .k) (a .tolerance) (a .old .now) (a .ids .now) (a .weights .now)
+    ≡ andThen (checkRules (a .k) 0 (a .k) (a .old .now)) (checkWeights (a .ids .now) (a .weights .now))
 unfolding unit
 left c =
-    let old = c .before .before .before .before .before .before .args .old .now in
+    let old = c .before .before .before .before .before .before .before .args .old .now in
     let some : 0 < length old = omega (arith, c .if3 .left) in
-    old-rules _ _ _ _ (bits (c .before .before)) (c .before .if2 .left) some
+    old-rules _ _ _ _ _ (bits (c .before .before)) (c .before .if2 .left) some
 
 returns-4 : tie.Need-returns-4
 returns-4 c =
@@ -61,13 +59,13 @@ returns-4 c =
 enum-told : tie.Need-enum-told
 enum-told c = search needs
 
-check-against-requires : tie.Need-check-against-requires
-check-against-requires c κs = search needs
+check-weights-requires : tie.Need-check-weights-requires
+check-weights-requires c κs = search needs
 
 returns-5 : tie.Need-returns-5
 returns-5 c =
     let b = c .before .before .before in
-    c .check-against .ensures
+    c .check-weights .ensures
     ∙ sym (left (b .before) ∙ rw (sym (b .check-rules .ensures) ∙ c .before .enum-told .given .1))
 
 pub check-old-spec : {M : Type 1} → statement M
@@ -82,5 +80,5 @@ check-old-spec =
     enum-known-ruled
     returns-4
     enum-told
-    check-against-requires
+    check-weights-requires
     returns-5)

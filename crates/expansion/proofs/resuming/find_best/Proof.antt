@@ -1,313 +1,106 @@
--- `resuming::find_best` meets its contract. The loop's invariant: with more rules than are laid none ends within.
-use Prim.Native.Nat.{ℕ, suc, _-_, _/_, _≤_, _<_}
-use mathlib.Core.List.{List, _∷_}
-use mathlib.Core.Logic.{_≢_}
-use mathlib.Core.Path.{_≡_, ap, sym, _∙_, subst}
+-- `resuming::find_best` meets its contract: the search for the backends that are known.
+use Prim.Native.Nat.{ℕ, _≤_}
+use mathlib.Core.List.{List, map}
+use mathlib.Core.Path.{_≡_, ap₂, sym, subst}
 use native.Mathlib.Omega.{arith}
-use lib.ListN.{length, getD}
+use lib.ListN.{length, take, length-replicate}
+use lib.Seq.{length-take-le}
 use borrow.Author.Needs.{needs}
-use Rattle.numerals.specs.Limits.{mostBackends, mostRules}
-use Rattle.numerals.specs.Sums.{listTo}
-use Rattle.numerals.proofs.Powers.{shifted}
-use Rattle.expansion.specs.Answer.{targetsMade}
+use Rattle.numerals.specs.Limits.{mostKnown}
+use Rattle.expansion.specs.Imbalance.{Targets}
+use Rattle.expansion.specs.Known.{knownIds, weightOf, targetsKnown}
 use Rattle.expansion.specs.OldList.{rulesFrom}
-use Rattle.expansion.specs.Resume.{endsWithin, largestTo}
-use Rattle.expansion.specs.Steps.{oldest}
-use Rattle.expansion.specs.Inner.Laying.{Held, Had, LaidTo, Starts}
-use Rattle.expansion.specs.Inner.Lists.{noRule}
-use Rattle.expansion.specs.Inner.OldList.{ruleAt, Known, Proper}
-use Rattle.expansion.specs.Inner.Run.{Valid}
+use Rattle.expansion.specs.Inner.Known.{Ascending}
+use Rattle.expansion.specs.Inner.OldList.{Proper}
+use Rattle.expansion.specs.Inner.Resume.{Found}
+use Rattle.expansion.specs.Inner.Run.{labelledBy, Valid}
 use Rattle.expansion.specs.declared.rule.Rule.{Rule}
-use Rattle.expansion.proofs.KeptSearch.{Searched, held-first, next-known, newest-is, newest-held, laid-less}
-use Rattle.expansion.proofs.KeptSearch.{starts-at, found-some, none-less, found-none}
-use Rattle.expansion.proofs.OldChecks.{old-passed, proper-more}
-use Rattle.expansion.proofs.OldNumbers.{rules-count}
+use Rattle.expansion.proofs.OldChecks.{OldPassed, old-passed}
 use Rattle.expansion.proofs.resuming.find_best.Statement.{statement}
 use Rattle.expansion.proofs.resuming.find_best.Tie as tie
 
-abbrev Inv-loop : tie.InvT-loop
-Inv-loop k tolerance old weights n places first holder₀ shares₀ list₀ had holder shares list = Searched k tolerance weights old holder shares list had
+module _ (s : tie.Start) where
+  abbrev R : List Rule
+  R = rulesFrom (s .args .old .now)
 
-abbrev μ-loop : tie.MeasureT-loop
-μ-loop k tolerance old weights n places first holder₀ shares₀ list₀ had holder shares list = list .count
+  abbrev ids : List ℕ
+  ids = s .args .ids .now
 
-module _ (s : tie.Start Inv-loop μ-loop) where
   abbrev ws : List ℕ
   ws = s .args .weights .now
 
-  abbrev cs : List ℕ
-  cs = s .args .old .now
+  passed : OldPassed (s .args .k) (s .args .tolerance) R ids ws
+  passed = old-passed (s .args .k) (s .args .tolerance) (s .args .old .now) ids ws (s .pre)
 
-  valid : Valid (s .args .k) (s .args .tolerance) (listTo (length ws) suc) ws
-  valid = old-passed (s .args .k) (s .args .tolerance) cs ws (s .pre) .0
+slice-aggregate-know : tie.Need-slice-aggregate-know
+slice-aggregate-know c = search needs
 
-  proper : Proper (s .args .k) (length ws) (rulesFrom cs)
-  proper = old-passed (s .args .k) (s .args .tolerance) cs ws (s .pre) .1 .1
+slice-aggregate-know-2 : tie.Need-slice-aggregate-know-2
+slice-aggregate-know-2 c = search needs
 
-  proper-most : Proper (s .args .k) mostBackends (rulesFrom cs)
-  proper-most = proper-more (s .args .k) (length ws) mostBackends (rulesFrom cs) (valid .few) proper
+know-requires : tie.Need-know-requires
+know-requires c κs =
+    (passed (c .before .before .before .before .before) .knowable, (length-replicate {A = ℕ} mostKnown 0, length-replicate {A = ℕ} mostKnown 0))
 
-  someone : 0 < length cs / 3
-  someone = omega (arith, rules-count cs, proper .some)
+-- what is known
+module _ (n : tie.After-know) where
+  abbrev begun : tie.Start
+  begun = n .before .before .before .before .before .before
 
-all-places-requires : tie.Need-all-places-requires Inv-loop μ-loop
-all-places-requires c κs = search needs
+  few : n .know .result ≤ mostKnown
+  few =
+      let K = passed begun .knowable in
+      omega (arith, n .know .ensures .inside, K .few-rules, K .few-ids)
 
-sub-rule-at : tie.Need-sub-rule-at Inv-loop μ-loop
-sub-rule-at c = someone (c .before .before .before)
+  abbrev labels : List ℕ
+  labels = take (n .know .result) (n .know .last .1 .1 .1 .0)
 
-rule-at-requires : tie.Need-rule-at-requires Inv-loop μ-loop
-rule-at-requires c κs = omega (arith, someone (c .before .before .before))
+  abbrev weights : List ℕ
+  weights = take (n .know .result) (n .know .last .1 .1 .1 .1 .0)
 
--- the oldest rule
-module _ (q : tie.After-rule-at Inv-loop μ-loop) where
-  abbrev origin : tie.Start Inv-loop μ-loop
-  origin = q .before .before .before .before
+  handed : Valid (begun .args .k) (begun .args .tolerance) labels weights × (Ascending labels × Proper (begun .args .k) labels (R begun))
+  handed =
+      let P = passed begun in
+      rw (n .know .ensures .labels, n .know .ensures .weighed) (P .valid, (P .ascending, P .proper))
 
-  abbrev star : Rule
-  star = q .rule-at .result
+array-share-prefix-known : tie.Need-array-share-prefix-known
+array-share-prefix-known c = let n = c .before .before in omega (arith, few n, n .know .ensures .long .0)
 
-  star-known : Known (origin .args .k) mostBackends star
-  star-known =
-      let e : length (cs origin) / 3 - 1 - 0 ≡ length (cs origin) / 3 - 1 = omega arith in
-      subst (Known (origin .args .k) mostBackends) (ap (ruleAt (cs origin)) e ∙ sym (q .rule-at .ensures))
-      (next-known (origin .args .k) mostBackends (cs origin) (proper-most origin) 0 (proper origin .some))
+slice-aggregate-search : tie.Need-slice-aggregate-search
+slice-aggregate-search c =
+    let n = c .before .before .before in sym (length-take-le (n .know .result) (n .know .last .1 .1 .1 .0) (omega (arith, few n, n .know .ensures .long .0)))
 
-  last : star .backend - 1 < mostBackends
-  last = omega (arith, star-known .least, star-known .most)
+array-share-prefix-wanted : tie.Need-array-share-prefix-wanted
+array-share-prefix-wanted c = let n = c .before .before .before in omega (arith, few n, n .know .ensures .long .1)
 
-sub-first : tie.Need-sub-first Inv-loop μ-loop
-sub-first c = star-known (c .before) .least
+slice-aggregate-search-2 : tie.Need-slice-aggregate-search-2
+slice-aggregate-search-2 c =
+    let n = c .before .before .before .before in
+    sym (length-take-le (n .know .result) (n .know .last .1 .1 .1 .1 .0) (omega (arith, few n, n .know .ensures .long .1)))
 
-cast-holder : tie.Need-cast-holder Inv-loop μ-loop
-cast-holder c = omega (arith, last (c .before))
+search-requires : tie.Need-search-requires
+search-requires c κs = handed (c .before .before .before .before)
 
-shl-shares : tie.Need-shl-shares Inv-loop μ-loop
-shl-shares c = omega (arith, valid (origin (c .before)) .few-bits)
-
-mul-shares : tie.Need-mul-shares Inv-loop μ-loop
-mul-shares c = omega (arith, last (c .before))
-
-array-write-shares : tie.Need-array-write-shares Inv-loop μ-loop
-array-write-shares c = last (c .before)
-
-slice-aggregate-lay-all : tie.Need-slice-aggregate-lay-all Inv-loop μ-loop
-slice-aggregate-lay-all c = search needs
-
-slice-aggregate-lay-all-2 : tie.Need-slice-aggregate-lay-all-2 Inv-loop μ-loop
-slice-aggregate-lay-all-2 c = search needs
-
-slice-aggregate-lay-all-3 : tie.Need-slice-aggregate-lay-all-3 Inv-loop μ-loop
-slice-aggregate-lay-all-3 c = search needs
-
-lay-all-requires : tie.Need-lay-all-requires Inv-loop μ-loop
-lay-all-requires c κs =
-    let q = c .before .before .before .before in
-    let s = origin q in (
-      (valid s .few-bits, (proper-most s, q .before .all-places .ensures)),
-      rw (shifted (s .args .k) (valid s .few-bits)) (held-first (s .args .k) (cs s) (valid s .few-bits) (proper-most s) (star q) (q .rule-at .ensures)),
-    )
-
-loop-holds : tie.Need-loop-holds Inv-loop μ-loop
-loop-holds c =
-    let y = c .before .before .before .before in
-    let s = y .before .before .before .before .before .before .before .before .before in
-    let R = rulesFrom (cs s) in
-    let list = y .lay-all .result .list in
-    let all = sym (y .lay-all .ensures .0) in
-    record {
-      laid =
-          subst (λ (n : ℕ). LaidTo (s .args .k) R n (y .lay-all .last .0) (y .lay-all .last .1 .0) (list .rules) (y .lay-all .result .had)) all
-          (y .lay-all .ensures .1);
-      none = ap (λ (n : ℕ). largestTo n (endsWithin (targetsMade (s .args .k) (ws s)) (s .args .tolerance) R)) all;
-    }
-
--- where the loop has come to
-module _ (l : tie.At-loop Inv-loop μ-loop) where
-  abbrev begun : tie.Start Inv-loop μ-loop
-  begun = l .before .before .before .before .before .before .before .before .before .before .before .before .before .before
-
-  abbrev had : List ℕ
-  had = l .before .before .before .before .before .lay-all .result .had
-
-  abbrev here : Searched (begun .args .k) (begun .args .tolerance) (ws begun) (cs begun) (l .loop .holder) (l .loop .shares) (l .loop .list) had
-  here = l .loop .inv
-
-  starting : Starts (begun .args .k) (begun .args .tolerance) (ws begun) (l .loop .list) (l .loop .holder) (l .loop .shares) (length (cs begun) / 3)
-  starting =
-      starts-at (begun .args .k) (begun .args .tolerance) (ws begun) (cs begun) (valid begun) (proper begun) (l .loop .holder) (l .loop .shares)
-      (l .loop .list) had here
-
-  few : l .loop .list .count ≤ mostRules
-  few = omega (arith, here .laid .inside, proper begun .few)
-
-slice-aggregate-try-kept : tie.Need-slice-aggregate-try-kept Inv-loop μ-loop
-slice-aggregate-try-kept c = sym (here (c .before) .laid .held .long)
-
-slice-aggregate-try-kept-2 : tie.Need-slice-aggregate-try-kept-2 Inv-loop μ-loop
-slice-aggregate-try-kept-2 c = search needs
-
-try-kept-requires : tie.Need-try-kept-requires Inv-loop μ-loop
-try-kept-requires c κs =
-    let l = c .before .before in
-    (starting l, l .before .before .before .before .before .before .before .before .before .before .before .all-places .ensures)
-
-sub-left : tie.Need-sub-left Inv-loop μ-loop
-sub-left c = here (c .before .before .before) .laid .some
-
-returns : tie.Need-returns Inv-loop μ-loop
+returns : tie.Need-returns
+unfolding targetsKnown
 returns c =
-    let t = c .before .before in
-    let l = t .before .before .before in
-    let s = begun l in
-    found-some (s .args .k) (s .args .tolerance) (ws s) (cs s) (valid s) (proper s) (l .loop .holder) (l .loop .shares) (l .loop .list) (had l)
-    (here l) (t .try-kept .result) (t .try-kept .ensures) (c .if1 .taken)
-
-returns-2 : tie.Need-returns-2 Inv-loop μ-loop
-returns-2 c =
-    let d = c .before in
-    let t = d .before .before in
-    let l = t .before .before .before in
-    let s = begun l in
-    found-none (s .args .k) (s .args .tolerance) (ws s) (cs s) (valid s) (proper s) (l .loop .holder) (l .loop .shares) (l .loop .list) (had l)
-    (here l) (t .try-kept .result) (t .try-kept .ensures) (omega (arith, d .if1 .left)) (c .if2 .taken)
-
-mul-rule : tie.Need-mul-rule Inv-loop μ-loop
-mul-rule c = omega (arith, few (c .before .before .before .before .before .before))
-
-element-copy-out-rule : tie.Need-element-copy-out-rule Inv-loop μ-loop
-element-copy-out-rule c =
-    let l = c .before .before .before .before .before .before in omega (arith, few l, here l .laid .some, here l .laid .long .0)
-
-slice-aggregate-take-back : tie.Need-slice-aggregate-take-back Inv-loop μ-loop
-slice-aggregate-take-back c = sym (here (c .before .before .before .before .before .before .before .before) .laid .held .wide)
-
-slice-aggregate-take-back-2 : tie.Need-slice-aggregate-take-back-2 Inv-loop μ-loop
-slice-aggregate-take-back-2 c = sym (here (c .before .before .before .before .before .before .before .before .before) .laid .held .long)
-
-slice-aggregate-take-back-3 : tie.Need-slice-aggregate-take-back-3 Inv-loop μ-loop
-slice-aggregate-take-back-3 c =
-    let l = c .before .before .before .before .before .before .before .before .before .before in
-    sym (l .before .before .before .before .before .before .before .before .before .before .before .all-places .ensures .long)
-
-mul-take-back : tie.Need-mul-take-back Inv-loop μ-loop
-mul-take-back c = omega (arith, few (c .before .before .before .before .before .before .before .before .before .before))
-
-array-read-take-back : tie.Need-array-read-take-back Inv-loop μ-loop
-array-read-take-back c =
-    let l = c .before .before .before .before .before .before .before .before .before .before in
-    omega (arith, few l, here l .laid .some, here l .laid .long .1)
-
--- a rule that is taken back, where another is left
-module _ (l : tie.At-loop Inv-loop μ-loop) (more : l .loop .list .count - 1 ≢ 0) where
-  abbrev i : ℕ
-  i = l .loop .list .count - 1
-
-  abbrev s : tie.Start Inv-loop μ-loop
-  s = begun l
-
-  abbrev rules : List Rule
-  rules = l .loop .list .rules
-
-  abbrev rs : List Rule
-  rs = oldest i (rulesFrom (cs s))
-
-  is-next : l .loop .list .count ≡ suc i
-  is-next = omega (arith, here l .laid .some)
-
-  laid : LaidTo (s .args .k) (rulesFrom (cs s)) (suc i) (l .loop .holder) (l .loop .shares) rules (had l)
-  laid = subst (λ (n : ℕ). LaidTo (s .args .k) (rulesFrom (cs s)) n (l .loop .holder) (l .loop .shares) rules (had l)) is-next (here l .laid)
-
-  newest-known : Known (s .args .k) mostBackends (getD rules i noRule)
-  newest-known =
-      subst (Known (s .args .k) mostBackends)
-      (sym (newest-is (s .args .k) (length (ws s)) (cs s) (proper s) i (l .loop .holder) (l .loop .shares) rules (had l) (l .loop .holder) (l .loop .shares)
-      laid))
-      (next-known (s .args .k) mostBackends (cs s) (proper-most s) i (laid .inside))
-
-  held : Held (s .args .k) (getD rules i noRule ∷ rs) (l .loop .holder) (l .loop .shares)
-  held =
-      newest-held (s .args .k) (length (ws s)) (cs s) (proper s) i (l .loop .holder) (l .loop .shares) rules (had l) (l .loop .holder) (l .loop .shares)
-      laid
-
-  some : 1 ≤ i
-  some = omega (arith, more)
-
-  before : Had (s .args .k) rs (getD rules i noRule) (getD (had l) i 0)
-  before = laid .before i some (omega arith)
-
-take-back-requires : tie.Need-take-back-requires Inv-loop μ-loop
-take-back-requires c κs =
-    let f = c .before .before .before .before in
-    let l = f .before .before .before .before .before .before in
-    let more = f .if2 .left in (
-      (rs l more, (held l more, before l more)),
-      (
-        valid (begun l) .few-bits,
-        (newest-known l more, l .before .before .before .before .before .before .before .before .before .before .before .all-places .ensures),
-      ),
-    )
-
-loop-less : tie.Need-loop-less Inv-loop μ-loop
-loop-less c =
-    let f = c .before .before .before .before .before .before .before in
-    let l = f .before .before .before .before .before .before in
-    omega (arith, here l .laid .some)
-
-loop-again : tie.Need-loop-again Inv-loop μ-loop
-loop-again c =
-    let b = c .before .before in
-    let f = b .before .before .before .before .before in
-    let d = f .before in
-    let t = d .before .before in
-    let l = t .before .before .before in
-    let more = f .if2 .left in
-    let o = l .loop in
-    let s = begun l in
-    let h′ = b .take-back .last .0 in
-    let s′ = b .take-back .last .1 .0 in
-    let less = b .take-back .ensures (rs l more) (held l more) (before l more) in
-    record {
-      laid =
-          laid-less (s .args .k) (length (ws s)) (cs s) (proper s) (o .list .count - 1) (o .holder) (o .shares) (o .list .rules) (had l) h′ s′ (laid l more)
-          (some l more) less;
-      none =
-          none-less (s .args .k) (s .args .tolerance) (ws s) (cs s) (valid s) (proper s) (o .holder) (o .shares) (o .list) (had l) (here l)
-          (t .try-kept .result) (t .try-kept .ensures) (omega (arith, d .if1 .left));
-    }
+    let n = c .before .before .before .before .before in
+    let s = begun n in
+    let is : labelledBy (s .args .k) (labels n) (weights n)
+    ≡ labelledBy (s .args .k) (knownIds (R s) (ids s)) (map (weightOf (ids s) (ws s)) (knownIds (R s) (ids s))) =
+    ap₂ (labelledBy (s .args .k)) (n .know .ensures .labels) (n .know .ensures .weighed) in
+    subst (λ (T : Targets). Found T (s .args .tolerance) (R s) (length (R s)) (c .search .result)) is (c .search .ensures)
 
 pub find-best-spec : {M : Type 1} → statement M
 find-best-spec =
     tie.close
     (tie.spec
-    Inv-loop
-    μ-loop
-    all-places-requires
-    sub-rule-at
-    rule-at-requires
-    sub-first
-    cast-holder
-    shl-shares
-    mul-shares
-    array-write-shares
-    slice-aggregate-lay-all
-    slice-aggregate-lay-all-2
-    slice-aggregate-lay-all-3
-    lay-all-requires
-    loop-holds
-    slice-aggregate-try-kept
-    slice-aggregate-try-kept-2
-    try-kept-requires
-    sub-left
-    returns
-    returns-2
-    mul-rule
-    element-copy-out-rule
-    slice-aggregate-take-back
-    slice-aggregate-take-back-2
-    slice-aggregate-take-back-3
-    mul-take-back
-    array-read-take-back
-    take-back-requires
-    loop-less
-    loop-again)
+    slice-aggregate-know
+    slice-aggregate-know-2
+    know-requires
+    array-share-prefix-known
+    slice-aggregate-search
+    array-share-prefix-wanted
+    slice-aggregate-search-2
+    search-requires
+    returns)

@@ -5,7 +5,7 @@ use mathlib.Core.Path.{_≡_, sym, ap, _∙_, subst}
 use native.Mathlib.Omega.{arith}
 use lib.ListN.{length, set, getD, length-replicate, getD-replicate}
 use borrow.Author.Needs.{needs}
-use Rattle.numerals.specs.Limits.{mostBackends, mostRules}
+use Rattle.numerals.specs.Limits.{mostRules}
 use Rattle.expansion.specs.Steps.{oldest}
 use Rattle.expansion.specs.OldList.{rulesFrom}
 use Rattle.expansion.specs.Inner.Laying.{Held, Had, LaidTo}
@@ -20,18 +20,21 @@ use Rattle.expansion.proofs.resuming.lay_all.Statement.{statement}
 use Rattle.expansion.proofs.resuming.lay_all.Tie as tie
 
 abbrev Inv-loop : tie.InvT-loop
-Inv-loop holder₀ shares₀ places k old n list₀ had₀ i₀ holder shares list had i =
-    LaidTo k (rulesFrom old) i holder shares (list .rules) had
+Inv-loop holder₀ shares₀ places k ids old n list₀ had₀ i₀ holder shares list had i =
+    LaidTo k ids (rulesFrom old) i holder shares (list .rules) had
 
 abbrev μ-loop : tie.MeasureT-loop
-μ-loop holder₀ shares₀ places k old n list₀ had₀ i₀ holder shares list had i = n - i
+μ-loop holder₀ shares₀ places k ids old n list₀ had₀ i₀ holder shares list had i = n - i
 
 module _ (s : tie.Start Inv-loop μ-loop) where
   abbrev cs : List ℕ
   cs = s .args .old .now
 
-  proper : Proper (s .args .k) mostBackends (rulesFrom cs)
-  proper = s .pre .0 .1 .0
+  abbrev ids : List ℕ
+  ids = s .args .ids .now
+
+  proper : Proper (s .args .k) ids (rulesFrom cs)
+  proper = s .pre .0 .1 .1 .0
 
   some : 0 < length cs / 3
   some = omega (arith, rules-count cs, proper .some)
@@ -40,17 +43,17 @@ module _ (s : tie.Start Inv-loop μ-loop) where
   few = omega (arith, rules-count cs, proper .few)
 
 sub-rule-at : tie.Need-sub-rule-at Inv-loop μ-loop
-sub-rule-at c = some (c .before .before .before .before)
+sub-rule-at c = some (c .before .before .before .before .before)
 
 rule-at-requires : tie.Need-rule-at-requires Inv-loop μ-loop
-rule-at-requires c κs = omega (arith, some (c .before .before .before .before))
+rule-at-requires c κs = omega (arith, some (c .before .before .before .before .before))
 
 of-one-requires : tie.Need-of-one-requires Inv-loop μ-loop
 of-one-requires c κs = search needs
 
 loop-holds : tie.Need-loop-holds Inv-loop μ-loop
 loop-holds c =
-    let s = c .before .before .before .before .before .before in
+    let s = c .before .before .before .before .before .before .before in
     let star = c .before .rule-at .result in
     let list = c .of-one .result in
     let is = c .of-one .ensures in
@@ -59,11 +62,11 @@ loop-holds c =
     ∙ getD-replicate mostRules 0 star noRule (omega arith)
     ∙ c .before .rule-at .ensures
     ∙ ap (ruleAt (cs s)) (omega arith) in
-    laid-star (s .args .k) mostBackends (cs s) (proper s) (s .args .holder .now) (s .args .shares .now) (list .rules) _
+    laid-star (s .args .k) (ids s) (cs s) (proper s) (s .args .holder .now) (s .args .shares .now) (list .rules) _
     (ap (λ (l : RuleList). length (l .rules)) is ∙ length-replicate mostRules star, length-replicate {A = ℕ} mostRules 0) (s .pre .1) first
 
 sub-rule-at-2 : tie.Need-sub-rule-at-2 Inv-loop μ-loop
-sub-rule-at-2 c = omega (arith, some (c .before .before .before .before .before .before .before .before))
+sub-rule-at-2 c = omega (arith, some (c .before .before .before .before .before .before .before .before .before))
 
 sub-rule-at-3 : tie.Need-sub-rule-at-3 Inv-loop μ-loop
 sub-rule-at-3 c = omega arith
@@ -77,7 +80,7 @@ module _ (q : tie.After-rule-at2 Inv-loop μ-loop) where
   l = q .before .before
 
   abbrev begun : tie.Start Inv-loop μ-loop
-  begun = l .before .before .before .before .before .before .before
+  begun = l .before .before .before .before .before .before .before .before
 
   abbrev i : ℕ
   i = l .loop .i
@@ -97,17 +100,17 @@ module _ (q : tie.After-rule-at2 Inv-loop μ-loop) where
   abbrev rs : List Rule
   rs = oldest i (rulesFrom (cs begun))
 
-  known : Known (begun .args .k) mostBackends (q .rule-at2 .result)
-  known = subst (Known (begun .args .k) mostBackends) (sym is) (next-known (begun .args .k) mostBackends (cs begun) (proper begun) i less)
+  known : Known (begun .args .k) (ids begun) (q .rule-at2 .result)
+  known = subst (Known (begun .args .k) (ids begun)) (sym is) (next-known (begun .args .k) (ids begun) (cs begun) (proper begun) i less)
 
   lengths : Lengths (q .rule-at2 .result .len) rs
-  lengths = subst (λ (r : Rule). Lengths (r .len) rs) (sym is) (next-lengths (begun .args .k) mostBackends (cs begun) (proper begun) i less)
+  lengths = subst (λ (r : Rule). Lengths (r .len) rs) (sym is) (next-lengths (begun .args .k) (ids begun) (cs begun) (proper begun) i less)
 
 lay-requires : tie.Need-lay-requires Inv-loop μ-loop
 lay-requires c κs =
     let q = c .before .before in
     let s = begun q in
-    ((rs q, (l q .loop .inv .held, lengths q)), (s .pre .0 .0, (known q, s .pre .0 .1 .1)))
+    ((rs q, (l q .loop .inv .held, lengths q)), (s .pre .0 .0, (s .pre .0 .1 .0, (known q, s .pre .0 .1 .1 .1))))
 
 mul-had : tie.Need-mul-had Inv-loop μ-loop
 mul-had c = omega (arith, few-i (c .before .before .before .before .before .before .before))
@@ -137,29 +140,30 @@ loop-again c =
     let s′ = y .lay .last .1 .0 in
     let b = y .lay .result in
     let done = y .lay .ensures (rs q) (o .inv .held) (lengths q) in
-    let held = subst (λ (r : Rule). Held (s .args .k) (r ∷ rs q) h′ s′) (is q) (done .0) in
-    let had = subst (λ (r : Rule). Had (s .args .k) (rs q) r b) (is q) (done .1) in
-    let more = laid-more (s .args .k) mostBackends (cs s) (proper s) (o .i) (o .holder) (o .shares) (o .list .rules) (o .had) h′ s′ b
+    let held = subst (λ (r : Rule). Held (s .args .k) (ids s) (r ∷ rs q) h′ s′) (is q) (done .0) in
+    let had = subst (λ (r : Rule). Had (s .args .k) (ids s) (rs q) r b) (is q) (done .1) in
+    let more = laid-more (s .args .k) (ids s) (cs s) (proper s) (o .i) (o .holder) (o .shares) (o .list .rules) (o .had) h′ s′ b
     (less q) (o .inv) held had in
-    subst (λ (r : Rule). LaidTo (s .args .k) (rulesFrom (cs s)) (o .i + 1) h′ s′ (set (o .list .rules) (o .i) r) (set (o .had) (o .i) b)) (sym (is q)) more
+    subst (λ (r : Rule). LaidTo (s .args .k) (ids s) (rulesFrom (cs s)) (o .i + 1) h′ s′ (set (o .list .rules) (o .i) r) (set (o .had) (o .i) b))
+    (sym (is q)) more
 
 same-length : tie.Need-same-length Inv-loop μ-loop
 same-length c =
     let o = c .before in
-    omega (arith, o .loop .inv .held .wide, o .before .before .before .before .before .before .before .pre .1 .wide)
+    omega (arith, o .loop .inv .held .wide, o .before .before .before .before .before .before .before .before .pre .1 .wide)
 
 same-length-2 : tie.Need-same-length-2 Inv-loop μ-loop
 same-length-2 c =
     let o = c .before in
-    omega (arith, o .loop .inv .held .long, o .before .before .before .before .before .before .before .pre .1 .long)
+    omega (arith, o .loop .inv .held .long, o .before .before .before .before .before .before .before .before .pre .1 .long)
 
 returns : tie.Need-returns Inv-loop μ-loop
 returns c =
     let o = c .before in
-    let s = o .before .before .before .before .before .before .before in
+    let s = o .before .before .before .before .before .before .before .before in
     let all : o .loop .i ≡ length (rulesFrom (cs s)) = omega (arith, rules-count (cs s), o .loop .inv .inside, c .loop-test .left) in (
       sym (rules-count (cs s)),
-      subst (λ (n : ℕ). LaidTo (s .args .k) (rulesFrom (cs s)) n (o .loop .holder) (o .loop .shares) (o .loop .list .rules) (o .loop .had)) all
+      subst (λ (n : ℕ). LaidTo (s .args .k) (ids s) (rulesFrom (cs s)) n (o .loop .holder) (o .loop .shares) (o .loop .list .rules) (o .loop .had)) all
           (o .loop .inv),
     )
 

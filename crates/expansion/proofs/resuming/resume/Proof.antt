@@ -20,9 +20,9 @@ enum-known-checked c = search needs
 returns : tie.Need-returns
 returns c =
     let o = c .before .before .before in
-    let a = o .before .before .before .before .args in (
+    let a = o .before .before .before .before .before .args in (
       sym
-          (resume-refused (a .k) (a .tolerance) (a .weights .now) (a .old .now) (length (a .rules .now)) (c .before .checked .given .0 .0)
+          (resume-refused (a .k) (a .tolerance) (a .ids .now) (a .weights .now) (a .old .now) (length (a .rules .now)) (c .before .checked .given .0 .0)
           (sym (o .check-old .ensures) ∙ c .before .checked .given .1)),
       refl,
     )
@@ -31,9 +31,9 @@ enum-told : tie.Need-enum-told
 enum-told c = search needs
 
 abbrev begun : tie.After-enum-told → tie.Start
-begun c = c .before .before .before .before .before .before
+begun c = c .before .before .before .before .before .before .before
 
-passed : (c : tie.After-enum-told) → let a = begun c .args in checkOld (a .k) (a .tolerance) (a .old .now) (a .weights .now) ≡ Passed
+passed : (c : tie.After-enum-told) → let a = begun c .args in checkOld (a .k) (a .tolerance) (a .old .now) (a .ids .now) (a .weights .now) ≡ Passed
 passed c = sym (c .before .before .check-old .ensures) ∙ c .enum-told .given .1
 
 find-best-requires : tie.Need-find-best-requires
@@ -44,7 +44,7 @@ returns-2 c =
     let f = c .before in
     let a = begun (f .before) .args in (
       sym
-          (resume-stuck (a .k) (a .tolerance) (a .weights .now) (a .old .now) (length (a .rules .now)) (passed (f .before)) (f .find-best .result)
+          (resume-stuck (a .k) (a .tolerance) (a .ids .now) (a .weights .now) (a .old .now) (length (a .rules .now)) (passed (f .before)) (f .find-best .result)
           (f .find-best .ensures) (omega arith)),
       refl,
     )
@@ -57,7 +57,7 @@ returns-3 c =
     let f = c .before .before .before in
     let a = begun (f .before) .args in (
       sym
-          (resume-short (a .k) (a .tolerance) (a .weights .now) (a .old .now) (length (a .rules .now)) (passed (f .before)) (f .find-best .result)
+          (resume-short (a .k) (a .tolerance) (a .ids .now) (a .weights .now) (a .old .now) (length (a .rules .now)) (passed (f .before)) (f .find-best .result)
           (f .find-best .ensures) (omega arith) (omega arith)),
       refl,
     )
@@ -75,11 +75,11 @@ returns-4 c =
     let a = begun (f .before) .args in
     let some : 0 < f .find-best .result .kept = omega arith in (
       sym
-          (resume-made (a .k) (a .tolerance) (a .weights .now) (a .old .now) (length (a .rules .now)) (passed (f .before)) (f .find-best .result)
+          (resume-made (a .k) (a .tolerance) (a .ids .now) (a .weights .now) (a .old .now) (length (a .rules .now)) (passed (f .before)) (f .find-best .result)
           (f .find-best .ensures) some (omega arith)),
       o .store-rules .ensures
           ∙ ap (sets (a .rules .now) 0)
-          (numbers-are (a .k) (a .tolerance) (a .weights .now) (a .old .now) (length (a .rules .now)) (passed (f .before)) (f .find-best .result)
+          (numbers-are (a .k) (a .tolerance) (a .ids .now) (a .weights .now) (a .old .now) (length (a .rules .now)) (passed (f .before)) (f .find-best .result)
           (f .find-best .ensures) some),
     )
 

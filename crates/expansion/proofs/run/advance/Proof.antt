@@ -5,7 +5,7 @@ use mathlib.Core.Path.{_≡_, sym, _∙_}
 use native.Mathlib.Omega.{arith}
 use lib.ListN.{length, getD, length-map}
 use borrow.Author.Needs.{needs}
-use Rattle.numerals.specs.Limits.{mostBits, mostBackends}
+use Rattle.numerals.specs.Limits.{mostBits, mostKnown}
 use Rattle.expansion.specs.FirstMatch.{nobody}
 use Rattle.expansion.specs.Imbalance.{backends, label}
 use Rattle.expansion.specs.Steps.{Frame, newRule, after}
@@ -49,7 +49,7 @@ module _ (s : tie.Start) where
   unfolding backends
   some = someone F fits
 
-  few : length (s .args .weights .now) ≤ mostBackends
+  few : length (s .args .weights .now) ≤ mostKnown
   unfolding backends
   few = fits .few
 
@@ -58,7 +58,7 @@ module _ (s : tie.Start) where
   low = omega (arith, feasible .index, fits .sound .below, fits .few-bits)
 
   -- `moved` may be called with any backend as receiver: a wrong one is refused by the ledger that comes out
-  entries : length (s .args .state .ledger .at) ≡ mostBackends
+  entries : length (s .args .state .ledger .at) ≡ mostKnown
   entries = simp length-map at (s .good .1 .1 .1 .0 .1 .1 .0 .1 .1 .0 .1 .0 .1)
 
   takes : (b : ℕ) → b < length (s .args .weights .now) → Changeable (entryAt (s .args .state .ledger) b) 0 (2 ^ (s .args .m .index))

@@ -5,7 +5,7 @@ use mathlib.Core.Path.{_≡_, sym, _∙_, subst}
 use native.Mathlib.Omega.{arith}
 use lib.ListN.{length, length-set, length-map}
 use borrow.Author.Needs.{needs}
-use Rattle.numerals.specs.Limits.{mostBackends, mostRules, mostSuffixes}
+use Rattle.numerals.specs.Limits.{mostKnown, mostRules, mostSuffixes}
 use Rattle.expansion.specs.Steps.{Frame, after}
 use Rattle.expansion.specs.KeptShares.{SharesKept}
 use Rattle.expansion.specs.Inner.Lists.{Listed}

@@ -5,7 +5,7 @@ use mathlib.Core.Path.{refl, ap, sym, subst}
 use native.Mathlib.Omega.{arith}
 use lib.ListN.{set, replicate, length-replicate, length-set}
 use borrow.Author.Needs.{needs}
-use Rattle.numerals.specs.Limits.{mostBackends, mostSuffixes, unit}
+use Rattle.numerals.specs.Limits.{mostKnown, mostSuffixes, unit}
 use Rattle.expansion.specs.Imbalance.{backends}
 use Rattle.expansion.specs.Steps.{Frame, frame, firstRule, listOf}
 use Rattle.expansion.specs.KeptShares.{SharesKept}
@@ -26,7 +26,7 @@ all-places-requires c κs = search needs
 heaviest-requires : tie.Need-heaviest-requires
 heaviest-requires c κs = c .before .before .before .pre .0 .someone
 
-first-in : (c : tie.After-heaviest) → c .heaviest .result < mostBackends
+first-in : (c : tie.After-heaviest) → c .heaviest .result < mostKnown
 first-in c =
     let s = c .before .before .before .before in
     omega (arith, c .heaviest .ensures, first-lt (s .args .k) (s .args .tolerance) (s .args .labels .now) (s .args .weights .now) (s .pre .0), s .pre .0 .few)
@@ -69,7 +69,7 @@ module _ (c : tie.After-heaviest) where
   first = c .heaviest .result
 
   abbrev shares : List ℕ
-  shares = set (replicate mostBackends 0) first (1 * 2 ^ (s .args .k) % 18446744073709551616)
+  shares = set (replicate mostKnown 0) first (1 * 2 ^ (s .args .k) % 18446744073709551616)
 
   fitting : Fits F
   fitting = fits (s .args .k) (s .args .tolerance) (s .args .labels .now) (s .args .weights .now) (s .pre .0)
@@ -81,7 +81,7 @@ module _ (c : tie.After-heaviest) where
 
 slice-aggregate-begin : tie.Need-slice-aggregate-begin
 slice-aggregate-begin c =
-    sym (length-set (replicate mostBackends 0) (c .before .before .heaviest .result) (1 * 2 ^ (s (c .before .before) .args .k) % 18446744073709551616))
+    sym (length-set (replicate mostKnown 0) (c .before .before .heaviest .result) (1 * 2 ^ (s (c .before .before) .args .k) % 18446744073709551616))
 
 sub-begin : tie.Need-sub-begin
 sub-begin c = s (c .before .before) .pre .0 .some-bits
@@ -114,15 +114,15 @@ module _ (c : tie.After-of-one) where
   abbrev begun : State
   begun = c .before .begin .result
 
-  stands : Stands (F h) 0 (replicate mostSuffixes (first h)) (replicate mostBackends 0) begun
+  stands : Stands (F h) 0 (replicate mostSuffixes (first h)) (replicate mostKnown 0) begun
   unfolding frame backends
   stands =
       let a = s h .args in
-      c .before .begin .ensures .0 (a .labels .now) (firstRule (a .labels .now) (a .weights .now)) (replicate mostSuffixes (first h)) (replicate mostBackends 0)
+      c .before .begin .ensures .0 (a .labels .now) (firstRule (a .labels .now) (a .weights .now)) (replicate mostSuffixes (first h)) (replicate mostKnown 0)
       (fitting h) (shared h)
       (holds-first (F h .targets) (s h .pre .0 .few-bits) (first h)
       (omega (arith, h .heaviest .ensures, first-lt (a .k) (a .tolerance) (a .labels .now) (a .weights .now) (s h .pre .0))) (h .heaviest .ensures))
-      (length-replicate mostSuffixes (first h)) (length-replicate {A = ℕ} mostBackends 0)
+      (length-replicate mostSuffixes (first h)) (length-replicate {A = ℕ} mostKnown 0)
 
   listed : Listed (F h) 0 (c .of-one .result)
   listed =

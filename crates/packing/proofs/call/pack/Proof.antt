@@ -23,7 +23,7 @@ enum-known-checked c = search needs
 
 returns : tie.Need-returns
 returns c =
-    (sym (answer-refused _ _ _ _ _ _ _ _ _ (sym (c .before .before .before .check-all .ensures) ∙ c .before .checked .given .1)), (refl, (refl, tt)))
+    (sym (answer-refused _ _ _ _ _ _ _ _ _ _ (sym (c .before .before .before .check-all .ensures) ∙ c .before .checked .given .1)), (refl, (refl, tt)))
 
 enum-told : tie.Need-enum-told
 enum-told c = search needs
@@ -49,15 +49,15 @@ slice-aggregate-make-lists-6 c = search needs
 -- the checks passed
 passed :
     (c : tie.After-enum-told)
-    → let a = c .before .before .before .before .before .before .before .before .args in
-    checkAll (a .k) (a .tolerance) (a .capacity) (a .volumes .now) (a .sizes .now) (a .weights .now) ≡ Passed
+    → let a = c .before .before .before .before .before .before .before .before .before .args in
+    checkAll (a .k) (a .tolerance) (a .capacity) (a .volumes .now) (a .sizes .now) (a .ids .now) (a .weights .now) ≡ Passed
 passed c = sym (c .before .before .check-all .ensures) ∙ c .enum-told .given .1
 
 accepted :
     (c : tie.After-enum-told)
-    → let a = c .before .before .before .before .before .before .before .before .args in
-    Accepted (a .k) (a .tolerance) (a .capacity) (a .volumes .now) (a .sizes .now) (a .weights .now)
-accepted c = all-passed _ _ _ _ _ _ (passed c)
+    → let a = c .before .before .before .before .before .before .before .before .before .args in
+    Accepted (a .k) (a .tolerance) (a .capacity) (a .volumes .now) (a .sizes .now) (a .ids .now) (a .weights .now)
+accepted c = all-passed _ _ _ _ _ _ _ (passed c)
 
 make-lists-requires : tie.Need-make-lists-requires
 make-lists-requires c κs =
@@ -76,15 +76,15 @@ slice-aggregate-grant-all-3 c = search needs
 -- the lists are those of the definitions
 listed :
     (c : tie.After-make-lists)
-    → let a = c .before .before .before .before .before .before .before .before .before .before .before .before .before .before .before .args in
+    → let a = c .before .before .before .before .before .before .before .before .before .before .before .before .before .before .before .before .args in
     let m = c .make-lists in
-    let S = servicesOf (a .k) (a .volumes .now) (a .sizes .now) (a .weights .now) in
+    let S = servicesOf (a .k) (a .volumes .now) (a .sizes .now) (a .ids .now) (a .weights .now) in
     Listed (services S) (frameOf S (a .tolerance)) (listFor S (a .tolerance))
-    (m .last .1 .1 .1 .1 .0) (m .last .1 .1 .1 .1 .1 .0) (m .last .1 .1 .1 .1 .1 .1 .0)
-    (m .last .1 .1 .1 .1 .1 .1 .1 .0) (m .last .1 .1 .1 .1 .1 .1 .1 .1 .0) (m .last .1 .1 .1 .1 .1 .1 .1 .1 .1 .0)
+    (m .last .1 .1 .1 .1 .1 .0) (m .last .1 .1 .1 .1 .1 .1 .0) (m .last .1 .1 .1 .1 .1 .1 .1 .0)
+    (m .last .1 .1 .1 .1 .1 .1 .1 .1 .0) (m .last .1 .1 .1 .1 .1 .1 .1 .1 .1 .0) (m .last .1 .1 .1 .1 .1 .1 .1 .1 .1 .1 .0)
 listed c =
     c .make-lists .ensures
-    (c .before .before .before .before .before .before .before .before .before .before .before .before .before .before .before .args .volumes .now)
+    (c .before .before .before .before .before .before .before .before .before .before .before .before .before .before .before .before .args .volumes .now)
     (accepted (c .before .before .before .before .before .before .before) .same)
 
 -- each service is granted one rule
@@ -96,13 +96,13 @@ grant-all-requires c κs =
     let A = accepted (c .before .before .before .before .before .before .before .before .before .before .before .before .before .before .before .before) in
     let L = listed (c .before .before .before .before .before .before .before .before .before) in
     let m = c .before .before .before .before .before .before .before .before .before .make-lists in (
-      payable _ _ _ _ _ _ _ _ _ _ _ _ A L (m .kept .1 .1 .1 .1 .1 .1 .1 .0) (m .kept .1 .1 .1 .1 .1 .1 .1 .1 .0),
+      payable _ _ _ _ _ _ _ _ _ _ _ _ _ A L (m .kept .1 .1 .1 .1 .1 .1 .1 .1 .0) (m .kept .1 .1 .1 .1 .1 .1 .1 .1 .1 .0),
       (
-        started _ _ _ _ _ _ _ _ _ _ _ _ A L (replicate mostServices 1) refl (λ s l. ones s (omega (arith, A .few, A .same))),
+        started _ _ _ _ _ _ _ _ _ _ _ _ _ A L (replicate mostServices 1) refl (λ s l. ones s (omega (arith, A .few, A .same))),
         (
           omega (arith, A .some, A .same),
           A .little-room,
-          ones-fit _ _ _ _ _ _ _ _ _ _ _ _ A L (replicate mostServices 1) (λ s l. ones s (omega (arith, A .few, A .same))),
+          ones-fit _ _ _ _ _ _ _ _ _ _ _ _ _ A L (replicate mostServices 1) (λ s l. ones s (omega (arith, A .few, A .same))),
         ),
       ),
     )
@@ -112,20 +112,20 @@ done :
     (c : tie.After-grant-all)
     → let a =
     c .before .before .before .before .before .before .before .before .before .before .before .before .before .before .before .before .before .before
-    .before .before .before .before .before .before .before .args in
+    .before .before .before .before .before .before .before .before .args in
     let m = c .before .before .before .before .before .before .before .before .before .before .make-lists in
-    Outcome (a .k) (a .tolerance) (a .capacity) (a .volumes .now) (a .sizes .now) (a .weights .now)
-    (m .last .1 .1 .1 .1 .0) (m .last .1 .1 .1 .1 .1 .0) (m .last .1 .1 .1 .1 .1 .1 .0)
-    (m .last .1 .1 .1 .1 .1 .1 .1 .0) (m .last .1 .1 .1 .1 .1 .1 .1 .1 .0) (m .last .1 .1 .1 .1 .1 .1 .1 .1 .1 .0)
+    Outcome (a .k) (a .tolerance) (a .capacity) (a .volumes .now) (a .sizes .now) (a .ids .now) (a .weights .now)
+    (m .last .1 .1 .1 .1 .1 .0) (m .last .1 .1 .1 .1 .1 .1 .0) (m .last .1 .1 .1 .1 .1 .1 .1 .0)
+    (m .last .1 .1 .1 .1 .1 .1 .1 .1 .0) (m .last .1 .1 .1 .1 .1 .1 .1 .1 .1 .0) (m .last .1 .1 .1 .1 .1 .1 .1 .1 .1 .1 .0)
     (c .grant-all .last .1 .1 .1 .1 .0)
 done c =
     let A = accepted (c .before .before .before .before .before .before .before .before .before .before .before .before .before .before .before .before
     .before) in
     let m = c .before .before .before .before .before .before .before .before .before .before .make-lists in
-    outcome _ _ _ _ _ _ _ _ _ _ _ _ A (listed (c .before .before .before .before .before .before .before .before .before .before))
+    outcome _ _ _ _ _ _ _ _ _ _ _ _ _ A (listed (c .before .before .before .before .before .before .before .before .before .before))
     (replicate mostServices 1) _ _ (λ s l. ones s (omega (arith, A .few, A .same)))
-    (m .kept .1 .1 .1 .1 .0) (m .kept .1 .1 .1 .1 .1 .0) (m .kept .1 .1 .1 .1 .1 .1 .0) (m .kept .1 .1 .1 .1 .1 .1 .1 .0)
-    (m .kept .1 .1 .1 .1 .1 .1 .1 .1 .0) (m .kept .1 .1 .1 .1 .1 .1 .1 .1 .1 .0) (c .grant-all .kept .1 .1 .1 .1 .0) (c .grant-all .ensures)
+    (m .kept .1 .1 .1 .1 .1 .0) (m .kept .1 .1 .1 .1 .1 .1 .0) (m .kept .1 .1 .1 .1 .1 .1 .1 .0) (m .kept .1 .1 .1 .1 .1 .1 .1 .1 .0)
+    (m .kept .1 .1 .1 .1 .1 .1 .1 .1 .1 .0) (m .kept .1 .1 .1 .1 .1 .1 .1 .1 .1 .1 .0) (c .grant-all .kept .1 .1 .1 .1 .0) (c .grant-all .ensures)
 
 slice-aggregate-all-lines : tie.Need-slice-aggregate-all-lines
 slice-aggregate-all-lines c = search needs
@@ -186,7 +186,7 @@ returns-2 c =
     let g = c .before .before .before .before .before .before .before .before .before .before .before .before .before .before .before .before .before
     .before .before .before .before in
     let d = done g in (
-      w .0 ∙ answer-passed _ _ _ _ _ _ _ _
+      w .0 ∙ answer-passed _ _ _ _ _ _ _ _ _
           (passed (g .before .before .before .before .before .before .before .before .before .before .before .before .before .before .before .before
           .before)) _ (d .made _ _ r t),
       (

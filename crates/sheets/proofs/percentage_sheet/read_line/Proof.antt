@@ -20,7 +20,7 @@ find-requires c κs = search needs
 
 returns : tie.Need-returns
 returns c =
-    let a = c .before .before .before .before .before .args in
+    let a = c .before .before .before .before .before .before .args in
     let text = a .text .now in
     let end = length text in
     ap (serviceLines (a .i)) (cut-last 10 (a .start) end (c .before .find .result) text (omega arith) (c .before .find .ensures) (c .if1 .taken))
@@ -29,13 +29,13 @@ returns c =
 -- the line and those behind it
 line :
     (c : tie.Else1)
-    → let a = c .before .before .before .before .before .args in
+    → let a = c .before .before .before .before .before .before .args in
     let e = c .before .find .result in
     serviceLines (a .i) (split 10 (slice (a .start) (length (a .text .now)) (a .text .now)))
     ≡ then (serviceFields (a .i) (split 32 (slice (a .start) e (a .text .now)))) (λ s.
     then (serviceLines (a .i + 1) (split 10 (slice (e + 1) (length (a .text .now)) (a .text .now)))) (λ ss. got (s ∷ ss)))
 line c =
-    let a = c .before .before .before .before .before .args in
+    let a = c .before .before .before .before .before .before .args in
     let text = a .text .now in
     let end = length text in
     let e = c .before .find .result in
@@ -51,8 +51,8 @@ enum-known-read c = search needs
 enum-known-read-2 : tie.Need-enum-known-read-2
 enum-known-read-2 c = search needs
 
-add-t19 : tie.Need-add-t19
-add-t19 c = search needs
+add-t22 : tie.Need-add-t22
+add-t22 c = search needs
 
 same-length : tie.Need-same-length
 same-length c = search needs
@@ -60,27 +60,34 @@ same-length c = search needs
 same-length-2 : tie.Need-same-length-2
 same-length-2 c = search needs
 
+same-length-3 : tie.Need-same-length-3
+same-length-3 c = search needs
+
 returns-2 : tie.Need-returns-2
 unfolding then
 returns-2 c =
-    let refused = rw (c .before .read .given .1) at (c .before .before .before .before .before .before .before .read-service .ensures) in
-    line (c .before .before .before .before .before .before .before .before .before .before) ∙ rw refused
-
-same-length-3 : tie.Need-same-length-3
-same-length-3 c = search needs
+    let refused = rw (c .before .read .given .1) at (c .before .before .before .before .before .before .before .before .before .read-service .ensures) in
+    line (c .before .before .before .before .before .before .before .before .before .before .before .before .before) ∙ rw refused
 
 same-length-4 : tie.Need-same-length-4
 same-length-4 c = search needs
 
+same-length-5 : tie.Need-same-length-5
+same-length-5 c = search needs
+
+same-length-6 : tie.Need-same-length-6
+same-length-6 c = search needs
+
 returns-3 : tie.Need-returns-3
 unfolding then
 returns-3 c =
-    let served = rw (c .before .read2 .given .1) at (c .before .before .before .before .before .before .before .read-service .ensures) in
+    let served = rw (c .before .read2 .given .1) at (c .before .before .before .before .before .before .before .before .before .read-service .ensures) in
+    let e = c .before .before .before .before .before .before .before .before .before .before .before .before .before in
     record {
       service = served .service;
-      read = rw (served .read) at (line (c .before .before .before .before .before .before .before .before .before .before));
-      after = omega (arith, c .before .before .before .before .before .before .before .before .before .before .before .find .ensures);
-      within = omega (arith, c .before .before .before .before .before .before .before .before .before .before .if1 .left);
+      read = rw (served .read) at (line e);
+      after = omega (arith, e .before .find .ensures);
+      within = omega (arith, e .if1 .left);
       stored = served .stored;
     }
 
@@ -93,10 +100,12 @@ read-line-spec =
     read-service-requires
     enum-known-read
     enum-known-read-2
-    add-t19
+    add-t22
     same-length
     same-length-2
-    returns-2
     same-length-3
+    returns-2
     same-length-4
+    same-length-5
+    same-length-6
     returns-3)

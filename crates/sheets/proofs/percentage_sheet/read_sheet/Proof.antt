@@ -22,9 +22,9 @@ enum-known-read-2 c = search needs
 
 read-services-requires : tie.Need-read-services-requires
 read-services-requires c κs =
-    let line = rw (c .before .before .before .before .read2 .given .1) at (c .before .before .before .before .before .before .read-first-line .ensures) in
-    let s = c .before .before .before .before .before .before .before .before .before .before .before .before in
-    (line .1, s .pre)
+    let r = c .before .before .before .before .before .before .before in
+    let line = rw (c .before .before .before .before .before .read2 .given .1) at (r .read-first-line .ensures) in
+    (line .1, r .before .before .before .before .before .before .before .pre)
 
 returns : tie.Need-returns
 unfolding readSheet sheetLine readAs then
@@ -41,12 +41,15 @@ same-length-2 c = search needs
 same-length-3 : tie.Need-same-length-3
 same-length-3 c = search needs
 
+same-length-4 : tie.Need-same-length-4
+same-length-4 c = search needs
+
 returns-2 : tie.Need-returns-2
 unfolding readSheet sheetLine sheetFrom readAs then
 returns-2 c =
-    let line = rw (c .before .before .before .before .before .before .before .before .before .before .before .read2 .given .1) at
-    (c .before .before .before .before .before .before .before .before .before .before .before .before .before .read-first-line .ensures) in
-    rw (line .0) (c .before .before .before .before .before .before .read-services .ensures)
+    let k = c .before .before .before .before .before .before .before .before .before .before .before .before .before in
+    let line = rw (k .before .read2 .given .1) at (k .before .before .before .read-first-line .ensures) in
+    rw (line .0) (c .before .before .before .before .before .before .before .before .read-services .ensures)
 
 pub read-sheet-spec : {M : Type 1} → statement M
 read-sheet-spec =
@@ -61,4 +64,5 @@ read-sheet-spec =
     same-length
     same-length-2
     same-length-3
+    same-length-4
     returns-2)

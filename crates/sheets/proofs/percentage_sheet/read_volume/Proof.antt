@@ -75,9 +75,9 @@ line :
     let i = s .args .i in
     serviceFields i fs
     ≡ onField (number 0 mostVolume (field fs 1)) (i + 2) (λ v.
-    then (weightFields (i + 2) (drop 2 fs)) (λ ws.
-    unless (eqb (sum ws) unit) Unbalanced (i + 2)
-    (got (record { volume = v; weights = ws }))))
+    then (weightFields (i + 2) 0 (drop 2 fs)) (λ ws.
+    unless (eqb (sum (ws .weights)) unit) Unbalanced (i + 2)
+    (got (record { volume = v; ids = ws .ids; weights = ws .weights }))))
 unfolding serviceFields unless
 line c =
     let fs = fields (c .before .before .before .before .before .before .before .before .before) in

@@ -24,6 +24,9 @@ slice-aggregate-read-sheet-2 c = search needs
 slice-aggregate-read-sheet-3 : tie.Need-slice-aggregate-read-sheet-3
 slice-aggregate-read-sheet-3 c = search needs
 
+slice-aggregate-read-sheet-4 : tie.Need-slice-aggregate-read-sheet-4
+slice-aggregate-read-sheet-4 c = search needs
+
 read-sheet-requires : tie.Need-read-sheet-requires
 read-sheet-requires c κs = search needs
 
@@ -33,29 +36,34 @@ enum-known-read c = search needs
 enum-known-read-2 : tie.Need-enum-known-read-2
 enum-known-read-2 c = search needs
 
+-- the sheet was read
+abbrev read-of : tie.After-known-told2 → tie.After-read-sheet
+read-of c = c .before .before .before .before .before .before .before
+
 held :
     (c : tie.After-known-told2)
-    → let l = c .before .before .before .before .before .before .read-sheet .last in
+    → let r = read-of c in
+    let l = r .read-sheet .last in
     let g = c .before .read2 .given .0 in
-    SheetHeld (readSheet (c .before .before .before .before .before .before .before .before .before .before .before .before .before .args .text .now))
-    (l .1 .0) (l .1 .1 .0) (l .1 .1 .1 .0) (g .0) (g .1 .0) (g .1 .1 .0)
-held c = rw (c .before .read2 .given .1) at (c .before .before .before .before .before .before .read-sheet .ensures)
+    SheetHeld (readSheet (r .before .before .before .before .before .before .before .before .args .text .now))
+    (l .1 .0) (l .1 .1 .0) (l .1 .1 .1 .0) (l .1 .1 .1 .1 .0) (g .0) (g .1 .0) (g .1 .1 .0)
+held c = rw (c .before .read2 .given .1) at (c .before .before .before .before .before .before .before .read-sheet .ensures)
 
 -- the arrays are long enough
-room-volumes :
-    (c : tie.After-known-told2) → c .before .read2 .given .0 .1 .0 ≤ length (c .before .before .before .before .before .before .read-sheet .last .1 .0)
-room-volumes c = omega (arith, held c .holds .few, c .before .before .before .before .before .before .read-sheet .kept .1 .0)
+room-volumes : (c : tie.After-known-told2) → c .before .read2 .given .0 .1 .0 ≤ length (read-of c .read-sheet .last .1 .0)
+room-volumes c = omega (arith, held c .holds .few, read-of c .read-sheet .kept .1 .0)
 
-room-sizes :
-    (c : tie.After-known-told2) → c .before .read2 .given .0 .1 .0 ≤ length (c .before .before .before .before .before .before .read-sheet .last .1 .1 .0)
-room-sizes c = omega (arith, held c .holds .few, c .before .before .before .before .before .before .read-sheet .kept .1 .1 .0)
+room-sizes : (c : tie.After-known-told2) → c .before .read2 .given .0 .1 .0 ≤ length (read-of c .read-sheet .last .1 .1 .0)
+room-sizes c = omega (arith, held c .holds .few, read-of c .read-sheet .kept .1 .1 .0)
 
-room-weights :
-    (c : tie.After-known-told2) → c .before .read2 .given .0 .1 .1 .0 ≤ length (c .before .before .before .before .before .before .read-sheet .last .1 .1 .1 .0)
-room-weights c = omega (arith, held c .holds .few, held c .holds .short, c .before .before .before .before .before .before .read-sheet .kept .1 .1 .1 .0)
+room-ids : (c : tie.After-known-told2) → c .before .read2 .given .0 .1 .1 .0 ≤ length (read-of c .read-sheet .last .1 .1 .1 .0)
+room-ids c = omega (arith, held c .holds .few, held c .holds .short, read-of c .read-sheet .kept .1 .1 .1 .0)
+
+room-weights : (c : tie.After-known-told2) → c .before .read2 .given .0 .1 .1 .0 ≤ length (read-of c .read-sheet .last .1 .1 .1 .1 .0)
+room-weights c = omega (arith, held c .holds .few, held c .holds .short, read-of c .read-sheet .kept .1 .1 .1 .1 .0)
 
 array-share-prefix-volumes : tie.Need-array-share-prefix-volumes
-array-share-prefix-volumes c = room-volumes (c)
+array-share-prefix-volumes c = room-volumes c
 
 slice-aggregate-pack : tie.Need-slice-aggregate-pack
 slice-aggregate-pack c = sym (length-take-le _ _ (room-volumes (c .before)))
@@ -66,11 +74,17 @@ array-share-prefix-sizes c = room-sizes (c .before)
 slice-aggregate-pack-2 : tie.Need-slice-aggregate-pack-2
 slice-aggregate-pack-2 c = sym (length-take-le _ _ (room-sizes (c .before .before)))
 
-array-share-prefix-weights : tie.Need-array-share-prefix-weights
-array-share-prefix-weights c = room-weights (c .before .before)
+array-share-prefix-ids : tie.Need-array-share-prefix-ids
+array-share-prefix-ids c = room-ids (c .before .before)
 
 slice-aggregate-pack-3 : tie.Need-slice-aggregate-pack-3
-slice-aggregate-pack-3 c = sym (length-take-le _ _ (room-weights (c .before .before .before)))
+slice-aggregate-pack-3 c = sym (length-take-le _ _ (room-ids (c .before .before .before)))
+
+array-share-prefix-weights : tie.Need-array-share-prefix-weights
+array-share-prefix-weights c = room-weights (c .before .before .before)
+
+slice-aggregate-pack-4 : tie.Need-slice-aggregate-pack-4
+slice-aggregate-pack-4 c = sym (length-take-le _ _ (room-weights (c .before .before .before .before)))
 
 pack-requires : tie.Need-pack-requires
 pack-requires c κs = search needs
@@ -81,7 +95,7 @@ plan-from-requires c κs = search needs
 returns : tie.Need-returns
 unfolding planAnswer
 returns c =
-    let no = rw (c .before .read .given .1) at (c .before .before .before .before .before .before .read-sheet .ensures) in
+    let no = rw (c .before .read .given .1) at (c .before .before .before .before .before .before .before .read-sheet .ensures) in
     (rw (no .0) (ap Refused (sym (about-none _ (no .1)))), (refl, refl))
 
 same-length : tie.Need-same-length
@@ -93,16 +107,16 @@ same-length-2 c = search needs
 -- the answer and the buffers, from the packing's
 packed :
     (c : tie.After-pack)
-    → let k = c .before .before .before .before .before .before in
-    let a = k .before .before .before .before .before .before .before .before .before .before .before .before .before .args in
+    → let k = c .before .before .before .before .before .before .before in
+    let a = read-of k .before .before .before .before .before .before .before .before .args in
     let r = planFrom (k .before .read2 .given .0 .0 .k) (k .before .read2 .given .0 .1 .0) (c .pack .result) in
-    let l = c .pack .last .1 .1 .1 .1 .1 .1 in
+    let l = c .pack .last .1 .1 .1 .1 .1 .1 .1 in
     (r ≡ planAnswer (a .text .now) (length (a .figures .now)) (length (a .table .now)))
     × ((l .0 ≡ afterwards (isPlan r) (a .figures .now) (valuesOf (readSheet (a .text .now)) figuresFor))
     × (l .1 .0 ≡ afterwards (isPlan r) (a .table .now) (valuesOf (readSheet (a .text .now)) cellsFor)))
 packed c =
-    let k = c .before .before .before .before .before .before in
-    let a = k .before .before .before .before .before .before .before .before .before .before .before .before .before .args in
+    let k = c .before .before .before .before .before .before .before in
+    let a = read-of k .before .before .before .before .before .before .before .before .args in
     let text = a .text .now in
     let p = c .pack .result in (
       plan-made text (held k) p (length (a .figures .now)) (length (a .table .now)) (c .pack .ensures .0),
@@ -122,6 +136,7 @@ plan-spec =
     slice-aggregate-read-sheet
     slice-aggregate-read-sheet-2
     slice-aggregate-read-sheet-3
+    slice-aggregate-read-sheet-4
     read-sheet-requires
     enum-known-read
     enum-known-read-2
@@ -129,8 +144,10 @@ plan-spec =
     slice-aggregate-pack
     array-share-prefix-sizes
     slice-aggregate-pack-2
-    array-share-prefix-weights
+    array-share-prefix-ids
     slice-aggregate-pack-3
+    array-share-prefix-weights
+    slice-aggregate-pack-4
     pack-requires
     plan-from-requires
     returns

@@ -5,7 +5,7 @@ use mathlib.Core.List.{List}
 use lib.Seq.{slice}
 use borrow.Author.Tests.{eq-eqb, ne-eqb}
 use Rattle.numerals.specs.Decimal.{number}
-use Rattle.numerals.specs.Limits.{mostBackends, mostServices}
+use Rattle.numerals.specs.Limits.{mostId, mostServices}
 use Rattle.numerals.specs.Suffix.{suffix}
 use Rattle.numerals.specs.Text.{split}
 use Rattle.numerals.proofs.Decimal.{Numeral, only-text}
@@ -29,7 +29,7 @@ returns c = λ before at. simp (ne-eqb _ 3 (λ e. c .if1 .taken (c .before .coun
 -- what is left of a line once its service was read, and once its suffix was
 abbrev giving : List Line → ℕ → List (List ℕ) → ℕ → ℕ → ℕ → Reading Line
 giving before at fs s l v =
-    onField (number 1 mostBackends (field fs 2)) at (λ b. placed before (line s l v b) at (got (line s l v b)))
+    onField (number 1 mostId (field fs 2)) at (λ b. placed before (line s l v b) at (got (line s l v b)))
 
 abbrev matching : ℕ → List Line → ℕ → List (List ℕ) → ℕ → Reading Line
 matching k before at fs s = onSuffix (suffix k (field fs 1)) at (giving before at fs s)
@@ -125,7 +125,7 @@ backend :
     (c : tie.After-known-told3)
     → let d = c .before .before .before .before .before .before .before .before .before in
     let a = d .before .before .before .before .before .before .before .args in
-    Numeral 1 mostBackends (c .before .backend .given .0 .0) (field (split 32 (slice (a .from) (a .to) (a .text .now))) 2)
+    Numeral 1 mostId (c .before .backend .given .0 .0) (field (split 32 (slice (a .from) (a .to) (a .text .now))) 2)
 backend c = only-text _ _ _ _ (sym (c .before .before .before .number-in2 .ensures) ∙ c .before .backend .given .1)
 
 returns-5 : tie.Need-returns-5

@@ -6,10 +6,11 @@ use native.Mathlib.Omega.{arith}
 use lib.ListN.{length, take, drop, length-drop}
 use lib.Seq.{take-all}
 use borrow.Author.Needs.{needs}
+use Rattle.expansion.specs.FirstMatch.{share}
+use Rattle.expansion.specs.declared.rule.Rule.{Rule}
+use Rattle.packing.specs.Count.{ownRules}
 use Rattle.sheets.specs.Inner.TableNumbers.{linesIn, RuleLines}
-use Rattle.sheets.specs.Shares.{sharesOf}
 use Rattle.sheets.proofs.TableNumbers.{rules-part}
-use Rattle.sheets.proofs.Sharing.{shares-own}
 use Rattle.sheets.proofs.shares.tally_service.Statement.{statement}
 use Rattle.sheets.proofs.shares.tally_service.Tie as tie
 
@@ -50,8 +51,9 @@ returns c =
     let before = c .before .before .lines-before in
     let a = c .before .before .before .before .args in
     c .tally .ensures
-    ∙ ap (λ (t : List ℕ). sharesOf (a .k) (linesIn t (a .n - before .result)) (a .service)) (sym (part (a .table .now) (4 * before .result)))
-    ∙ shares-own (a .k) (a .service) _ _ (before .ensures .1)
+    ∙ ap (λ (t : List ℕ). share (a .k) (ownRules (a .service) (linesIn t (a .n - before .result))) (a .backend))
+    (sym (part (a .table .now) (4 * before .result)))
+    ∙ ap (λ (rs : List Rule). share (a .k) rs (a .backend)) (before .ensures .1)
 
 pub tally-service-spec : {M : Type 1} → statement M
 tally-service-spec =

@@ -89,13 +89,31 @@ returns-6 c =
     let d = e .before .before in
     ap Refused (c .refused-at3 .ensures) ∙ sym (rw (some (d .before .before), there d, same e, wide f, lt-leb _ _ (c .before .if6 .taken)))
 
+broad :
+    (c : tie.Else6)
+    → let a = c .before .before .before .before .before .before .before .before .before .before .args in leb (a .found .backends) (a .ids) ≡ true
+broad c = le-leb _ _ (c .if6 .left)
+
+refused-at-requires-4 : tie.Need-refused-at-requires-4
+refused-at-requires-4 c κs = search needs
+
 returns-7 : tie.Need-returns-7
 unfolding judged
 returns-7 c =
-    let f = c .before .before in
+    let g = c .before .before .before in
+    let f = g .before .before in
     let e = f .before .before in
     let d = e .before .before in
-    sym (rw (some (d .before .before), there d, same e, wide f, le-leb _ _ (c .if6 .left)))
+    ap Refused (c .refused-at4 .ensures) ∙ sym (rw (some (d .before .before), there d, same e, wide f, broad g, lt-leb _ _ (c .before .if7 .taken)))
+
+returns-8 : tie.Need-returns-8
+unfolding judged
+returns-8 c =
+    let g = c .before .before in
+    let f = g .before .before in
+    let e = f .before .before in
+    let d = e .before .before in
+    sym (rw (some (d .before .before), there d, same e, wide f, broad g, le-leb _ _ (c .if7 .left)))
 
 pub judge-spec : {M : Type 1} → statement M
 judge-spec =
@@ -114,4 +132,6 @@ judge-spec =
     returns-5
     refused-at-requires-3
     returns-6
-    returns-7)
+    refused-at-requires-4
+    returns-7
+    returns-8)

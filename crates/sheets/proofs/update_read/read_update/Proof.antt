@@ -29,7 +29,7 @@ enum-known-read-2 c = search needs
 has :
     (c : tie.After-known-told2)
     → let r = c .before .before .before .before in
-    TableHeld (r .before .before .before .before .before .before .args .old .now) (c .before .read2 .given .0 .0) (r .read-sheet-lines .last .1 .0)
+    TableHeld (r .before .before .before .before .before .before .before .args .old .now) (c .before .read2 .given .0 .0) (r .read-sheet-lines .last .1 .0)
 has c =
     let read = c .before .before .before .before .read-sheet-lines in
     table-held _ _ _ (read .kept .1 .0) (sym (c .before .read2 .given .1) ∙ read .ensures .0) (read .ensures .1)
@@ -38,14 +38,14 @@ slice-aggregate-read-second : tie.Need-slice-aggregate-read-second
 slice-aggregate-read-second c = search needs
 
 read-second-requires : tie.Need-read-second-requires
-read-second-requires c κs = has (c .before .before .before) .ruled .room
+read-second-requires c κs = has (c .before .before .before .before) .ruled .room
 
 returns : tie.Need-returns
 unfolding updateReadAnswer
 returns c =
     let is = c .before .before .read .given .1 in
     let no = sheet-refused _ _ (sym is ∙ c .before .before .before .before .before .read-sheet-lines .ensures .0) in
-    (ap Refused (c .about .ensures) ∙ sym (rw no), (refl, refl))
+    (ap Refused (c .about .ensures) ∙ sym (rw no), (refl, (refl, refl)))
 
 same-length : tie.Need-same-length
 same-length c = search needs
@@ -53,13 +53,17 @@ same-length c = search needs
 same-length-2 : tie.Need-same-length-2
 same-length-2 c = search needs
 
+same-length-3 : tie.Need-same-length-3
+same-length-3 c = search needs
+
 returns-2 : tie.Need-returns-2
 returns-2 c =
-    let k = c .before .before .before .before .before .before .before .before in
-    let a = k .before .before .before .before .before .before .before .before .before .before .args in
-    let r = c .before .before .before .before .read-second in
+    let k = c .before .before .before .before .before .before .before .before .before .before .before in
+    let a = k .before .before .before .before .before .before .before .before .before .before .before .args in
+    let r = c .before .before .before .before .before .before .read-second in
     let e = r .ensures in (
-      e .0 ∙ held-answer _ _ _ (has k) (a .service) (a .sheet .now) (length (a .rules .now)) (length (a .weights .now)),
+      e .0
+          ∙ held-answer _ _ _ (has k) (a .service) (a .sheet .now) (length (a .rules .now)) (length (a .ids .now)) (length (a .weights .now)),
       (e .1 .0 ∙ ap (afterwards (isRead (r .result)) (a .rules .now)) (held-rules _ _ _ (has k) (a .service)), e .1 .1),
     )
 
@@ -77,4 +81,5 @@ read-update-spec =
     returns
     same-length
     same-length-2
+    same-length-3
     returns-2)
