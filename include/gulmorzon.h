@@ -160,9 +160,10 @@ struct gulmorzon_plan_answer gulmorzon_plan(const char *text, size_t text_len, s
 /* New weights on a loaded table. old_text is a rule sheet: its lines of the service are the old list. sheet_text is a
  * percentage sheet: it has the tolerance and, in its line of the service, the new weights; k has to be the same in both,
  * and its capacity, volumes and other services are read and not used. Backends are matched by id: one of the old list that is
- * missing from the new weights counts as weight 0 there. Of the old list the oldest rules, which stand last, are kept: at
- * least one, and as many as can be so that the steps of a split, going on from them, come to a list that is within tolerance
- * and has no more rules than the old one. A kept rule may still name a backend that is missing from the new weights.
+ * missing from the new weights counts as weight 0 there. Of the old list some of the oldest rules, which stand last, are kept,
+ * at least one, and the steps of a split go on from them to a list that is within tolerance and has no more rules than the old
+ * one: of all numbers of kept rules that lead to such a list, the one with the lowest churn, the largest if equal. A kept rule
+ * may still name a backend that is missing from the new weights.
  *
  * The rule sheet is read wholly, then the percentage sheet: their own refusals have their line and sheet. After these
  * come, with line 0: 8 with the first sheet that lacks the service; and with sheet 0 too, in this order, 12; 13 where no number

@@ -33,15 +33,18 @@
 
 /* New weights. Service 2 of AGED has the rules of 16.6667 33.3333 50 (document 01, case P1) with ids of its own. With the weights
  * of CHANGED its new list is *01010 700, *0010 40, *00 700, * 9999, which keeps one rule. EXACT allows no error, and no list gets
- * there. In RETIRED backend 9999 is gone and 3 has come in: two rules are kept, and *1 3 takes all that * gave to 9999. */
+ * there. In RETIRED backend 9999 is gone and 3 has come in: two rules are kept, and *1 3 takes all that * gave to 9999. On CALM a
+ * list from two kept rules would be within tolerance too and would move 16 suffixes; that from * alone moves 11. */
 #define AGED "TABLE 5 5 0\n1 * 8\n2 *00100 40\n2 *000 40\n2 *0 700\n2 * 9999\n"
 #define CHANGED "SHEET 5 2 5\nSERVICE 1 8:100\nSERVICE 1 40:5 700:30 9999:65\n"
 #define EXACT "SHEET 5 0 5\nSERVICE 1 8:100\nSERVICE 1 40:5 700:30 9999:65\n"
 #define RETIRED "SHEET 5 5 5\nSERVICE 1 8:100\nSERVICE 1 3:50 40:16.6667 700:33.3333\n"
+#define CALM "SHEET 5 2 5\nSERVICE 1 8:100\nSERVICE 1 40:25 700:0 9999:75\n"
 #define DEEPER "SHEET 6 2 5\nSERVICE 1 8:100\nSERVICE 1 40:5 700:30 9999:65\n"
 #define ALONE "SHEET 5 2 5\nSERVICE 1 8:100\n"
 #define NEW_RULES {5, 10, 700, 4, 2, 40, 2, 0, 700, 0, 0, 9999}
 #define RETIRED_RULES {3, 0, 40, 1, 1, 3, 1, 0, 700, 0, 0, 9999}
+#define CALM_RULES {2, 0, 40, 0, 0, 9999}
 
 #define LEN(text) (sizeof(text) - 1)
 
@@ -259,7 +262,8 @@ static void update(const char *what, size_t len, const char *sheet, size_t sheet
 
 static void updates(void)
 {
-    static const size_t retired_rules[] = RETIRED_RULES;
+    static const size_t retired_rules[] = RETIRED_RULES, calm_rules[] = CALM_RULES;
+    static const struct gulmorzon_update_answer calm = {.k = 5, .kept = 1, .rules = 2, .churn = 11};
     static const struct gulmorzon_update_answer retired = {.k = 5, .kept = 2, .rules = 4, .churn = 17};
     static const struct gulmorzon_update_answer made = {.k = 5, .kept = 1, .rules = 4, .churn = 12};
     static const struct gulmorzon_update_answer stuck = {.number = GULMORZON_STUCK};
@@ -281,6 +285,7 @@ static void updates(void)
     update("update, no such service in the second", len, ALONE, LEN(ALONE), 2, all, unweighted);
     update("update, unlike k", len, DEEPER, LEN(DEEPER), 2, all, unlike);
     update_to("update, one backend retired and another come in", len, RETIRED, LEN(RETIRED), 2, all, retired, retired_rules);
+    update_to("update, the lowest churn with one rule kept", len, CALM, LEN(CALM), 2, 6, calm, calm_rules);
 }
 
 int main(void)

@@ -1,5 +1,5 @@
-//! The Rust twin: document 01, and requests 01, 03 and 04 of document 02, written
-//! once more, to be tried against.
+//! The Rust twin: document 01, and requests 01, 03, 04 and 05 of document 02,
+//! written once more, to be tried against.
 
 pub mod calls;
 pub mod commands;

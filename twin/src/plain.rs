@@ -1,6 +1,6 @@
-//! Requests 03 and 04 once more, straight from the document and without haste:
-//! each share is counted by first match after every rule, and each suffix is
-//! tried.
+//! Requests 03 to 05 once more, straight from the document and without haste:
+//! each share is counted by first match after every rule, each suffix is tried,
+//! and so is each r.
 
 use crate::expansion::{Ending, Rule};
 use crate::numerals::WHOLE;
@@ -15,7 +15,7 @@ fn by_first_match<'a>(k: u8, rules: impl Iterator<Item = &'a Rule> + Clone) -> V
 }
 
 /// The number of s whose backend differs.
-pub fn churn<'a>(
+fn churn<'a>(
     k: u8,
     old: impl Iterator<Item = &'a Rule> + Clone,
     new: impl Iterator<Item = &'a Rule> + Clone,
@@ -36,7 +36,7 @@ fn weights(old: &[Rule], new: &Service) -> BTreeMap<u16, u64> {
 
 /// One run from the oldest `keep` rules of an old list, which is newest first;
 /// the new list is oldest first.
-pub fn run(k: u8, tolerance: u64, old: &[Rule], keep: usize, new: &Service) -> (Ending, Vec<Rule>) {
+fn run(k: u8, tolerance: u64, old: &[Rule], keep: usize, new: &Service) -> (Ending, Vec<Rule>) {
     let weights = weights(old, new);
     let mut rules: Vec<Rule> = old.iter().rev().take(keep).copied().collect();
     let smallest = rules.iter().map(|rule| 1 << (k - rule.suffix.length()));
@@ -70,6 +70,44 @@ pub fn run(k: u8, tolerance: u64, old: &[Rule], keep: usize, new: &Service) -> (
             backend: lowest(least),
         });
     }
+}
+
+/// What keeping so many of the oldest rules comes to: how the run ended, its list,
+/// oldest rule first, and its churn.
+pub struct Run {
+    pub keep: usize,
+    pub ending: Ending,
+    pub list: Vec<Rule>,
+    pub churn: u64,
+}
+
+/// Every r, the smallest first.
+pub fn all_runs(k: u8, tolerance: u64, old: &[Rule], new: &Service) -> Vec<Run> {
+    let run = |keep| {
+        let (ending, list) = run(k, tolerance, old, keep, new);
+        let churn = churn(k, old.iter(), list.iter().rev());
+        Run {
+            keep,
+            ending,
+            list,
+            churn,
+        }
+    };
+    (1..=old.len()).map(run).collect()
+}
+
+/// The r that end within the tolerance.
+pub fn within(runs: &[Run]) -> Vec<&Run> {
+    let ended = runs.iter().filter(|run| run.ending == Ending::Within);
+    ended.collect()
+}
+
+/// Of all r that end within the one with the lowest churn, the largest r if equal.
+pub fn least_churn(runs: &[Run]) -> Option<&Run> {
+    let within = within(runs);
+    let lowest = within.iter().map(|run| run.churn).min()?;
+    let equal = within.into_iter().filter(|run| run.churn == lowest);
+    equal.max_by_key(|run| run.keep)
 }
 
 /// The error of each backend, lowest id first.

@@ -1,4 +1,4 @@
-//! New weights on a loaded table (document 02, requests 03 and 04).
+//! New weights on a loaded table (document 02, requests 03 to 05).
 
 use crate::calls::PairRefusal;
 use crate::expansion::{check_backends, Ending, Rule};
@@ -10,6 +10,7 @@ use crate::services::{rules_of, service_of};
 use crate::start::{Limits, Start};
 use crate::suffix::Suffix;
 use crate::{percentage_sheet, rule_sheet};
+use std::mem::swap;
 
 /// How many rules were kept, how many there are, and the suffixes that moved.
 #[derive(Clone, Copy, PartialEq, Eq, Debug)]
@@ -19,9 +20,9 @@ pub struct Updated {
     pub churn: u64,
 }
 
-/// Keeps as many of the oldest rules as a list that ends within the tolerance
-/// can. The buffer takes that list, newest rule first; nothing is written if the
-/// call is refused.
+/// Keeps those oldest rules that lead to a list within the tolerance with the
+/// lowest churn, the most of them if equal. The buffer takes that list, newest
+/// rule first; nothing is written if the call is refused.
 pub fn update(
     k: u64,
     tolerance: u64,
@@ -60,7 +61,7 @@ pub fn update_sheets(
 }
 
 /// The rules of the old list, newest first, if all is within its limits.
-fn checked(
+pub fn checked(
     k: u64,
     tolerance: u64,
     old: &[u64],
@@ -104,7 +105,7 @@ impl Known {
     }
 }
 
-/// Finds the new list and lends it.
+/// Finds the new list and lends it; where it doesn't fit, no other r is answered.
 fn updated_into(
     k: u8,
     tolerance: u64,
@@ -112,7 +113,7 @@ fn updated_into(
     known: &Known,
     room: &mut [u64],
 ) -> Result<Updated, Reason> {
-    let (updated, list) = keep_most(k, tolerance, old, known).ok_or(Reason::Stuck)?;
+    let (updated, list) = least_churn(k, tolerance, old, known).ok_or(Reason::Stuck)?;
     lend(&numbers_of(list.iter().rev()), room)?;
     Ok(updated)
 }
@@ -140,63 +141,86 @@ fn laid<'a>(
     (start, before)
 }
 
-/// One run: how it ended, and its list, oldest rule first. The old list is
-/// newest first.
-pub fn run(k: u8, tolerance: u64, old: &[Rule], keep: usize, known: &Known) -> (Ending, Vec<Rule>) {
-    let (mut start, _) = laid(k, known, old, keep);
-    let mut list: Vec<Rule> = old.iter().rev().take(keep).copied().collect();
+/// One run from the oldest `keep` rules, which are laid out: how it ended. It
+/// leaves its list, oldest rule first.
+fn run_from(
+    k: u8,
+    tolerance: u64,
+    old: &[Rule],
+    keep: usize,
+    start: &mut Start,
+    list: &mut Vec<Rule>,
+) -> Ending {
+    list.clear();
+    list.extend(old.iter().rev().take(keep));
     let limits = Limits {
         tolerance,
         budget: old.len(),
         terms: terms(k, list[keep - 1]),
     };
-    let ending = start.go_on(&limits, &mut list, |_| ());
+    start.go_on(&limits, list, |_| ())
+}
+
+/// One run alone: how it ended, and its list, oldest rule first. The old list is
+/// newest first.
+pub fn run(k: u8, tolerance: u64, old: &[Rule], keep: usize, known: &Known) -> (Ending, Vec<Rule>) {
+    let (mut start, _) = laid(k, known, old, keep);
+    let mut list = Vec::with_capacity(old.len());
+    let ending = run_from(k, tolerance, old, keep, &mut start, &mut list);
     (ending, list)
 }
 
-/// The run that ends within the tolerance and keeps most rules, oldest first;
-/// rules are taken back one by one from the whole old list.
-pub fn keep_most(
+/// Tries every r and tells of each run that ends within the tolerance, the largest
+/// r first; its list is oldest rule first and may be taken. Rules are taken back
+/// one by one from the whole old list.
+pub fn each_within(
     k: u8,
     tolerance: u64,
     old: &[Rule],
     known: &Known,
-) -> Option<(Updated, Vec<Rule>)> {
+    mut tell: impl FnMut(Updated, &mut Vec<Rule>),
+) {
     let (mut start, mut before) = laid(k, known, old, old.len());
     let whole = start.holdings().clone();
     let mut list = Vec::with_capacity(old.len());
     for keep in (1..=old.len()).rev() {
         if start.reaches(tolerance, old.len() - keep) {
-            list.clear();
-            list.extend(old.iter().rev().take(keep));
-            let limits = Limits {
-                tolerance,
-                budget: old.len(),
-                terms: terms(k, list[keep - 1]),
-            };
             let mut run = start.clone();
-            if run.go_on(&limits, &mut list, |_| ()) == Ending::Within {
+            if run_from(k, tolerance, old, keep, &mut run, &mut list) == Ending::Within {
                 let updated = Updated {
                     keep,
                     rules: list.len(),
                     churn: whole.unlike(run.holdings()),
                 };
-                return Some((updated, list));
+                tell(updated, &mut list);
             }
         }
         if let Some((suffix, holder)) = before.pop() {
             start.lay(suffix, holder);
         }
     }
-    None
+}
+
+/// Of all runs that end within the tolerance the one with the lowest churn, the
+/// largest r if equal: it comes first, so a later one has to be better.
+fn least_churn(k: u8, tolerance: u64, old: &[Rule], known: &Known) -> Option<(Updated, Vec<Rule>)> {
+    let (mut best, mut best_list) = (None::<Updated>, Vec::with_capacity(old.len()));
+    each_within(k, tolerance, old, known, |updated, list| {
+        if best.is_none_or(|best| updated.churn < best.churn) {
+            best = Some(updated);
+            swap(list, &mut best_list);
+        }
+    });
+    best.map(|best| (best, best_list))
 }
 
 #[cfg(test)]
 mod tests {
     use super::*;
-    use crate::plain;
+    use crate::plain::{self, Run};
     use crate::random::Random;
     use crate::vectors::loaded::{loaded, Loaded};
+    use crate::vectors::several::any_case;
     use crate::vectors::shapes::first_ids;
 
     /// P1's list, k 5: `*`>3 `*0`>2 `*000`>1 `*00100`>1, newest first.
@@ -236,6 +260,47 @@ mod tests {
         assert_eq!(p1(20_000, &weights), (Ok([1, 4, 16]), mirrored));
         assert_eq!(p1(WHOLE, &[0, 0, WHOLE]), (Ok([4, 4, 0]), P1.to_vec()));
         assert_eq!(p1(0, &[0, 0, WHOLE]), (Ok([2, 3, 16]), taken));
+    }
+
+    /// The lowest churn is at r 1, in the middle, at two r below another, at all.
+    #[test]
+    fn the_lowest_churn_and_then_the_largest_r() {
+        let made = |tolerance, old: &[u64], weights: &[u64]| {
+            let mut room = vec![0; old.len()];
+            let ids = first_ids(weights.len());
+            let made = update(2, tolerance, old, &ids, weights, &mut room).unwrap();
+            room.truncate(3 * made.rules);
+            ([made.keep as u64, made.churn], room)
+        };
+        let half = [500_000; 2];
+        // r 2 makes *>1 *0>2 *1>3, which moves 3.
+        let old = [2, 0, 3, 1, 0, 2, 0, 0, 1];
+        let list = vec![2, 1, 2, 1, 0, 3, 0, 0, 1];
+        let weights = [200_000, 300_000, 500_000];
+        assert_eq!(made(250_000, &old, &weights), ([1, 2], list));
+        // r 3 and r 1 give *0 to 2, which moves 3.
+        let old = [2, 1, 2, 1, 1, 1, 1, 1, 2, 0, 0, 1];
+        assert_eq!(made(0, &old, &half), ([2, 1], old[6..].to_vec()));
+        // r 3 gives *0 back to 1, which moves 3; r 2 and r 1 move 1.
+        let old = [2, 1, 1, 1, 1, 2, 1, 0, 2, 0, 0, 1];
+        assert_eq!(made(0, &old, &half), ([2, 1], old[6..].to_vec()));
+        // r 2 moves 1, r 1 none.
+        let old = [1, 1, 1, 1, 1, 2, 0, 0, 1];
+        let weights = [800_000, 200_000];
+        assert_eq!(made(200_000, &old, &weights), ([3, 0], old.to_vec()));
+    }
+
+    /// r 3 and r 2 have the same churn, and the list of r 2 is shorter.
+    #[test]
+    fn no_other_list_that_fits_is_answered() {
+        let quarters = [250_000, 250_000, 500_000];
+        for (room, expected) in [(9, Err(7)), (11, Err(7)), (12, Ok(3))] {
+            let mut room = vec![99; room];
+            let answer = update(5, 20_000, &P1, &[1, 2, 3], &quarters, &mut room);
+            let kept = answer.map(|made| made.keep).map_err(Refusal::number);
+            assert_eq!(kept, expected);
+            assert_eq!(room.iter().all(|&number| number == 99), kept.is_err());
+        }
     }
 
     /// `run` on a list in numbers; the new list is in numbers too, newest first.
@@ -431,8 +496,16 @@ mod tests {
         );
     }
 
-    /// Every r by the plain run, and the largest, against the fast ones.
-    fn try_all(case: &Loaded) -> Option<usize> {
+    fn updated_by(run: &Run) -> Updated {
+        Updated {
+            keep: run.keep,
+            rules: run.list.len(),
+            churn: run.churn,
+        }
+    }
+
+    /// Every r and the answer as they are by plain runs and plain churn.
+    fn try_all(case: &Loaded) -> Vec<Run> {
         let Loaded {
             k,
             tolerance,
@@ -440,50 +513,84 @@ mod tests {
             new,
         } = case;
         let known = Known::new(old, &new.ids, &new.weights);
-        let mut most = None;
-        for keep in 1..=old.len() {
-            let expected = plain::run(*k, *tolerance, old, keep, new);
-            let found = run(*k, *tolerance, old, keep, &known);
-            assert_eq!(found, expected, "{case:?} {keep}");
-            let numbers = numbers_of(found.1.iter().rev());
+        let runs = plain::all_runs(*k, *tolerance, old, new);
+        for expected in &runs {
+            let (ending, list) = run(*k, *tolerance, old, expected.keep, &known);
+            assert_eq!(ending, expected.ending, "{case:?} {}", expected.keep);
+            assert_eq!(list, expected.list, "{case:?} {}", expected.keep);
+            let numbers = numbers_of(list.iter().rev());
             assert!(list_of(u64::from(*k), &numbers).is_ok());
-            assert!(found.1.len() <= old.len());
-            if expected.0 == Ending::Within {
-                most = Some((keep, expected.1));
-            }
+            assert!(list.len() <= old.len());
         }
-        let expected = most.map(|(keep, list)| {
-            let updated = Updated {
-                keep,
-                rules: list.len(),
-                churn: plain::churn(*k, old.iter(), list.iter().rev()),
-            };
-            (updated, list)
+        let mut told = Vec::new();
+        each_within(*k, *tolerance, old, &known, |made, list| {
+            told.push((made, list.clone()));
         });
-        assert_eq!(keep_most(*k, *tolerance, old, &known), expected);
-        expected.map(|(updated, _)| updated.keep)
+        let made = |run: &Run| (updated_by(run), run.list.clone());
+        let within = plain::within(&runs).into_iter().rev().map(made);
+        assert_eq!(told, within.collect::<Vec<_>>(), "{case:?}");
+        let found = least_churn(*k, *tolerance, old, &known);
+        assert_eq!(found, plain::least_churn(&runs).map(made), "{case:?}");
+        runs
+    }
+
+    /// How often the answer was found there: at which r of all, with others of its
+    /// churn, and where among the r that end within.
+    #[derive(Default, Debug)]
+    struct Met {
+        stuck: u32,
+        at_all: u32,
+        at_one: u32,
+        in_the_middle: u32,
+        tied: u32,
+        not_the_largest: u32,
+        not_the_smallest: u32,
+        neither: u32,
+    }
+
+    impl Met {
+        fn count(&mut self, runs: &[Run]) {
+            let (within, all) = (plain::within(runs), runs.len());
+            let Some(answer) = plain::least_churn(runs) else {
+                self.stuck += 1;
+                return;
+            };
+            let equal = within.iter().filter(|run| run.churn == answer.churn);
+            let larger = within.iter().any(|run| run.keep > answer.keep);
+            let smaller = within.iter().any(|run| run.keep < answer.keep);
+            self.at_all += u32::from(answer.keep == all);
+            self.at_one += u32::from(answer.keep == 1 && all > 1);
+            self.in_the_middle += u32::from(answer.keep > 1 && answer.keep < all);
+            self.tied += u32::from(equal.count() > 1);
+            self.not_the_largest += u32::from(larger);
+            self.not_the_smallest += u32::from(smaller);
+            self.neither += u32::from(larger && smaller);
+        }
     }
 
     #[test]
     fn every_r_is_as_by_brute_force() {
         let mut random = Random::new(61);
-        let (mut stuck, mut whole, mut some) = (0, 0, 0);
+        let mut met = Met::default();
         for turn in 0..6_000 {
             let k = match turn % 10 {
                 0 if turn % 100 == 0 => 12,
                 0 => 10,
                 _ => random.within(1, 8) as u8,
             };
-            let case = loaded(&mut random, k);
-            match try_all(&case) {
-                None => stuck += 1,
-                Some(keep) if keep == case.old.len() => whole += 1,
-                Some(_) => some += 1,
-            }
+            let case = match turn % 2 {
+                0 => {
+                    let most = *random.pick(&[3, 6, 12, 32, 32]);
+                    let rules = random.within(2, most);
+                    any_case(&mut random, k, rules)
+                }
+                _ => loaded(&mut random, k),
+            };
+            met.count(&try_all(&case));
         }
-        assert!(
-            stuck > 300 && whole > 300 && some > 300,
-            "{stuck} {whole} {some}"
-        );
+        assert!(met.stuck > 1_000 && met.at_all > 1_000, "{met:?}");
+        assert!(met.at_one > 200 && met.in_the_middle > 1_000, "{met:?}");
+        assert!(met.tied > 1_000 && met.not_the_smallest > 1_000, "{met:?}");
+        assert!(met.not_the_largest > 60 && met.neither > 50, "{met:?}");
     }
 }

@@ -1,4 +1,4 @@
--- update OLD SHEET SERVICE: new weights on a loaded table (document 02, Req 03).
+-- update OLD SHEET SERVICE: new weights on a loaded table (document 02, Req 03 to 05).
 use Prim.Native.Nat.{ℕ, _*_}
 use mathlib.Core.List.{List, [], _∷_, _++_}
 use Rattle.numerals.specs.Limits.{mostRules}

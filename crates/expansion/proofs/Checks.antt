@@ -44,7 +44,6 @@ pub record Weighed (ids ws : List ℕ) : Type 0 where
   pub few : length ws ≤ mostBackends
   pub paired : length ids ≡ length ws
   pub rises : Rises ids (length ws)
-  pub most : (b : ℕ) → b < length ws → getD ids b 0 ≤ mostId
   pub each : (b : ℕ) → b < length ws → getD ws b 0 ≤ unit
   pub balanced : sumTo (length ws) (λ b. getD ws b 0) ≡ unit
 
@@ -110,7 +109,6 @@ weights-passed ids ws e =
       few = leb-true n mostBackends (test-passed (leb n mostBackends) TooMany (q .0));
       paired = eqb-true (length ids) n (test-passed (eqb (length ids) n) Malformed (t .0));
       rises = λ b l. each b l .0;
-      most = λ b l. each b l .1 .0;
       each = λ b l. each b l .1 .1;
       balanced = eqb-true sum unit (test-passed (eqb sum unit) Unbalanced (r .1));
     }

@@ -2,6 +2,7 @@
 use Prim.Native.Nat.{ℕ, zero, suc, _+_, _-_, _*_, _^_, _≤_, _<_}
 use mathlib.Core.Bool.{Bool, true}
 use mathlib.Core.List.{List, _∷_}
+use mathlib.Core.Logic.{_≢_}
 use mathlib.Core.Path.{_≡_, refl, ap, ap₂, sym, _∙_, subst}
 use native.Mathlib.Omega.{arith}
 use lib.Dec.{leb, ltb}
@@ -13,21 +14,21 @@ use Rattle.numerals.specs.Sums.{countTo}
 use Rattle.numerals.proofs.Powers.{pow-few}
 use Rattle.numerals.proofs.Searches.{both-true, all-true, clash}
 use Rattle.numerals.proofs.Sums.{sum-two, sum-zero, count-ext, one-most}
-use Rattle.expansion.specs.FirstMatch.{share}
+use Rattle.expansion.specs.FirstMatch.{share, churn}
 use Rattle.expansion.specs.Imbalance.{backends, label, weight, has, wants, excess, shortfall, giver, receiver}
 use Rattle.expansion.specs.Steps.{Frame, isWithin, newRule, after, step, listOf}
 use Rattle.expansion.specs.Resume.{frameFrom}
 use Rattle.expansion.specs.Inner.Hopeless.{isApart, beyondTo}
 use Rattle.expansion.specs.Inner.Laying.{Starts}
 use Rattle.expansion.specs.Inner.Lists.{newestFirst}
-use Rattle.expansion.specs.Inner.Resume.{foundOf, Tried}
+use Rattle.expansion.specs.Inner.Resume.{Tried}
 use Rattle.expansion.specs.Inner.Run.{labelledBy, Made}
 use Rattle.expansion.specs.Inner.Sound.{Sound}
 use Rattle.expansion.specs.declared.rule.Rule.{Rule}
-use Rattle.expansion.specs.declared.rule.Ended.{Ended}
-use Rattle.expansion.specs.declared.rule.Ended.the-variants.{Within, NoGain, Budget}
+use Rattle.expansion.specs.declared.rule.Ended.the-variants.{Within}
 use Rattle.expansion.specs.declared.list.RuleList.{RuleList}
 use Rattle.expansion.specs.declared.run.Run.{Run}
+use Rattle.expansion.specs.declared.resuming.Attempt.{Attempt}
 use Rattle.expansion.proofs.Balance.{giver-lt, receiver-lt}
 use Rattle.expansion.proofs.Bounds.{share-le, weight-le}
 use Rattle.expansion.proofs.KeptLists.{sound-kept, within-ended}
@@ -128,32 +129,32 @@ module _ (k tolerance : ℕ) (labels ws : List ℕ) (list : RuleList) (holder sh
   few-kept : list .count ≤ mostRules
   few-kept = omega (arith, S .within, S .few)
 
+  -- it doesn't end within
+  tried-none : (isWithin F (listOf F budget) ≡ true → ⊥) → (old : List Rule) (none : Attempt) → none ≡ record { kept = 0; churn = 0; list = list }
+      → Tried F budget (list .count) old none
+  tried-none no′ old none is =
+      subst (Tried F budget (list .count) old) (sym is)
+      (record { few = few-kept; number = λ w. absurd (no′ w); rules = λ w. absurd (no′ w); moved = λ w. absurd (no′ w); other = λ _. refl })
+
   -- a hopeless start
   pub tried-hopeless : ltb (2 * (budget - list .count)) (beyondTo k tolerance ws shares (length ws)) ≡ true
-      → Tried F budget (list .count) (record { kept = 0; list = list })
+      → (old : List Rule) (none : Attempt) → none ≡ record { kept = 0; churn = 0; list = list } → Tried F budget (list .count) old none
   tried-hopeless e =
-      let no′ : isWithin F (listOf F budget) ≡ true → ⊥ = λ w.
-      omega (arith, starts-enough w, ltb-true (2 * (budget - list .count)) (beyondTo k tolerance ws shares (length ws)) e) in
-      record { few = few-kept; number = λ w. absurd (no′ w); rules = λ w. absurd (no′ w); other = λ _. refl }
+      tried-none (λ w. omega (arith, starts-enough w, ltb-true (2 * (budget - list .count)) (beyondTo k tolerance ws shares (length ws)) e))
 
   -- a run that was made
-  pub tried-run : (run : Run) → Made F budget run
-      → Tried F budget (list .count) (foundOf (run .ended) (record { kept = list .count; list = run .list }) (record { kept = 0; list = list }))
-  tried-run run M = go (run .ended) refl
-    where
-      ends : (run .ended ≡ Within → ⊥) → Tried F budget (list .count) (record { kept = 0; list = list })
-      ends d =
-          let no′ : isWithin F (listOf F budget) ≡ true → ⊥ = λ w. d (M .ended ∙ ended-within F (listOf F budget) w) in
-          record { few = few-kept; number = λ w. absurd (no′ w); rules = λ w. absurd (no′ w); other = λ _. refl }
+  module _ (run : Run) (M : Made F budget run) (old : List Rule) where
+    pub tried-other : run .ended ≢ Within → (none : Attempt) → none ≡ record { kept = 0; churn = 0; list = list } → Tried F budget (list .count) old none
+    tried-other d = tried-none (λ w. d (M .ended ∙ ended-within F (listOf F budget) w)) old
 
-      go : (e : Ended) → run .ended ≡ e
-          → Tried F budget (list .count) (foundOf e (record { kept = list .count; list = run .list }) (record { kept = 0; list = list }))
-      go Within e =
-          record {
-            few = M .few-rules;
-            number = λ w. refl;
-            rules = λ w. M .rules;
-            other = λ w. absurd (clash (isWithin F (listOf F budget)) (within-ended F (listOf F budget) (sym (M .ended) ∙ e)) w);
-          }
-      go NoGain e = ends (λ w. absurd (let z : _≡_ {A = ℕ} 0 1 = cc in omega arith))
-      go Budget e = ends (λ w. absurd (let z : _≡_ {A = ℕ} 0 1 = cc in omega arith))
+    pub tried-within : run .ended ≡ Within → (moved : ℕ) → moved ≡ churn k old (listOf F budget)
+        → Tried F budget (list .count) old (record { kept = list .count; churn = moved; list = run .list })
+    unfolding frameFrom
+    tried-within e moved is =
+        record {
+          few = M .few-rules;
+          number = λ w. refl;
+          rules = λ w. M .rules;
+          moved = λ w. is;
+          other = λ w. absurd (clash (isWithin F (listOf F budget)) (within-ended F (listOf F budget) (sym (M .ended) ∙ e)) w);
+        }

@@ -1,14 +1,14 @@
 -- The lists that come of kept rules: how they end, that the checks of an old list never refuse as they may, and what their rules are.
-use Prim.Native.Nat.{ℕ, zero, suc, _-_, _^_, _≤_, _<_, min}
+use Prim.Native.Nat.{ℕ, zero, suc, _-_, _≤_, _<_, min}
 use mathlib.Core.Bool.{Bool, true, false, not}
 use mathlib.Core.List.{List, [], _∷_, map}
 use mathlib.Core.Logic.{_≢_}
-use mathlib.Core.Path.{_≡_, refl, ap, sym, _∙_, subst}
+use mathlib.Core.Path.{_≡_, refl, ap, sym, subst}
 use native.Mathlib.Omega.{arith}
 use lib.Dec.{leb, ltb, eqb}
 use lib.ListN.{length, getD}
 use borrow.Author.Tests.{eq-eqb}
-use Rattle.numerals.specs.Limits.{mostBits, mostBackends, mostRules, mostId, unit}
+use Rattle.numerals.specs.Limits.{mostBits, mostBackends, mostRules, unit}
 use Rattle.numerals.specs.Pick.{pick, both}
 use Rattle.numerals.specs.Refusals.{numberOf, no1, no2, no3, no4, no7, no9, no13}
 use Rattle.numerals.specs.Sums.{sumTo, allTo}
@@ -186,7 +186,3 @@ module _ (k tolerance : ℕ) (cs ids ws : List ℕ) (r : ℕ) (passed : checkOld
 
   pub kept-known : (i : ℕ) → i < length (listKept T tolerance R r) → Known k (knownIds R ids) (getD (listKept T tolerance R r) i noRule)
   kept-known i l = formed-at k (λ b. getD (knownIds R ids) b nobody) (length (knownIds R ids)) (listKept T tolerance R r) all-formed i l
-
--- a label is small
-pub known-few : (k : ℕ) (labels : List ℕ) (r : Rule) → Known k labels r → ((b : ℕ) → b < length labels → getD labels b 0 ≤ mostId) → r .backend < 2 ^ 16
-known-few k labels r K most = let a = K .known in omega (arith, most (a .0) (a .1), a .2)

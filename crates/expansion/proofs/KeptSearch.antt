@@ -1,6 +1,5 @@
--- The search over the numbers of kept rules: all rules are laid, and taken back one after the other until a list ends within.
+-- The search over the numbers of kept rules: all rules are laid, and taken back one after the other.
 use Prim.Native.Nat.{ℕ, suc, _+_, _-_, _*_, _/_, _^_, _≤_, _<_}
-use mathlib.Core.Bool.{Bool, true, false}
 use mathlib.Core.List.{List, [], _∷_}
 use mathlib.Core.Path.{_≡_, refl, ap, sym, _∙_, subst}
 use native.Mathlib.Decide.{ℕ-discrete}
@@ -11,22 +10,23 @@ use Rattle.numerals.specs.Limits.{mostBits, mostKnown, mostRules, mostSuffixes}
 use Rattle.expansion.specs.Imbalance.{Targets}
 use Rattle.expansion.specs.Steps.{oldest}
 use Rattle.expansion.specs.OldList.{rulesFrom}
-use Rattle.expansion.specs.Resume.{frameFrom, frameKept, listKept, endsWithin, largestTo}
+use Rattle.expansion.specs.Resume.{frameFrom, frameKept}
 use Rattle.expansion.specs.Inner.Known.{Ascending}
 use Rattle.expansion.specs.Inner.Laying.{Placed, Held, Had, LaidTo, Starts}
 use Rattle.expansion.specs.Inner.Lists.{noRule, newestFirst}
 use Rattle.expansion.specs.Inner.OldList.{ruleAt, Known, Proper}
-use Rattle.expansion.specs.Inner.Resume.{Found, Tried}
+use Rattle.expansion.specs.Inner.Resume.{Tried}
 use Rattle.expansion.specs.Inner.Run.{labelledBy, Valid}
 use Rattle.expansion.specs.Inner.Sound.{Lengths, Falling}
 use Rattle.expansion.specs.declared.rule.Rule.{Rule}
 use Rattle.expansion.specs.declared.list.RuleList.{RuleList}
 use Rattle.expansion.specs.declared.resuming.Attempt.{Attempt}
+use Rattle.expansion.proofs.KeptBest.{BestAbove, best-start}
 use Rattle.expansion.proofs.LaidRules.{held-star}
-use Rattle.expansion.proofs.Largest.{largest-yes, largest-no}
 use Rattle.expansion.proofs.Listing.{newest-more}
 use Rattle.expansion.proofs.OldChecks.{oldest-proper}
 use Rattle.expansion.proofs.OldNumbers.{rules-count, rules-more, oldest-rules}
+use Rattle.expansion.proofs.Turns.{oldest-all}
 
 oldest-none : (rs : List Rule) → oldest 0 rs ≡ []
 unfolding oldest
@@ -158,23 +158,36 @@ held-first k labels cs few A proper star e to P =
     (sym (oldest-one k labels cs proper ∙ ap (λ (r : Rule). r ∷ []) is))
     (held-star k star (P .rule) few (ap (λ (r : Rule). r .len) (sym is) ∙ first-star k labels cs proper) labels A to P)
 
--- the search has come down to the rules of a list: with more none ends within
-pub record Searched (k tolerance : ℕ) (labels ws cs : List ℕ) (holder shares : List ℕ) (list : RuleList) (had : List ℕ) : Type 0 where
+-- the search has come down to the rules of a list: of the numbers above, the best, and who held what after the whole old list
+pub record Searched (k tolerance : ℕ) (labels ws cs whole holder shares : List ℕ) (list : RuleList) (had : List ℕ) (best : Attempt) : Type 0 where
   pub laid : LaidTo k labels (rulesFrom cs) (list .count) holder shares (list .rules) had
-  pub none :
-      largestTo (length (rulesFrom cs)) (endsWithin (labelledBy k labels ws) tolerance (rulesFrom cs))
-      ≡ largestTo (list .count) (endsWithin (labelledBy k labels ws) tolerance (rulesFrom cs))
+  pub full : (all : List ℕ) × Held k labels (rulesFrom cs) whole all
+  pub above : BestAbove (labelledBy k labels ws) tolerance (rulesFrom cs) (list .count) best
+
+-- all rules are laid, and none was tried
+pub searched-none : (k tolerance : ℕ) (labels ws cs : List ℕ) → Proper k labels (rulesFrom cs)
+    → (holder shares : List ℕ) (list : RuleList) (had : List ℕ)
+    → list .count ≡ length (rulesFrom cs) → LaidTo k labels (rulesFrom cs) (length (rulesFrom cs)) holder shares (list .rules) had
+    → (none : Attempt) → none ≡ record { kept = 0; churn = 0; list = list } → Searched k tolerance labels ws cs holder holder shares list had none
+searched-none k tolerance labels ws cs proper holder shares list had all L none is =
+    let R = rulesFrom cs in
+    let few : none .list .count ≤ mostRules = omega (arith, ap (λ (a : Attempt). a .list .count) is, all, proper .few) in
+    record {
+      laid = subst (λ (n : ℕ). LaidTo k labels R n holder shares (list .rules) had) (sym all) L;
+      full = (shares, subst (λ (rs : List Rule). Held k labels rs holder shares) (oldest-all (length R) R (omega arith)) (L .held));
+      above =
+          subst (λ (n : ℕ). BestAbove (labelledBy k labels ws) tolerance R n none) (sym all)
+          (best-start (labelledBy k labels ws) tolerance R none (ap (λ (a : Attempt). a .kept) is) few);
+    }
 
 module _ (k tolerance : ℕ) (labels ws cs : List ℕ) (valid : Valid k tolerance labels ws) (proper : Proper k labels (rulesFrom cs))
-    (holder shares : List ℕ) (list : RuleList) (had : List ℕ) (S : Searched k tolerance labels ws cs holder shares list had) where
+    (holder shares : List ℕ) (list : RuleList) (had : List ℕ)
+    (laid : LaidTo k labels (rulesFrom cs) (list .count) holder shares (list .rules) had) where
   abbrev old : List Rule
   old = rulesFrom cs
 
   abbrev T : Targets
   T = labelledBy k labels ws
-
-  abbrev ends : ℕ → Bool
-  ends = endsWithin T tolerance old
 
   abbrev c : ℕ
   c = list .count
@@ -183,52 +196,16 @@ module _ (k tolerance : ℕ) (labels ws cs : List ℕ) (valid : Valid k toleranc
   starts-at =
       record {
         valid = valid;
-        proper = subst (Proper k labels) (sym (S .laid .kept)) (oldest-proper k labels c old proper (S .laid .some) (S .laid .inside));
-        held = subst (λ (rs : List Rule). Held k labels rs holder shares) (sym (S .laid .kept)) (S .laid .held);
-        within = omega (arith, rules-count cs, S .laid .inside);
+        proper = subst (Proper k labels) (sym (laid .kept)) (oldest-proper k labels c old proper (laid .some) (laid .inside));
+        held = subst (λ (rs : List Rule). Held k labels rs holder shares) (sym (laid .kept)) (laid .held);
+        within = omega (arith, rules-count cs, laid .inside);
         few = omega (arith, rules-count cs, proper .few);
       }
 
-  module _ (best : Attempt) (M : Tried (frameFrom T tolerance (newestFirst (list .rules) c)) (length cs / 3) c best) where
-    tried : Tried (frameKept T tolerance old c) (length old) c best
-    unfolding frameKept
-    tried =
-        subst (λ (n : ℕ). Tried (frameFrom T tolerance (oldest c old)) n c best) (sym (rules-count cs))
-        (subst (λ (rs : List Rule). Tried (frameFrom T tolerance rs) (length cs / 3) c best) (S .laid .kept) M)
-
-    -- this number ends within: it is the largest
-    found-here : ends c ≡ true → Found T tolerance old (length old) best
-    unfolding endsWithin listKept
-    found-here w =
-        record {
-          kept = tried .number w ∙ sym (S .none ∙ largest-yes c ends (S .laid .some) w);
-          few = tried .few;
-          rules = λ _. tried .rules w ∙ ap (listKept T tolerance old) (sym (tried .number w));
-        }
-
-    pub found-some : 0 < best .kept → Found T tolerance old (length old) best
-    unfolding endsWithin listKept
-    found-some some = go (ends c) refl
-      where
-        go : (w : Bool) → ends c ≡ w → Found T tolerance old (length old) best
-        go true e = found-here e
-        go false e = absurd (omega (arith, tried .other e))
-
-    -- it doesn't: one rule less
-    pub none-less : best .kept ≡ 0 → largestTo (length old) ends ≡ largestTo (c - 1) ends
-    unfolding endsWithin listKept
-    none-less z = go (ends c) refl
-      where
-        go : (w : Bool) → ends c ≡ w → largestTo (length old) ends ≡ largestTo (c - 1) ends
-        go true e = absurd (omega (arith, tried .number e, S .laid .some))
-        go false e = S .none ∙ largest-no c ends (S .laid .some) e
-
-    -- the last number doesn't
-    pub found-none : best .kept ≡ 0 → c - 1 ≡ 0 → Found T tolerance old (length old) best
-    unfolding largestTo
-    found-none e z =
-        record {
-          kept = e ∙ sym (none-less e ∙ ap (λ (n : ℕ). largestTo n ends) z);
-          few = tried .few;
-          rules = λ some. absurd (omega arith);
-        }
+  -- the try from where it stands
+  pub tried-here : (tried : Attempt) → Tried (frameFrom T tolerance (newestFirst (list .rules) c)) (length cs / 3) c old tried
+      → Tried (frameKept T tolerance old c) (length old) c old tried
+  unfolding frameKept
+  tried-here tried M =
+      subst (λ (n : ℕ). Tried (frameFrom T tolerance (oldest c old)) n c old tried) (sym (rules-count cs))
+      (subst (λ (rs : List Rule). Tried (frameFrom T tolerance rs) (length cs / 3) c old tried) (laid .kept) M)

@@ -59,17 +59,19 @@ holds-held k labels ws rs holder shares paired H =
       lows = λ b p m n. absurd (omega (arith, alike mostKnown b 0));
     }
 
+-- backends by their labels, and by their places
+pub same-label : (labels : List ℕ) (n : ℕ) → Distinct (λ b. getD labels b nobody) n → (b c : ℕ) → b < n → c < n
+    → eqb (getD labels b nobody) (getD labels c nobody) ≡ eqb b c
+same-label labels n D b c l m = go (ℕ-discrete b c)
+  where
+    go : Dec (b ≡ c) → eqb (getD labels b nobody) (getD labels c nobody) ≡ eqb b c
+    go (yes e) = eq-eqb _ _ (ap (λ (x : ℕ). getD labels x nobody) e) ∙ sym (eq-eqb b c e)
+    go (no d) = ne-eqb _ _ (λ e. d (D b c l m e)) ∙ sym (ne-eqb b c d)
+
 -- ascending labels differ
 module _ (labels : List ℕ) (A : Ascending labels) where
-  pub labels-differ : Distinct (λ b. getD labels b nobody) (length labels)
+  labels-differ : Distinct (λ b. getD labels b nobody) (length labels)
   labels-differ = rises-distinct labels (length labels) (above-rises labels (A .above))
-
-  same-label : (b c : ℕ) → b < length labels → c < length labels → eqb (getD labels b nobody) (getD labels c nobody) ≡ eqb b c
-  same-label b c l m = go (ℕ-discrete b c)
-    where
-      go : Dec (b ≡ c) → eqb (getD labels b nobody) (getD labels c nobody) ≡ eqb b c
-      go (yes e) = eq-eqb _ _ (ap (λ (x : ℕ). getD labels x nobody) e) ∙ sym (eq-eqb b c e)
-      go (no d) = ne-eqb _ _ (λ e. d (labels-differ b c l m e)) ∙ sym (ne-eqb b c d)
 
   -- a rule for one of them is for the one at its id's place
   pub placed : (k : ℕ) (r : Rule) → Known k labels r → Placed k labels r (placeIn (r .backend) labels)
@@ -249,9 +251,9 @@ module _ (k : ℕ) (r : Rule) (K : isRule k r ≡ true) where
           omega (
             arith,
             share-moved rs (named b) (B .wholly) (named c),
-            ap (λ (t : Bool). pick {A = ℕ} t size 0) (same-label labels A b c (B .known) l),
+            ap (λ (t : Bool). pick {A = ℕ} t size 0) (same-label labels (length labels) (labels-differ labels A) b c (B .known) l),
             ap (λ (x : ℕ). pick {A = ℕ} (eqb x (named c)) size 0) (P .is),
-            ap (λ (t : Bool). pick {A = ℕ} t size 0) (same-label labels A to c (P .inside) l),
+            ap (λ (t : Bool). pick {A = ℕ} t size 0) (same-label labels (length labels) (labels-differ labels A) to c (P .inside) l),
           )
 
       pub lay-passable : Held k labels rs holder shares → Passable holder shares at size b to
@@ -376,7 +378,7 @@ module _ (k : ℕ) (r : Rule) (K : isRule k r ≡ true) where
       share-at b l t e =
           shares (getD labels b nobody)
           ∙ ap (λ (x : ℕ). pick {A = ℕ} (eqb x (getD labels b nobody)) (2 ^ k) 0) (P .is)
-          ∙ ap (λ (u : Bool). pick {A = ℕ} u (2 ^ k) 0) (same-label labels A to b (P .inside) l ∙ e)
+          ∙ ap (λ (u : Bool). pick {A = ℕ} u (2 ^ k) 0) (same-label labels (length labels) (labels-differ labels A) to b (P .inside) l ∙ e)
 
       each : (b : ℕ) → b < length labels → Dec (b ≡ to) → getD (set (replicate mostKnown 0) to (2 ^ k)) b 0 ≡ share k (r ∷ []) (getD labels b nobody)
       each b l (yes e) =

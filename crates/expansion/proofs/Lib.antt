@@ -35,10 +35,12 @@ pub mod NextMove
 pub mod Turning
 pub mod KeptStart
 pub mod Answers
-pub mod Largest
+pub mod Lowest
+pub mod ChurnPlaces
 pub mod KeptLists
 pub mod WithinIds
 pub mod HopelessStarts
+pub mod KeptBest
 pub mod KeptSearch
 pub mod ResumeAnswers
 pub mod Cases

@@ -2,7 +2,7 @@
 use Prim.Native.Nat.{ℕ, zero, suc, _+_, _-_, _*_, _/_, _≤_, _<_}
 use mathlib.Core.Bool.{true, false}
 use mathlib.Core.List.{List, [], _∷_, map}
-use mathlib.Core.Logic.{inl, inr}
+use mathlib.Core.Logic.{inl}
 use mathlib.Core.Path.{_≡_, refl, ap, sym, _∙_, subst}
 use native.Mathlib.Numerals.{add-one}
 use native.Mathlib.Omega.{arith}
@@ -30,8 +30,8 @@ use Rattle.numerals.proofs.Searches.{both-true}
 use Rattle.expansion.proofs.FirstMatch.{lengths-mono}
 use Rattle.expansion.proofs.Checks.{both-passed, test-passed, limits, Weighed, weights-passed}
 use Rattle.expansion.proofs.Ids.{Rises, rises-distinct, rises-named}
-use Rattle.expansion.proofs.KnownIds.{Mentioned, known-exactly, known-count, known-above, above-rises, rises-above, sum-known}
-use Rattle.expansion.proofs.OldNumbers.{three-more, rules-more, oldest-length, oldest-at}
+use Rattle.expansion.proofs.KnownIds.{known-exactly, known-count, known-above, above-rises, rises-above, sum-known}
+use Rattle.expansion.proofs.OldNumbers.{three-more, oldest-length, oldest-at}
 
 -- the rules from rule i on, the tests of this one after the other
 module _ (k last : ℕ) (cs : List ℕ) (i : ℕ) (h : i < length cs / 3) where
@@ -125,11 +125,11 @@ rules-passed k n last (l ∷ v ∷ b ∷ cs) h e =
     both-ends r rs a f zero m = a
     both-ends r rs a f (suc i) m = f i (omega arith)
 
-proper : (k : ℕ) (r : Rule) → isProper k r ≡ true → (isRule k r ≡ true) × ((1 ≤ r .backend) × (r .backend ≤ mostId))
+proper : (k : ℕ) (r : Rule) → isProper k r ≡ true → (isRule k r ≡ true) × (1 ≤ r .backend)
 unfolding isProper
 proper k r e =
     let p = both-true (isRule k r) (inLimits 1 mostId (r .backend)) e in
-    (p .0, limits 1 mostId (r .backend) (p .1))
+    (p .0, limits 1 mostId (r .backend) (p .1) .0)
 
 rules-proper : (k : ℕ) (ids : List ℕ) (rs : List Rule) → 1 ≤ k → Passing k 0 k rs → Proper k (knownIds rs ids) rs
 unfolding endLen
@@ -153,7 +153,6 @@ pub record OldPassed (k tolerance : ℕ) (rs : List Rule) (ids ws : List ℕ) : 
   pub knowable : Knowable rs ids ws
   pub valid : Valid k tolerance (knownIds rs ids) (map (weightOf ids ws) (knownIds rs ids))
   pub ascending : Ascending (knownIds rs ids)
-  pub most : (b : ℕ) → b < length (knownIds rs ids) → getD (knownIds rs ids) b 0 ≤ mostId
   pub proper : Proper k (knownIds rs ids) rs
 
 module _ (k tolerance : ℕ) (rs : List Rule) (ids ws : List ℕ) (bits : inLimits 1 mostBits k ≡ true) (tolerable : tolerance ≤ unit)
@@ -161,24 +160,17 @@ module _ (k tolerance : ℕ) (rs : List Rule) (ids ws : List ℕ) (bits : inLimi
   abbrev labels : List ℕ
   labels = knownIds rs ids
 
-  named : (i : ℕ) → i < length rs → (1 ≤ getD rs i noRule .backend) × (getD rs i noRule .backend ≤ mostId)
+  named : (i : ℕ) → i < length rs → 1 ≤ getD rs i noRule .backend
   named i l = proper k (getD rs i noRule) (P .each i l) .1
 
   rising : Above 0 ids
   rising = rises-above ids (subst (Rises ids) (sym (W .paired)) (W .rises))
 
   above : Above 0 labels
-  above = known-above ids rising rs (λ i l. named i l .0)
+  above = known-above ids rising rs named
 
   count : length (map (weightOf ids ws) labels) ≡ length labels
   count = length-map labels (weightOf ids ws)
-
-  most-known : (b : ℕ) → b < length labels → getD labels b 0 ≤ mostId
-  most-known b l = go (known-exactly rs ids (getD labels b 0) .0 (b, l, refl))
-    where
-      go : Mentioned (getD labels b 0) rs ids → getD labels b 0 ≤ mostId
-      go (inl h) = omega (arith, named (h .0) (h .1) .1, h .2)
-      go (inr h) = omega (arith, W .most (h .0) (omega (arith, h .1, W .paired)), h .2)
 
   passed : OldPassed k tolerance rs ids ws
   passed =
@@ -190,7 +182,7 @@ module _ (k tolerance : ℕ) (rs : List Rule) (ids ws : List ℕ) (bits : inLimi
               few-ids = omega (arith, W .few, W .paired);
               paired = W .paired;
               above = rising;
-              named = λ i l. named i l .0;
+              named = named;
             };
         valid =
             record {
@@ -199,13 +191,12 @@ module _ (k tolerance : ℕ) (rs : List Rule) (ids ws : List ℕ) (bits : inLimi
               tolerable = tolerable;
               someone = omega (arith, W .someone, W .paired, c .0, count);
               few = omega (arith, P .few, W .few, W .paired, c .1, count);
-              balanced = sum-known ids ws rising (W .paired) rs (λ i l. named i l .0) ∙ W .balanced;
+              balanced = sum-known ids ws rising (W .paired) rs named ∙ W .balanced;
               labelled = sym count;
               distinct = rw count (rises-distinct labels (length labels) (above-rises labels above));
               named = rw count (rises-named labels (length labels) (above-rises labels above));
             };
         ascending = record { few = omega (arith, P .few, W .few, W .paired, c .1); above = above };
-        most = most-known;
         proper = rules-proper k ids rs (limits 1 mostBits k bits .0) P;
       }
 

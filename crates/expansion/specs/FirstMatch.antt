@@ -33,6 +33,10 @@ gives rs s b = eqb (firstMatch rs s) b
 unfoldable pub share : ℕ → List Rule → ℕ → ℕ
 share k rs b = countTo (2 ^ k) (λ s. gives rs s b)
 
--- churn: of the suffixes below `all`, the number of those that two lists give to backends of unlike ids
+-- of the suffixes below `all`, the number of those that two lists give to backends of unlike ids
 unfoldable pub differing : ℕ → List Rule → List Rule → ℕ
 differing all old new = countTo all (λ s. not (eqb (firstMatch old s) (firstMatch new s)))
+
+-- churn (document 01, "Lookup and churn"; by id since document 02, Req 04): of all 2^k suffixes, how many have a backend of another id
+unfoldable pub churn : ℕ → List Rule → List Rule → ℕ
+churn k old new = differing (2 ^ k) old new

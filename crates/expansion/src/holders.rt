@@ -3,7 +3,7 @@
 use crate::rule::Move;
 use numerals::MOST_BITS;
 ghost use mathlib.Core.Path.{_≡_};
-ghost use Prim.Native.Nat.{ℕ, _+_, _-_, _*_, _^_, _≤_, _<_};
+ghost use Prim.Native.Nat.{_+_, _-_, _*_, _%_, _^_, _≤_, _<_};
 ghost use lib.ListN.{length};
 ghost use Rattle.numerals.specs.Limits.{mostBits, mostSuffixes, mostKnown};
 ghost use Rattle.numerals.specs.Suffix.{place, Places};
@@ -11,12 +11,13 @@ ghost use Rattle.expansion.specs.Inner.Holders as held;
 
 // The lowest of the nodes from `from` on that the giver holds wholly, or `nodes` where there is none. The walk over the
 // nodes leaves one at its first suffix of another's, and ends at the first whole node. The inner walk takes the last
-// suffix, then two to a turn.
+// suffix and the first, then four to a turn: a node of more than two suffixes has a multiple of four.
 fn lowest_whole(holder: &[u16], from: usize, nodes: usize, size: usize, giver: u16) -> usize
     requires { ⌜ (0 < size) × (nodes * size ≤ length (now holder)) ⌝ }
+    requires { ⌜ (2 < size → size % 4 ≡ 0) ⌝ }
     ensures { λ r. ⌜ r ≡ held.lowestHeld (now (holder .entry)) size giver from nodes ⌝ }
 {
-    let even = size - size % 2;
+    let fours = size - size % 4;
     let mut node = from;
     'nodes: while node < nodes {
         let at = node * size;
@@ -24,7 +25,11 @@ fn lowest_whole(holder: &[u16], from: usize, nodes: usize, size: usize, giver: u
             node += 1;
             continue 'nodes;
         }
-        let mut left = even;
+        if holder[at] != giver {
+            node += 1;
+            continue 'nodes;
+        }
+        let mut left = fours;
         while 0 < left {
             if holder[at + left - 1] != giver {
                 node += 1;
@@ -34,7 +39,15 @@ fn lowest_whole(holder: &[u16], from: usize, nodes: usize, size: usize, giver: u
                 node += 1;
                 continue 'nodes;
             }
-            left -= 2;
+            if holder[at + left - 3] != giver {
+                node += 1;
+                continue 'nodes;
+            }
+            if holder[at + left - 4] != giver {
+                node += 1;
+                continue 'nodes;
+            }
+            left -= 4;
         }
         break 'nodes;
     }

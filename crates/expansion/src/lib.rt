@@ -1,5 +1,6 @@
 // The expansion of one service: its weights approximated by suffix rules, one after the other.
 mod call;
+mod churning;
 mod holders;
 mod hopeless;
 mod known;

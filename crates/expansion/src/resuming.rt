@@ -8,30 +8,35 @@ use numerals::MOST_KNOWN;
 use numerals::MOST_RULES;
 use numerals::MOST_SUFFIXES;
 use numerals::Refusal;
+ghost use mathlib.Core.List.{List};
 ghost use mathlib.Core.Path.{_≡_};
-ghost use Prim.Native.Nat.{_≤_};
+ghost use Prim.Native.Nat.{ℕ, _≤_};
 ghost use lib.ListN.{length};
 ghost use Rattle.numerals.specs.Buffer.{filled};
-ghost use Rattle.numerals.specs.Limits.{mostBits};
+ghost use Rattle.numerals.specs.Limits.{mostBits, mostSuffixes};
 ghost use Rattle.numerals.specs.Suffix.{Places};
 ghost use Rattle.expansion.specs.Steps.{oldest, listOf};
 ghost use Rattle.expansion.specs.KeptShares.{SharesKept};
 ghost use Rattle.expansion.specs.Known.{targetsKnown};
 ghost use Rattle.expansion.specs.OldList.{rulesFrom};
 ghost use Rattle.expansion.specs.Resume.{frameFrom, checkOld, numbersResumed, resumeAnswer, isResumed};
+ghost use Rattle.expansion.specs.Inner.Holders.{Holds};
 ghost use Rattle.expansion.specs.Inner.Lists.{newestFirst};
 ghost use Rattle.expansion.specs.Inner.OldList.{Proper};
 ghost use Rattle.expansion.specs.Inner.Known.{Ascending};
 ghost use Rattle.expansion.specs.Inner.Run.{labelledBy, Valid, Made};
 ghost use Rattle.expansion.specs.Inner.Laying.{Held, LaidTo, Starts};
-ghost use Rattle.expansion.specs.Inner.Resume.{Found, foundOf, Tried};
+ghost use Rattle.expansion.specs.Inner.Resume.{Found, Tried, Judged};
 ghost use Rattle.expansion.specs.declared.call.Checked.the-variants as checked;
 ghost use Rattle.expansion.specs.declared.ledger.Ledger as ledger;
+ghost use Rattle.expansion.specs.declared.rule.Rule as rule;
 
-// How many of the oldest rules were kept, and how many rules the new list has.
+// How many of the oldest rules were kept, how many rules the new list has, and how many of the 2^k suffixes it gives to
+// another backend than the old one.
 pub struct Kept {
     pub kept: usize,
     pub rules: usize,
+    pub churn: usize,
 }
 
 // What the call answers.
@@ -46,15 +51,17 @@ pub struct Laid {
     pub had: [usize; MOST_RULES],
 }
 
-// A number of kept rules that was tried, and the list that it came to, where that ended within tolerance; 0 where it didn't.
+// A number of kept rules that was tried, the list that it came to and its churn, where that ended within tolerance; 0 where it
+// didn't.
 pub struct Attempt {
     pub kept: usize,
+    pub churn: usize,
     pub list: RuleList,
 }
 
-// The list from kept rules on, for numbers that were checked. The holders go by value: the next try starts from them again.
+// The list from kept rules on, for numbers that were checked. Who holds which suffix goes along.
 fn run_kept(
-    holder: [u16; MOST_SUFFIXES],
+    holder: &mut [u16],
     shares: &[u64],
     places: &[u16],
     kept: RuleList,
@@ -64,14 +71,15 @@ fn run_kept(
     tolerance: u64,
     budget: usize,
 ) -> Run
-    requires { ⌜ Starts k tolerance (now ids) (now weights) kept holder (now shares) budget × Places mostBits (now places) ⌝ }
+    requires { ⌜ Starts k tolerance (now ids) (now weights) kept (now holder) (now shares) budget × Places mostBits (now places) ⌝ }
     ensures made { λ r. ⌜ Made (frameFrom (labelledBy k (now (ids .entry)) (now (weights .entry))) tolerance
         (newestFirst (kept .rules) (kept .count))) budget r ⌝ }
     ensures shares { λ r. ⌜ (let F = frameFrom (labelledBy k (now (ids .entry)) (now (weights .entry))) tolerance
         (newestFirst (kept .rules) (kept .count)) in (L : ledger.Ledger) × SharesKept (F .targets) (listOf F budget) (kept .count) L (r .kept)) ⌝ }
+    ensures holds { λ r. ⌜ (let F = frameFrom (labelledBy k (now (ids .entry)) (now (weights .entry))) tolerance
+        (newestFirst (kept .rules) (kept .count)) in (low : List ℕ) × Holds (F .targets) (listOf F budget) (now (holder .exit)) low) ⌝ }
 {
     let mut list = kept;
-    let mut work = holder;
     let mut low = [0u16; MOST_KNOWN];
     let cap = crate::laying::cap_from(k, kept);
     let last = kept.count - 1;
@@ -79,7 +87,7 @@ fn run_kept(
     let state = crate::run::begin(weights, shares, k, tolerance, cap, newest);
     list.stairs[last] = state.imbalance;
     crate::run::go_on(
-        &mut work,
+        holder,
         &mut low,
         places,
         state,
@@ -92,23 +100,21 @@ fn run_kept(
     )
 }
 
-// The list of so many kept rules, if it ended within; otherwise the other, which says that it didn't.
-fn found(run: Run, kept: usize, other: Attempt) -> Attempt
-    ensures { λ r. ⌜ r ≡ foundOf (run .ended) (record { kept = kept; list = run .list }) other ⌝ }
+// No attempt that ended within; its list means nothing.
+fn none_of(list: RuleList) -> Attempt
+    ensures { λ r. ⌜ r ≡ record { kept = 0; churn = 0; list = list } ⌝ }
 {
-    let ended = run.ended;
-    match ended {
-        Ended::Within => {
-            let list = run.list;
-            Attempt { kept, list }
-        }
-        Ended::NoGain => other,
-        Ended::Budget => other,
+    Attempt {
+        kept: 0,
+        churn: 0,
+        list,
     }
 }
 
-// One number of kept rules. Where too many backends are beyond the tolerance, the list can't end within and isn't run.
+// One number of kept rules. Where too many backends are beyond the tolerance, the list can't end within and isn't run. The
+// holders go by value: the next try starts from them again.
 fn try_kept(
+    whole: &[u16],
     holder: [u16; MOST_SUFFIXES],
     shares: &[u64],
     places: &[u16],
@@ -120,16 +126,18 @@ fn try_kept(
     budget: usize,
 ) -> Attempt
     requires { ⌜ Starts k tolerance (now ids) (now weights) list holder (now shares) budget × Places mostBits (now places) ⌝ }
-    ensures { λ r. ⌜ Tried (frameFrom (labelledBy k (now (ids .entry)) (now (weights .entry))) tolerance
-        (newestFirst (list .rules) (list .count))) budget (list .count) r ⌝ }
+    requires { ⌜ length (now whole) ≡ mostSuffixes ⌝ }
+    ensures { λ r. ⌜ ((old : List rule.Rule) (held : List ℕ) → Held k (now (ids .entry)) old (now (whole .entry)) held
+        → Tried (frameFrom (labelledBy k (now (ids .entry)) (now (weights .entry))) tolerance (newestFirst (list .rules) (list .count))) budget
+        (list .count) old r) ⌝ }
 {
     let kept = list.count;
-    let none = Attempt { kept: 0, list };
     if crate::hopeless::is_hopeless(weights, shares, k, tolerance, budget - kept) {
-        return none;
+        return none_of(list);
     }
+    let mut work = holder;
     let run = run_kept(
-        holder,
+        &mut work,
         shares,
         places,
         list,
@@ -139,7 +147,33 @@ fn try_kept(
         tolerance,
         budget,
     );
-    found(run, kept, none)
+    let ended = run.ended;
+    match ended {
+        Ended::Within => {
+            let churn = crate::churning::count_unlike(whole, &work, k);
+            let list = run.list;
+            Attempt { kept, churn, list }
+        }
+        Ended::NoGain => none_of(list),
+        Ended::Budget => none_of(list),
+    }
+}
+
+// Whether an attempt is better than the best of those that keep more rules: it ended within, and none of these did or its churn
+// is lower.
+fn is_better(tried: usize, churn: usize, best: usize, lowest: usize) -> bool
+    ensures { λ r. ⌜ Judged tried churn best lowest r ⌝ }
+{
+    if tried == 0 {
+        return false;
+    }
+    if best == 0 {
+        return true;
+    }
+    if lowest <= churn {
+        return false;
+    }
+    true
 }
 
 // All rules of an old list laid on top of its `*`.
@@ -172,12 +206,11 @@ fn lay_all(
     Laid { list, had }
 }
 
-// The largest number of kept rules whose list ends within tolerance. All rules are laid, and the newest is taken back before each
-// further try, until a list does.
+// Of the numbers of kept rules whose lists end within tolerance, the one with the lowest churn, the largest if equal. All rules
+// are laid, and the newest is taken back before each further try. Nothing is lower than a churn of 0.
 fn search(k: usize, tolerance: u64, old: &[usize], ids: &[usize], weights: &[u64]) -> Attempt
     requires { ⌜ Valid k tolerance (now ids) (now weights) × (Ascending (now ids) × Proper k (now ids) (rulesFrom (now old))) ⌝ }
-    ensures { λ r. ⌜ (let R = rulesFrom (now (old .entry))
-        in Found (labelledBy k (now (ids .entry)) (now (weights .entry))) tolerance R (length R) r) ⌝ }
+    ensures { λ r. ⌜ Found (labelledBy k (now (ids .entry)) (now (weights .entry))) tolerance (rulesFrom (now (old .entry))) r ⌝ }
 {
     let n = old.len() / PER_RULE;
     let places = numerals::all_places();
@@ -189,8 +222,11 @@ fn search(k: usize, tolerance: u64, old: &[usize], ids: &[usize], weights: &[u64
     let laid = lay_all(&mut holder, &mut shares, &places, k, ids, old);
     let mut list = laid.list;
     let had = laid.had;
+    let whole = holder;
+    let mut best = none_of(list);
     loop {
-        let best = try_kept(
+        let tried = try_kept(
+            &whole,
             holder,
             &shares,
             &places,
@@ -201,9 +237,14 @@ fn search(k: usize, tolerance: u64, old: &[usize], ids: &[usize], weights: &[u64
             tolerance,
             n,
         );
+        if is_better(tried.kept, tried.churn, best.kept, best.churn) {
+            best = tried;
+        }
         let left = list.count - 1;
         if 0 < best.kept {
-            return best;
+            if best.churn == 0 {
+                return best;
+            }
         }
         if left == 0 {
             return best;
@@ -217,8 +258,7 @@ fn search(k: usize, tolerance: u64, old: &[usize], ids: &[usize], weights: &[u64
 // The same for an old list and new weights: first the backends that are known, then the search among them.
 fn find_best(k: usize, tolerance: u64, old: &[usize], ids: &[usize], weights: &[u64]) -> Attempt
     requires { ⌜ checkOld k tolerance (now old) (now ids) (now weights) ≡ checked.Sound ⌝ }
-    ensures { λ r. ⌜ (let R = rulesFrom (now (old .entry))
-        in Found (targetsKnown k R (now (ids .entry)) (now (weights .entry))) tolerance R (length R) r) ⌝ }
+    ensures { λ r. ⌜ (let R = rulesFrom (now (old .entry)) in Found (targetsKnown k R (now (ids .entry)) (now (weights .entry))) tolerance R r) ⌝ }
 {
     let mut known = [0usize; MOST_KNOWN];
     let mut wanted = [0u64; MOST_KNOWN];
@@ -226,9 +266,10 @@ fn find_best(k: usize, tolerance: u64, old: &[usize], ids: &[usize], weights: &[
     search(k, tolerance, old, &known[..n], &wanted[..n])
 }
 
-// Of an old list in numbers, the newest rule first, the oldest rules are kept, as many as can be so that the steps of document
-// 01 go on from there, for new weights, to a list that is within tolerance and has no more rules than the old one. Backends
-// are matched by id. The new list in numbers, the newest rule first, into a lent buffer.
+// Of an old list in numbers, the newest rule first, the oldest rules are kept, and the steps of document 01 go on from there,
+// for new weights, to a list that is within tolerance and has no more rules than the old one: of all numbers of kept rules for
+// which this can be had, the one with the lowest churn, the largest if equal. Backends are matched by id. The new list in
+// numbers, the newest rule first, into a lent buffer.
 pub fn resume(
     k: usize,
     tolerance: u64,
@@ -256,5 +297,9 @@ pub fn resume(
         return Resumed::Refused(Refusal::ShortLoan);
     }
     crate::old_list::store_rules(list, rules);
-    Resumed::Made(Kept { kept, rules: n })
+    Resumed::Made(Kept {
+        kept,
+        rules: n,
+        churn: best.churn,
+    })
 }

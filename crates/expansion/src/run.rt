@@ -183,7 +183,8 @@ pub fn go_on(
     requires { ⌜ (list .count ≤ budget) × ((budget ≤ mostRules) × Places mostBits (now places)) ⌝ }
     ensures { λ r. ⌜ ((cap x : ℕ) (start : List rule.Rule) → let F = framed k cap tolerance (now (labels .entry)) (now (weights .entry)) start
         in Stands F x (now (holder .entry)) (now (low .entry)) state → Listed F x list → Made F budget r
-        × SharesKept (F .targets) (listOf F budget) (list .count) (state .ledger) (r .kept)) ⌝ }
+        × (SharesKept (F .targets) (listOf F budget) (list .count) (state .ledger) (r .kept)
+        × Holds (F .targets) (listOf F budget) (now (holder .exit)) (now (low .exit)))) ⌝ }
 {
     loop {
         let n = list.count;

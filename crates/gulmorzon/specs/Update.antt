@@ -1,4 +1,4 @@
--- The answer of crate `update` in plain numbers (document 02, Req 03).
+-- The answer of crate `update` in plain numbers (document 02, Req 03 to 05).
 use Rattle.numerals.specs.Refusals.{numberOf}
 use Rattle.sheets.specs.declared.answer.Refused.{Refused as Why}
 use Rattle.update.specs.declared.answer.Update.{Update}

@@ -1,10 +1,15 @@
--- Worked cases of the update (document 02, Req 03 and 04): P1's list of document 01 ("Figures to try"), in numbers, under other weights; a list that is
--- stuck; and a tie between a backend that is missing from the new weights and one that isn't.
-use Prim.Native.Nat.{ℕ}
+-- Worked cases of the update (document 02, Req 03 to 05): P1's list of document 01 ("Figures to try"), in numbers, under other weights; a list that is
+-- stuck; a tie between a backend that is missing from the new weights and one that isn't; and lists on which several r end within.
+use Prim.Native.Nat.{ℕ, suc}
 use mathlib.Core.List.{List, [], _∷_}
 use mathlib.Core.Path.{_≡_}
-use Rattle.numerals.specs.Refusals.{no13}
-use Rattle.expansion.specs.Resume.{numbersResumed}
+use lib.ListN.{length}
+use Rattle.numerals.specs.Pick.{pick}
+use Rattle.numerals.specs.Refusals.{no7, no13}
+use Rattle.numerals.specs.Sums.{listTo}
+use Rattle.expansion.specs.Known.{targetsKnown}
+use Rattle.expansion.specs.OldList.{rulesFrom}
+use Rattle.expansion.specs.Resume.{endsWithin, churnKept, numbersResumed}
 use Rattle.update.specs.Update.{updateAnswer}
 use Rattle.update.specs.declared.answer.Update as update
 use Rattle.update.specs.declared.answer.Updated.the-variants.{Made, Refused}
@@ -108,3 +113,84 @@ pub record Tied : Type 0 where
   pub new :
       numbersResumed 2 0 (2 ∷ 3 ∷ []) (1000000 ∷ 0 ∷ []) tiedOld
       ≡ 1 ∷ 0 ∷ 2 ∷ 1 ∷ 1 ∷ 2 ∷ 1 ∷ 1 ∷ 1 ∷ 0 ∷ 0 ∷ 3 ∷ []
+
+-- k 2: for each r from 1 to all a 1 where it ends within, and its churn; what is answered, and the new list
+pub record Choice : Type 0 where
+  pub tolerance : ℕ
+  pub ids : List ℕ
+  pub weights : List ℕ
+  pub old : List ℕ
+  pub within : List ℕ
+  pub churns : List ℕ
+  pub update : update.Update
+  pub new : List ℕ
+
+pub record Chooses (c : Choice) : Type 0 where
+  pub within :
+      let R = rulesFrom (c .old) in
+      listTo (length R) (λ i. pick (endsWithin (targetsKnown 2 R (c .ids) (c .weights)) (c .tolerance) R (suc i)) 1 0) ≡ c .within
+  pub churns :
+      let R = rulesFrom (c .old) in
+      listTo (length R) (λ i. churnKept (targetsKnown 2 R (c .ids) (c .weights)) (c .tolerance) R (suc i)) ≡ c .churns
+  pub answer : updateAnswer 2 (c .tolerance) (c .ids) (c .weights) (c .old) 12 ≡ Made (c .update)
+  pub new : numbersResumed 2 (c .tolerance) (c .ids) (c .weights) (c .old) ≡ c .new
+
+-- `*00` to 3, `*0` to 2, `*` to 1; new weights 20 30 50, tolerance 25: two rules would do, but `*` alone moves less
+abbrev pub lowestAtOne : Choice
+lowestAtOne =
+    record {
+      tolerance = 250000;
+      ids = three;
+      weights = 200000 ∷ 300000 ∷ 500000 ∷ [];
+      old = 2 ∷ 0 ∷ 3 ∷ 1 ∷ 0 ∷ 2 ∷ 0 ∷ 0 ∷ 1 ∷ [];
+      within = 1 ∷ 1 ∷ 0 ∷ [];
+      churns = 2 ∷ 3 ∷ 0 ∷ [];
+      update = record { k = 2; kept = 1; rules = 3; churn = 2 };
+      new = 2 ∷ 1 ∷ 2 ∷ 1 ∷ 0 ∷ 3 ∷ 0 ∷ 0 ∷ 1 ∷ [];
+    }
+
+-- `*01` to 3, `*00` to 4, `*0` to 2, `*` to 1; new weights 30 30 40 for 1, 2, 3, tolerance 20: with more rules and with fewer more would move
+abbrev pub lowestBetween : Choice
+lowestBetween =
+    record {
+      tolerance = 200000;
+      ids = three;
+      weights = 300000 ∷ 300000 ∷ 400000 ∷ [];
+      old = 2 ∷ 1 ∷ 3 ∷ 2 ∷ 0 ∷ 4 ∷ 1 ∷ 0 ∷ 2 ∷ 0 ∷ 0 ∷ 1 ∷ [];
+      within = 1 ∷ 1 ∷ 1 ∷ 0 ∷ [];
+      churns = 3 ∷ 1 ∷ 2 ∷ 0 ∷ [];
+      update = record { k = 2; kept = 2; rules = 3; churn = 1 };
+      new = 2 ∷ 1 ∷ 3 ∷ 1 ∷ 0 ∷ 2 ∷ 0 ∷ 0 ∷ 1 ∷ [];
+    }
+
+-- `*01` to 1, `*1` and `*0` to 2, `*` to 1; new weights 50 50, tolerance 0: one rule and two move as little, and the larger r is answered
+abbrev pub equalChurn : Choice
+equalChurn =
+    record {
+      tolerance = 0;
+      ids = 1 ∷ 2 ∷ [];
+      weights = 500000 ∷ 500000 ∷ [];
+      old = 2 ∷ 1 ∷ 1 ∷ 1 ∷ 1 ∷ 2 ∷ 1 ∷ 0 ∷ 2 ∷ 0 ∷ 0 ∷ 1 ∷ [];
+      within = 1 ∷ 1 ∷ 1 ∷ 0 ∷ [];
+      churns = 1 ∷ 1 ∷ 3 ∷ 0 ∷ [];
+      update = record { k = 2; kept = 2; rules = 2; churn = 1 };
+      new = 1 ∷ 0 ∷ 2 ∷ 0 ∷ 0 ∷ 1 ∷ [];
+    }
+
+-- `*01` to 4, `*00` to 1, `*0` to 3, `*` to 2; new weights 25 75 for 1, 2, tolerance 0: one rule and three move as little, and the list of three is longer
+abbrev pub longerList : Choice
+longerList =
+    record {
+      tolerance = 0;
+      ids = 1 ∷ 2 ∷ [];
+      weights = 250000 ∷ 750000 ∷ [];
+      old = 2 ∷ 1 ∷ 4 ∷ 2 ∷ 0 ∷ 1 ∷ 1 ∷ 0 ∷ 3 ∷ 0 ∷ 0 ∷ 2 ∷ [];
+      within = 1 ∷ 1 ∷ 1 ∷ 0 ∷ [];
+      churns = 2 ∷ 3 ∷ 2 ∷ 0 ∷ [];
+      update = record { k = 2; kept = 3; rules = 4; churn = 2 };
+      new = 2 ∷ 2 ∷ 2 ∷ 2 ∷ 0 ∷ 1 ∷ 1 ∷ 0 ∷ 3 ∷ 0 ∷ 0 ∷ 2 ∷ [];
+    }
+
+-- where it doesn't fit, the answer is 7, though the list of one kept rule needs only 6 numbers
+abbrev pub TooLong : Type 0
+TooLong = updateAnswer 2 0 (longerList .ids) (longerList .weights) (longerList .old) 11 ≡ Refused no7

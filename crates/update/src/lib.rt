@@ -1,6 +1,5 @@
-// New weights on a loaded table: the oldest rules of a list are kept, and the expansion goes on from there.
+// New weights on a loaded table: the oldest rules of a list are kept, and the expansion goes on from there, so that least moves.
 mod answer;
-mod churning;
 mod texts;
 mod updating;
 

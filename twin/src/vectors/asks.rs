@@ -1,15 +1,15 @@
 //! What vectors `L` ask: an old list and new weights in numbers.
 
+use super::choices::Choice;
 use super::expansion::rows_text;
 use super::loaded::{any_list, changed, loaded, near_shares, spoil_list, Loaded};
-use super::shapes::{first_ids, ids, spoil_ids};
+use super::shapes::{first_ids, ids, named, spoil_ids};
 use crate::expansion::{Ending, Rule};
 use crate::limits::MOST_ID;
 use crate::lists::{list_of, numbers_of};
 use crate::numerals::WHOLE;
 use crate::random::Random;
-use crate::refusal::Refusal;
-use crate::update::{run, update, Known, Updated};
+use crate::update::{checked, run, Known};
 
 /// All numbers of a call but those of its buffer.
 #[derive(Clone, Debug)]
@@ -27,8 +27,8 @@ impl Ask {
         rows_text(&[&self.old, &self.ids, &self.weights]).into_bytes()
     }
 
-    /// What is made of it where there is room.
-    pub fn made(&self) -> Result<Updated, Refusal> {
+    /// The case that it makes; nothing if it is refused before any r is tried.
+    pub fn case(&self) -> Option<Loaded> {
         let Ask {
             k,
             tolerance,
@@ -36,11 +36,17 @@ impl Ask {
             ids,
             weights,
         } = self;
-        update(*k, *tolerance, old, ids, weights, &mut [0; 96])
+        let old = checked(*k, *tolerance, old, ids, weights).ok()?;
+        Some(Loaded {
+            k: *k as u8,
+            tolerance: *tolerance,
+            old,
+            new: named(1, ids, weights),
+        })
     }
 }
 
-fn ask_of(case: &Loaded) -> Ask {
+pub fn ask_of(case: &Loaded) -> Ask {
     Ask {
         k: u64::from(case.k),
         tolerance: case.tolerance,
@@ -177,7 +183,7 @@ pub fn at_random(random: &mut Random, count: u64) -> Vec<Ask> {
 /// The lowest tolerance with which the oldest `keep` rules lead to a list that
 /// ends within it. The rules of a run are the same for each tolerance, but that
 /// it ends sooner.
-fn tightest(ask: &Ask, old: &[Rule], keep: usize) -> u64 {
+pub fn tightest(ask: &Ask, old: &[Rule], keep: usize) -> u64 {
     let known = Known::new(old, &ask.ids, &ask.weights);
     let (mut low, mut high) = (0, WHOLE);
     while low < high {
@@ -191,8 +197,8 @@ fn tightest(ask: &Ask, old: &[Rule], keep: usize) -> u64 {
 }
 
 /// A case with the tightest tolerance of each r that a greater r doesn't reach
-/// too, so that each of these is the answer once, after its longest run; and
-/// with one that none reaches.
+/// too, so that each of these is once the largest that ends within, after its
+/// longest run; and with one that none reaches.
 pub fn tight(ask: &Ask) -> Vec<Ask> {
     let old = list_of(ask.k, &ask.old).unwrap_or_default();
     let mut asks = Vec::new();
@@ -216,12 +222,16 @@ pub fn tight(ask: &Ask) -> Vec<Ask> {
     asks
 }
 
-/// Cases that drop rules, where one of these goes to a backend that is missing
-/// from the weights.
+/// Cases where no r that ends within keeps all rules; one of those that they all
+/// drop goes to a backend that is missing from the weights.
 pub fn dropped_missing(random: &mut Random, asks: &[Ask]) -> Vec<Ask> {
     let mut missing = Vec::new();
     for ask in asks {
-        let keep = ask.made().map_or(0, |made| made.keep);
+        let choice = ask.case().map(|case| Choice::of(&case));
+        let keep = choice
+            .as_ref()
+            .and_then(Choice::largest)
+            .map_or(0, |made| made.keep);
         let rules = ask.old.len() / 3;
         if keep == 0 || keep == rules {
             continue;

@@ -6,8 +6,10 @@ use crate::limits::MOST_ID;
 use crate::numerals::WHOLE;
 use crate::packing::{pack_checked, Order, Service};
 use crate::random::Random;
+use crate::services::{rules_of, service_of};
 use crate::suffix::Suffix;
 use crate::table::Table;
+use crate::{percentage_sheet, rule_sheet};
 
 /// An old list, newest rule first, and what is asked of it: a service with the
 /// new ids and weights.
@@ -177,6 +179,20 @@ pub fn any_list(random: &mut Random, k: u8, rules: u64, ids: &[u64]) -> Vec<Rule
         }
     };
     lengths.into_iter().map(rule).collect()
+}
+
+/// The case that two sheets make of a service; nothing if they are refused before
+/// any r is tried.
+pub fn of_sheets(old: &[u8], sheet: &[u8], service: u64) -> Option<Loaded> {
+    let table = rule_sheet::read(old).ok()?;
+    let order = percentage_sheet::read(sheet).ok()?;
+    let case = Loaded {
+        k: table.k,
+        tolerance: order.tolerance,
+        old: rules_of(&table, service).ok()?,
+        new: service_of(&order, service).ok()?.clone(),
+    };
+    (u64::from(table.k) == order.k).then_some(case)
 }
 
 /// A rule sheet, and a percentage sheet with new weights for its services; now

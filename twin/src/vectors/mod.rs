@@ -2,6 +2,7 @@
 
 mod asks;
 pub mod cases;
+mod choices;
 mod counts;
 pub mod expansion;
 mod gauges;
@@ -14,6 +15,7 @@ mod plans;
 pub mod records;
 mod rows;
 mod rule_sheets;
+pub mod several;
 pub mod shapes;
 pub mod sheets;
 pub mod spoil;
@@ -265,6 +267,16 @@ mod tests {
             };
             assert_eq!(found, about, "{number} {which}");
         }
+    }
+
+    /// The most bytes of all answers: the tool that tries the test program without a
+    /// proof stops at a mebibyte of output.
+    const MOST_ANSWERS: usize = 1_040_000;
+
+    #[test]
+    fn the_answers_stay_under_a_mebibyte() {
+        let answers = answer(records().bytes()).unwrap();
+        assert!(answers.len() <= MOST_ANSWERS, "{}", answers.len());
     }
 
     #[test]

@@ -1,16 +1,17 @@
 //! Vectors for new weights on a loaded table: `L` in numbers, `T` on two sheets,
 //! each with a lent buffer of so many numbers.
 
-use super::asks::{self, Ask};
+use super::asks::{self, ask_of, Ask};
+use super::choices::Choice;
 use super::expansion::{refused_text, rows};
-use super::loaded::two_sheets;
+use super::loaded::{of_sheets, two_sheets, Loaded};
 use super::plans::{row_text, BEHIND, MARK};
 use super::records::{Record, Records};
 use super::rule_sheets::{some_service, LINES};
 use super::shapes::sheet_text;
 use super::sheets::shown;
 use super::spoil::spoil;
-use super::{known, percentage_sheets, rule_sheets};
+use super::{known, percentage_sheets, rule_sheets, several};
 use crate::calls::split;
 use crate::random::Random;
 use crate::rule_sheet::text_of;
@@ -56,6 +57,8 @@ pub fn add_all(records: &mut Records) {
     sheets_with_rooms(records);
     sheets_of_ids(records);
     sheets_at_random(records, &mut random);
+    several_numbers(records);
+    several_sheets(records);
 }
 
 fn add(records: &mut Records, ask: &Ask, room: usize) {
@@ -63,9 +66,16 @@ fn add(records: &mut Records, ask: &Ask, room: usize) {
     records.add(&format!("L {k} {tolerance} {room}"), &ask.payload());
 }
 
-/// The room that the answer needs; a little if it is refused.
-fn needed(ask: &Ask) -> usize {
-    ask.made().map_or(3, |made| 3 * made.rules)
+/// The room that the largest r that ends within needs; a little if there is none.
+/// The vectors that ask with it were made before request 05, when it was the answer.
+fn largest_room(case: Option<Loaded>) -> usize {
+    let choice = case.as_ref().map(Choice::of);
+    let largest = choice.as_ref().and_then(Choice::largest);
+    largest.map_or(3, |made| 3 * made.rules)
+}
+
+fn add_largest(records: &mut Records, ask: &Ask) {
+    add(records, ask, largest_room(ask.case()));
 }
 
 /// Most often the room needed; else one less, one more, three less or none.
@@ -82,15 +92,16 @@ fn some_room(turn: usize, needed: usize) -> usize {
 /// Lists and weights within their limits.
 fn in_numbers(records: &mut Records, random: &mut Random) {
     for ask in [asks::p1_cases(), asks::every_keep(random)].concat() {
-        add(records, &ask, needed(&ask));
+        add_largest(records, &ask);
     }
     let others = [
         asks::shaped(),
         asks::longest(random, 28),
-        asks::at_random(random, 300),
+        asks::at_random(random, 180),
     ];
     for (turn, ask) in others.concat().iter().enumerate() {
-        add(records, ask, some_room(turn, needed(ask)));
+        let room = some_room(turn, largest_room(ask.case()));
+        add(records, ask, room);
     }
     for room in [0, 1, 3, 9, 11, 12, 13, 100] {
         for ask in asks::p1_cases().iter().skip(2).take(4) {
@@ -110,7 +121,7 @@ fn refused_numbers(records: &mut Records, random: &mut Random) {
         add(records, &ask, 0);
     }
     for ask in asks::spoilt(random, 60) {
-        let room = needed(&ask).min(12);
+        let room = largest_room(ask.case()).min(12);
         add(records, &ask, room);
     }
 }
@@ -120,13 +131,13 @@ fn tight_numbers(records: &mut Records) {
     let mut random = Random::new(11);
     let mut loose: Vec<Ask> = asks::shaped().into_iter().step_by(2).collect();
     loose.extend(asks::longest(&mut random, 5));
-    loose.extend(asks::at_random(&mut random, 60));
+    loose.extend(asks::at_random(&mut random, 36));
     let tight: Vec<Ask> = loose.iter().flat_map(asks::tight).collect();
     for ask in &tight {
-        add(records, ask, needed(ask));
+        add_largest(records, ask);
     }
     for ask in asks::dropped_missing(&mut random, &tight).iter().step_by(6) {
-        add(records, ask, needed(ask));
+        add_largest(records, ask);
     }
 }
 
@@ -135,13 +146,13 @@ fn named_numbers(records: &mut Records) {
     let mut random = Random::new(13);
     let asks = [
         known::p1_named(),
-        known::of_other_backends(&mut random, 120),
+        known::of_other_backends(&mut random, 84),
         known::all_known(&mut random),
         known::tied(),
         known::tied_givers(),
     ];
     for ask in asks.concat() {
-        add(records, &ask, needed(&ask));
+        add_largest(records, &ask);
     }
     for (turn, ask) in known::refused_ids().iter().enumerate() {
         add(records, ask, 12 * (turn % 2));
@@ -323,7 +334,7 @@ fn sheets_of_ids(records: &mut Records) {
 
 /// Sheets of every shape; one of ten is spoilt.
 fn sheets_at_random(records: &mut Records, random: &mut Random) {
-    for turn in 0..200 {
+    for turn in 0..140 {
         let (table, order) = two_sheets(random);
         let service = some_service(random, &table);
         let (mut old, mut sheet) = (text_of(&table), sheet_text(random, &order));
@@ -332,8 +343,54 @@ fn sheets_at_random(records: &mut Records, random: &mut Random) {
             10 => sheet = spoil(random, &sheet),
             _ => (),
         }
-        let made = update_sheets(&old, &sheet, service, &mut [0; 96]);
-        let needed = made.map_or(3, |(_, made)| 3 * made.rules);
-        add_sheets(records, service, &old, &sheet, some_room(turn, needed));
+        let room = largest_room(of_sheets(&old, &sheet, service));
+        add_sheets(records, service, &old, &sheet, some_room(turn, room));
+    }
+}
+
+/// The room that the answer needs, a little if there is none. Now and then that of
+/// the longest list that ends within, or, where there is a shorter one, also the
+/// room of that one, and one number less than what is needed.
+fn rooms(turn: usize, case: &Loaded) -> Vec<usize> {
+    let choice = Choice::of(case);
+    let needed = choice.answer().map_or(1, |made| made.rules) * 3;
+    match (turn % 7, choice.shortest(), choice.longest()) {
+        (0, Some(shortest), _) => vec![needed, 3 * shortest, needed - 1],
+        (2 | 5, _, Some(longest)) => vec![3 * longest],
+        _ => vec![needed],
+    }
+}
+
+/// Several r that end within.
+fn several_numbers(records: &mut Records) {
+    let mut random = Random::new(17);
+    let cases = [
+        several::small(),
+        several::of_every_way(&mut random, 1..=12),
+        several::largest(&mut random),
+    ];
+    let cases = cases.concat();
+    let mut asks: Vec<Ask> = cases.iter().map(ask_of).collect();
+    asks.extend(several::at_each_tolerance(&mut random, 4));
+    for (turn, ask) in asks.iter().enumerate() {
+        let case = ask.case().expect("a list and weights within their limits");
+        for room in rooms(turn, &case) {
+            add(records, ask, room);
+        }
+    }
+}
+
+/// The same for a service of two sheets.
+fn several_sheets(records: &mut Records) {
+    let mut random = Random::new(19);
+    let mut cases = several::of_every_way(&mut random, (2..=12).step_by(2));
+    cases.extend(several::small().into_iter().step_by(3));
+    cases.extend(several::largest(&mut random).into_iter().step_by(3));
+    for (turn, case) in cases.iter().enumerate() {
+        let (service, table, order) = several::among_others(&mut random, case);
+        let (old, sheet) = (text_of(&table), sheet_text(&mut random, &order));
+        for room in rooms(turn, case) {
+            add_sheets(records, service, &old, &sheet, room);
+        }
     }
 }

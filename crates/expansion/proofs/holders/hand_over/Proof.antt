@@ -1,7 +1,7 @@
 -- `holders::hand_over` meets its contract.
-use Prim.Native.Nat.{ℕ, _+_, _-_, _*_, _%_, _^_, _≤_, _<_}
+use Prim.Native.Nat.{ℕ, zero, suc, _+_, _-_, _*_, _%_, _^_, _≤_, _<_}
 use mathlib.Core.Path.{_≡_, ap, _∙_, subst}
-use native.Mathlib.Nat.{suc-mul, mul-le-mul-right}
+use native.Mathlib.Nat.{suc-mul, mul-le-mul-right, pow-succ'}
 use native.Mathlib.Omega.{arith}
 use lib.Pow.{pow-pos}
 use borrow.Author.Needs.{needs}
@@ -48,10 +48,16 @@ shl-lowest-whole c = omega arith
 cast-lowest-whole : tie.Need-cast-lowest-whole
 cast-lowest-whole c = omega arith
 
+-- a node of more than two suffixes has a multiple of four
+fours : (i : ℕ) → 2 < 2 ^ i → 2 ^ i % 4 ≡ 0
+fours zero l = absurd (omega arith)
+fours (suc zero) l = absurd (omega arith)
+fours (suc (suc i)) l = omega (arith, pow-succ' 2 (suc i), pow-succ' 2 i)
+
 lowest-whole-requires : tie.Need-lowest-whole-requires
 lowest-whole-requires c κs =
     let s = c .before .before .before .before .before .before .before .before in
-    rw (nodes-is s) (rw (size-is s) (pow-pos (s .args .m .index), omega (arith, all-is s)))
+    rw (nodes-is s) (rw (size-is s) ((pow-pos (s .args .m .index), omega (arith, all-is s)), fours (s .args .m .index)))
 
 -- what was found
 abbrev begun : tie.After-lowest-whole → tie.Start

@@ -3,7 +3,7 @@ use Prim.Native.Nat.{ℕ, _≤_}
 use mathlib.Core.List.{List, map}
 use mathlib.Core.Path.{_≡_, ap₂, sym, subst}
 use native.Mathlib.Omega.{arith}
-use lib.ListN.{length, take, length-replicate}
+use lib.ListN.{take, length-replicate}
 use lib.Seq.{length-take-le}
 use borrow.Author.Needs.{needs}
 use Rattle.numerals.specs.Limits.{mostKnown}
@@ -89,7 +89,7 @@ returns c =
     let is : labelledBy (s .args .k) (labels n) (weights n)
     ≡ labelledBy (s .args .k) (knownIds (R s) (ids s)) (map (weightOf (ids s) (ws s)) (knownIds (R s) (ids s))) =
     ap₂ (labelledBy (s .args .k)) (n .know .ensures .labels) (n .know .ensures .weighed) in
-    subst (λ (T : Targets). Found T (s .args .tolerance) (R s) (length (R s)) (c .search .result)) is (c .search .ensures)
+    subst (λ (T : Targets). Found T (s .args .tolerance) (R s) (c .search .result)) is (c .search .ensures)
 
 pub find-best-spec : {M : Type 1} → statement M
 find-best-spec =

@@ -50,7 +50,7 @@ returns-2 c =
     )
 
 mul-if2 : tie.Need-mul-if2
-mul-if2 c = omega (arith, c .before .before .find-best .ensures .few)
+mul-if2 c = omega (arith, c .before .before .find-best .ensures .comes .few)
 
 returns-3 : tie.Need-returns-3
 returns-3 c =
@@ -63,7 +63,7 @@ returns-3 c =
     )
 
 store-rules-requires : tie.Need-store-rules-requires
-store-rules-requires c κs = let f = c .before .before .before .before in (f .find-best .ensures .few, omega arith)
+store-rules-requires c κs = let f = c .before .before .before .before in (f .find-best .ensures .comes .few, omega arith)
 
 same-length : tie.Need-same-length
 same-length c = search needs

@@ -1,7 +1,7 @@
--- `resuming::search` meets its contract. The loop's invariant: with more rules than are laid none ends within.
+-- `resuming::search` meets its contract. The loop's invariant: of the numbers above that of the rules that are laid, the best is kept.
 use Prim.Native.Nat.{ℕ, suc, _-_, _/_, _≤_, _<_}
 use mathlib.Core.List.{List, _∷_}
-use mathlib.Core.Logic.{_≢_}
+use mathlib.Core.Logic.{_≢_, ⊎-elim}
 use mathlib.Core.Path.{_≡_, ap, sym, _∙_, subst}
 use native.Mathlib.Omega.{arith}
 use lib.ListN.{length, getD}
@@ -11,7 +11,6 @@ use Rattle.numerals.specs.Limits.{mostBits, mostKnown, mostRules}
 use Rattle.numerals.specs.Suffix.{Places}
 use Rattle.numerals.proofs.Powers.{shifted}
 use Rattle.expansion.specs.OldList.{rulesFrom}
-use Rattle.expansion.specs.Resume.{endsWithin, largestTo}
 use Rattle.expansion.specs.Steps.{oldest}
 use Rattle.expansion.specs.Inner.Known.{placeIn, Ascending}
 use Rattle.expansion.specs.Inner.Laying.{Placed, Held, Had, LaidTo, Starts}
@@ -19,18 +18,21 @@ use Rattle.expansion.specs.Inner.Lists.{noRule}
 use Rattle.expansion.specs.Inner.OldList.{ruleAt, Known, Proper}
 use Rattle.expansion.specs.Inner.Run.{labelledBy, Valid}
 use Rattle.expansion.specs.declared.rule.Rule.{Rule}
+use Rattle.expansion.specs.declared.resuming.Attempt.{Attempt}
+use Rattle.expansion.proofs.KeptBest.{BestAbove, best-taken, best-stays, found-all, found-free}
 use Rattle.expansion.proofs.KeptSearch.{Searched, held-first, next-known, newest-is, newest-held, laid-less}
-use Rattle.expansion.proofs.KeptSearch.{starts-at, found-some, none-less, found-none}
+use Rattle.expansion.proofs.KeptSearch.{searched-none, starts-at, tried-here}
 use Rattle.expansion.proofs.LaidRules.{placed}
 use Rattle.expansion.proofs.OldNumbers.{rules-count}
 use Rattle.expansion.proofs.resuming.search.Statement.{statement}
 use Rattle.expansion.proofs.resuming.search.Tie as tie
 
 abbrev Inv-loop : tie.InvT-loop
-Inv-loop k tolerance old ids weights n places first holder₀ shares₀ list₀ had holder shares list = Searched k tolerance ids weights old holder shares list had
+Inv-loop k tolerance old ids weights n places first holder₀ shares₀ list₀ had whole best₀ holder shares list best =
+    Searched k tolerance ids weights old whole holder shares list had best
 
 abbrev μ-loop : tie.MeasureT-loop
-μ-loop k tolerance old ids weights n places first holder₀ shares₀ list₀ had holder shares list = list .count
+μ-loop k tolerance old ids weights n places first holder₀ shares₀ list₀ had whole best₀ holder shares list best = list .count
 
 module _ (s : tie.Start Inv-loop μ-loop) where
   abbrev ws : List ℕ
@@ -124,97 +126,130 @@ lay-all-requires c κs =
           (star-placed p)),
     )
 
+none-of-requires : tie.Need-none-of-requires Inv-loop μ-loop
+none-of-requires c κs = search needs
+
 loop-holds : tie.Need-loop-holds Inv-loop μ-loop
 loop-holds c =
-    let y = c .before .before .before .before in
+    let y = c .before .before .before .before .before in
     let s = y .before .before .before .before .before .before .before .before .before .before in
-    let R = rulesFrom (cs s) in
-    let list = y .lay-all .result .list in
-    let all = sym (y .lay-all .ensures .0) in
-    record {
-      laid =
-          subst (λ (n : ℕ). LaidTo (s .args .k) (ids s) R n (y .lay-all .last .0) (y .lay-all .last .1 .0) (list .rules) (y .lay-all .result .had)) all
-          (y .lay-all .ensures .1);
-      none = ap (λ (n : ℕ). largestTo n (endsWithin (labelledBy (s .args .k) (ids s) (ws s)) (s .args .tolerance) R)) all;
-    }
+    searched-none (s .args .k) (s .args .tolerance) (ids s) (ws s) (cs s) (proper s) (y .lay-all .last .0) (y .lay-all .last .1 .0) (y .lay-all .result .list)
+    (y .lay-all .result .had) (y .lay-all .ensures .0) (y .lay-all .ensures .1) (c .none-of .result) (c .none-of .ensures)
 
 -- where the loop has come to
 module _ (l : tie.At-loop Inv-loop μ-loop) where
+  abbrev laid-first : tie.After-lay-all Inv-loop μ-loop
+  laid-first = l .before .before .before .before .before .before
+
   abbrev begun : tie.Start Inv-loop μ-loop
-  begun = l .before .before .before .before .before .before .before .before .before .before .before .before .before .before .before
+  begun = laid-first .before .before .before .before .before .before .before .before .before .before
 
   abbrev had : List ℕ
-  had = l .before .before .before .before .before .lay-all .result .had
+  had = laid-first .lay-all .result .had
 
-  abbrev here : Searched (begun .args .k) (begun .args .tolerance) (ids begun) (ws begun) (cs begun) (l .loop .holder) (l .loop .shares) (l .loop .list) had
+  abbrev whole : List ℕ
+  whole = laid-first .lay-all .last .0
+
+  abbrev here :
+      Searched (begun .args .k) (begun .args .tolerance) (ids begun) (ws begun) (cs begun) whole (l .loop .holder) (l .loop .shares) (l .loop .list) had
+      (l .loop .best)
   here = l .loop .inv
 
   starting : Starts (begun .args .k) (begun .args .tolerance) (ids begun) (ws begun) (l .loop .list) (l .loop .holder) (l .loop .shares) (length (cs begun) / 3)
   starting =
       starts-at (begun .args .k) (begun .args .tolerance) (ids begun) (ws begun) (cs begun) (valid begun) (proper begun) (l .loop .holder) (l .loop .shares)
-      (l .loop .list) had here
+      (l .loop .list) had (here .laid)
 
-  abbrev places-are : Places mostBits (l .before .before .before .before .before .before .before .before .before .before .before .all-places .result)
-  places-are = l .before .before .before .before .before .before .before .before .before .before .before .all-places .ensures
+  abbrev places-are : Places mostBits (laid-first .before .before .before .before .before .before .all-places .result)
+  places-are = laid-first .before .before .before .before .before .before .all-places .ensures
 
   few : l .loop .list .count ≤ mostRules
   few = omega (arith, here .laid .inside, proper begun .few)
 
 slice-aggregate-try-kept : tie.Need-slice-aggregate-try-kept Inv-loop μ-loop
-slice-aggregate-try-kept c = sym (here (c .before) .laid .held .long)
+slice-aggregate-try-kept c = sym (here (c .before) .full .1 .wide)
 
 slice-aggregate-try-kept-2 : tie.Need-slice-aggregate-try-kept-2 Inv-loop μ-loop
-slice-aggregate-try-kept-2 c = search needs
+slice-aggregate-try-kept-2 c = sym (here (c .before .before) .laid .held .long)
+
+slice-aggregate-try-kept-3 : tie.Need-slice-aggregate-try-kept-3 Inv-loop μ-loop
+slice-aggregate-try-kept-3 c = search needs
 
 try-kept-requires : tie.Need-try-kept-requires Inv-loop μ-loop
 try-kept-requires c κs =
-    let l = c .before .before in
-    (starting l, places-are l)
+    let l = c .before .before .before in
+    ((starting l, places-are l), here l .full .1 .wide)
+
+is-better-requires : tie.Need-is-better-requires Inv-loop μ-loop
+is-better-requires c κs = search needs
 
 sub-left : tie.Need-sub-left Inv-loop μ-loop
-sub-left c = here (c .before .before .before) .laid .some
+sub-left c = here (c .before .before .before .before .before .before) .laid .some
+
+-- the best with the try that was made
+module _ (b : tie.Joined1 Inv-loop μ-loop) where
+  abbrev turn : tie.At-loop Inv-loop μ-loop
+  turn = b .before .before .before .before .before .before
+
+  abbrev Next : Attempt → Type 0
+  Next =
+      let s = begun turn in
+      BestAbove (labelledBy (s .args .k) (ids s) (ws s)) (s .args .tolerance) (rulesFrom (cs s)) (turn .loop .list .count - 1)
+
+  best-now : Next (b .if1 .best)
+  best-now =
+      let s = begun turn in
+      let l = turn .loop in
+      let T = labelledBy (s .args .k) (ids s) (ws s) in
+      let R = rulesFrom (cs s) in
+      let t = b .before .before .try-kept in
+      let laid = here turn .laid in
+      let M = tried-here (s .args .k) (s .args .tolerance) (ids s) (ws s) (cs s) (valid s) (proper s) (l .holder) (l .shares) (l .list) (had turn) laid
+      (t .result) (t .ensures R (here turn .full .0) (here turn .full .1)) in
+      let j = b .before .is-better in
+      ⊎-elim
+      (λ w. subst Next (sym (w .1))
+      (best-taken T (s .args .tolerance) R (l .list .count) (laid .some) (laid .inside) (l .best) (t .result) (here turn .above) M (j .result) (j .ensures) (w .0 .taken)))
+      (λ w. subst Next (sym (w .1))
+      (best-stays T (s .args .tolerance) R (l .list .count) (laid .some) (laid .inside) (l .best) (t .result) (here turn .above) M (j .result) (j .ensures) (w .0 .left)))
+      (b .if1 .came)
 
 returns : tie.Need-returns Inv-loop μ-loop
 returns c =
-    let t = c .before .before in
-    let l = t .before .before .before in
-    let s = begun l in
-    found-some (s .args .k) (s .args .tolerance) (ids s) (ws s) (cs s) (valid s) (proper s) (l .loop .holder) (l .loop .shares) (l .loop .list) (had l)
-    (here l) (t .try-kept .result) (t .try-kept .ensures) (c .if1 .taken)
+    let d = c .before .before in
+    let b = d .before .before in
+    let s = begun (turn b) in
+    found-free (labelledBy (s .args .k) (ids s) (ws s)) (s .args .tolerance) (rulesFrom (cs s)) (turn b .loop .list .count - 1) (b .if1 .best)
+    (best-now b) (d .if2 .taken) (c .if3 .taken)
 
 returns-2 : tie.Need-returns-2 Inv-loop μ-loop
 returns-2 c =
-    let d = c .before in
-    let t = d .before .before in
-    let l = t .before .before .before in
-    let s = begun l in
-    found-none (s .args .k) (s .args .tolerance) (ids s) (ws s) (cs s) (valid s) (proper s) (l .loop .holder) (l .loop .shares) (l .loop .list) (had l)
-    (here l) (t .try-kept .result) (t .try-kept .ensures) (omega (arith, d .if1 .left)) (c .if2 .taken)
+    let b = c .before .before .before in
+    let s = begun (turn b) in
+    found-all (labelledBy (s .args .k) (ids s) (ws s)) (s .args .tolerance) (rulesFrom (cs s)) (turn b .loop .list .count - 1) (b .if1 .best)
+    (best-now b) (c .if4 .taken)
 
 mul-rule : tie.Need-mul-rule Inv-loop μ-loop
-mul-rule c = omega (arith, few (c .before .before .before .before .before .before))
+mul-rule c = omega (arith, few (turn (c .before .before .before)))
 
 element-copy-out-rule : tie.Need-element-copy-out-rule Inv-loop μ-loop
-element-copy-out-rule c =
-    let l = c .before .before .before .before .before .before in omega (arith, few l, here l .laid .some, here l .laid .long .0)
+element-copy-out-rule c = let l = turn (c .before .before .before) in omega (arith, few l, here l .laid .some, here l .laid .long .0)
 
 slice-aggregate-take-back : tie.Need-slice-aggregate-take-back Inv-loop μ-loop
-slice-aggregate-take-back c = sym (here (c .before .before .before .before .before .before .before .before) .laid .held .wide)
+slice-aggregate-take-back c = sym (here (turn (c .before .before .before .before .before)) .laid .held .wide)
 
 slice-aggregate-take-back-2 : tie.Need-slice-aggregate-take-back-2 Inv-loop μ-loop
-slice-aggregate-take-back-2 c = sym (here (c .before .before .before .before .before .before .before .before .before) .laid .held .long)
+slice-aggregate-take-back-2 c = sym (here (turn (c .before .before .before .before .before .before)) .laid .held .long)
 
 slice-aggregate-take-back-3 : tie.Need-slice-aggregate-take-back-3 Inv-loop μ-loop
-slice-aggregate-take-back-3 c =
-    let l = c .before .before .before .before .before .before .before .before .before .before in
-    sym (places-are l .long)
+slice-aggregate-take-back-3 c = sym (places-are (turn (c .before .before .before .before .before .before .before)) .long)
 
 mul-take-back : tie.Need-mul-take-back Inv-loop μ-loop
-mul-take-back c = omega (arith, few (c .before .before .before .before .before .before .before .before .before .before))
+mul-take-back c = omega (arith, few (turn (c .before .before .before .before .before .before .before)))
 
 array-read-take-back : tie.Need-array-read-take-back Inv-loop μ-loop
 array-read-take-back c =
-    let l = c .before .before .before .before .before .before .before .before .before .before in
+    let l = turn (c .before .before .before .before .before .before .before) in
     omega (arith, few l, here l .laid .some, here l .laid .long .1)
 
 -- a rule that is taken back, where another is left
@@ -257,8 +292,8 @@ module _ (l : tie.At-loop Inv-loop μ-loop) (more : l .loop .list .count - 1 ≢
 take-back-requires : tie.Need-take-back-requires Inv-loop μ-loop
 take-back-requires c κs =
     let f = c .before .before .before .before in
-    let l = f .before .before .before .before .before .before in
-    let more = f .if2 .left in (
+    let l = turn (f .before .before .before) in
+    let more = f .if4 .left in (
       (ids (begun l), rs l more, (ascending (begun l), (held l more, before l more))),
       (
         valid (begun l) .few-bits,
@@ -268,30 +303,27 @@ take-back-requires c κs =
 
 loop-less : tie.Need-loop-less Inv-loop μ-loop
 loop-less c =
-    let f = c .before .before .before .before .before .before .before in
-    let l = f .before .before .before .before .before .before in
+    let l = turn (c .before .before .before .before .before .before .before .before .before .before) in
     omega (arith, here l .laid .some)
 
 loop-again : tie.Need-loop-again Inv-loop μ-loop
 loop-again c =
-    let b = c .before .before in
-    let f = b .before .before .before .before .before in
-    let d = f .before in
-    let t = d .before .before in
-    let l = t .before .before .before in
-    let more = f .if2 .left in
+    let t = c .before .before in
+    let f = t .before .before .before .before .before in
+    let b = f .before .before .before in
+    let l = turn b in
+    let more = f .if4 .left in
     let o = l .loop in
     let s = begun l in
-    let h′ = b .take-back .last .0 in
-    let s′ = b .take-back .last .1 .0 in
-    let less = b .take-back .ensures (ids s) (rs l more) (ascending s) (held l more) (before l more) in
+    let h′ = t .take-back .last .0 in
+    let s′ = t .take-back .last .1 .0 in
+    let less = t .take-back .ensures (ids s) (rs l more) (ascending s) (held l more) (before l more) in
     record {
       laid =
           laid-less (s .args .k) (ids s) (cs s) (proper s) (o .list .count - 1) (o .holder) (o .shares) (o .list .rules) (had l) h′ s′ (laid l more)
           (some l more) less;
-      none =
-          none-less (s .args .k) (s .args .tolerance) (ids s) (ws s) (cs s) (valid s) (proper s) (o .holder) (o .shares) (o .list) (had l) (here l)
-          (t .try-kept .result) (t .try-kept .ensures) (omega (arith, d .if1 .left));
+      full = here l .full;
+      above = best-now b;
     }
 
 pub search-spec : {M : Type 1} → statement M
@@ -312,10 +344,13 @@ search-spec =
     slice-aggregate-lay-all-2
     slice-aggregate-lay-all-3
     lay-all-requires
+    none-of-requires
     loop-holds
     slice-aggregate-try-kept
     slice-aggregate-try-kept-2
+    slice-aggregate-try-kept-3
     try-kept-requires
+    is-better-requires
     sub-left
     returns
     returns-2

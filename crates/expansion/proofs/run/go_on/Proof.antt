@@ -1,13 +1,14 @@
 -- `run::go_on` meets its contract. The loop's invariant: in each frame in which state and list stood at the start, they stand after some turns.
-use Prim.Native.Nat.{ℕ, suc, _+_, _-_, _≤_, _<_}
+use Prim.Native.Nat.{ℕ, suc, _-_, _≤_, _<_}
 use mathlib.Core.List.{List}
 use mathlib.Core.Path.{_≡_, sym, _∙_, subst}
 use native.Mathlib.Omega.{arith}
 use lib.ListN.{length, length-set, length-map}
 use borrow.Author.Needs.{needs}
-use Rattle.numerals.specs.Limits.{mostKnown, mostRules, mostSuffixes}
+use Rattle.numerals.specs.Limits.{mostRules}
 use Rattle.expansion.specs.Steps.{Frame, after}
 use Rattle.expansion.specs.KeptShares.{SharesKept}
+use Rattle.expansion.specs.Inner.Holders.{Holds}
 use Rattle.expansion.specs.Inner.Lists.{Listed}
 use Rattle.expansion.specs.Inner.Run.{framed, Stands}
 use Rattle.expansion.specs.declared.rule.Rule.{Rule}
@@ -100,8 +101,9 @@ returns c =
     let made = made-ended F (now .0) (l .holder) (l .low) (l .state) (now .1 .stands) (l .list) (now .1 .listed) (a .budget) (l .inv .1 .0)
     (t .next .given .0 .0) (sym (b .in-budget .ensures) ∙ t .next .given .1) in (
       made,
-      subst (λ (rs : List Rule). SharesKept (F .targets) rs (a .t5 .count) (a .state .ledger) (l .state .ledger))
-          (sym (now .1 .listed .rules) ∙ made .rules) (now .2),
+      subst (λ (rs : List Rule). SharesKept (F .targets) rs (a .t5 .count) (a .state .ledger) (l .state .ledger)
+          × Holds (F .targets) rs (l .holder) (l .low))
+          (sym (now .1 .listed .rules) ∙ made .rules) (now .2, now .1 .stands .holds),
     )
 
 enum-known-next-2 : tie.Need-enum-known-next-2 Inv-loop μ-loop

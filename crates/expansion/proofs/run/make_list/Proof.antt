@@ -150,7 +150,7 @@ returns c =
       (
         begun o .ledger,
         subst (λ (c : ℕ). SharesKept (F (h o) .targets) (listOf (F (h o)) (z .args .budget)) c (begun o .ledger) (g .go-on .result .kept))
-            (ap (λ (l : RuleList). l .count) (o .of-one .ensures)) (r .1),
+            (ap (λ (l : RuleList). l .count) (o .of-one .ensures)) (r .1 .0),
       ),
     )
 

@@ -1,2 +1,0 @@
--- The contracts of inner functions.
-pub mod Spread
