@@ -1,4 +1,4 @@
-"""Percentage sheets for measuring: random weights that sum to 100 percent, the same for the same seed."""
+"""Sheets for measuring. Percentage sheets have random weights that sum to 100 percent, the same for the same seed."""
 import random
 
 
@@ -34,3 +34,12 @@ def sheet(services, backends, k, capacity, tolerance="0", seed=1, ids=None):
         row = weights(rng, backends)
         lines.append(service(rng.randrange(1, 10001), ids, row))
     return ("\n".join(lines) + "\n").encode()
+
+
+def scattered(k, ids, first):
+    """A rule sheet of one service whose stages have many lines: suffixes of k bits far apart in the order of places, from this place on, then `*`."""
+    step = 2 ** k // len(ids)
+    places = [first + step * n for n in range(len(ids) - 1)]
+    lines = ["TABLE %d %d 0" % (k, len(ids))]
+    lines += ["1 *%s %d" % (format(place, "0%db" % k)[::-1], i) for place, i in zip(places, ids)]
+    return ("\n".join([*lines, "1 * %d" % ids[-1]]) + "\n").encode()

@@ -1,5 +1,5 @@
 /* Gulmorzon for C: split a percentage sheet, look an address up, count the churn between two rule sheets, read the gauges
- * of a backend, put new weights on a service's rules.
+ * of a backend, put new weights on a service's rules, cut a change into stages.
  *
  * Link target/staticlib/libgulmorzon.a, which `rt staticlib gulmorzon` proves and builds for x86-64 Linux. It needs memcpy
  * and memset and nothing else. What each call answers and writes is proved for every input; the contracts stand in
@@ -13,7 +13,7 @@
  *   - its rounding mode is C's default, to nearest (in another one a gauge of 0 may be -0).
  * The calls keep nothing between them and allocate nothing: threads may call at the same time.
  *
- * Texts are bytes with a length; a zero byte does not end them. Lengths of figures, table and rules are counted in
+ * Texts are bytes with a length; a zero byte does not end them. Lengths of figures, table, rules and places are counted in
  * numbers. In every call a service has the number that is printed for it, from 1 to GULMORZON_SERVICES, and a backend its id,
  * as the sheets have it, from 1 to GULMORZON_ID.
  */
@@ -36,6 +36,8 @@ extern "C" {
 #define GULMORZON_FIGURES 192  /* 64 services, three numbers each */
 #define GULMORZON_TABLE 8192   /* 2,048 rules, four numbers each */
 #define GULMORZON_RULES 96     /* 32 rules, three numbers each */
+#define GULMORZON_PLACES 4096  /* 4,096 stages, one number each */
+#define GULMORZON_STAGE 45056  /* bytes of a stage's list: 2,048 lines of at most 22 */
 
 #define GULMORZON_STACK 262144
 
@@ -44,7 +46,8 @@ extern "C" {
 #define GULMORZON_ID 9999
 #define GULMORZON_BACKENDS 32
 
-/* An answer's number: 0, or why the call was refused (document 01, "Turned-back work"; 13 is document 02's, Req 03). */
+/* An answer's number: 0, or why the call was refused (document 01, "Turned-back work"; 13 and 14 are document 02's, Req
+ * 03 and 06). */
 enum gulmorzon_number {
     GULMORZON_ANSWERED = 0,
     GULMORZON_MALFORMED = 1,       /* LF missing, keyword wrong, or too few or too many fields */
@@ -59,12 +62,13 @@ enum gulmorzon_number {
     GULMORZON_ORDER = 9,           /* a rule line out of order */
     GULMORZON_MISCOUNT = 10,       /* n isn't the number of rule lines */
     GULMORZON_TOO_LONG = 11,       /* a text over 65,536 bytes */
-    GULMORZON_DEPTH = 12,          /* two sheets of unlike k, for churn or an update */
-    GULMORZON_STUCK = 13           /* no kept rules lead to a list within tolerance */
+    GULMORZON_DEPTH = 12,          /* two sheets of unlike k, for churn, an update or stages */
+    GULMORZON_STUCK = 13,          /* no kept rules lead to a list within tolerance */
+    GULMORZON_CROWDED = 14         /* a stage's list has more lines than the capacity */
 };
 
 /* Answered: number 0 and the value; line and sheet are 0. Refused: the number, the line from 1 or 0 where no line is the
- * reason, and for churn the sheet, 1 or 2, or 0 for neither; the value is 0. A refused call has written nothing. */
+ * reason, and for churn and stages the sheet, 1 or 2, or 0 for neither; the value is 0. A refused call has written nothing. */
 struct gulmorzon_answer {
     size_t number;
     size_t line;
@@ -173,6 +177,30 @@ struct gulmorzon_plan_answer gulmorzon_plan(const char *text, size_t text_len, s
  * as a rule sheet would have them. The rest of it stays as it was. */
 struct gulmorzon_update_answer gulmorzon_update(const char *old_text, size_t old_len, const char *sheet_text,
                                                 size_t sheet_len, size_t service, size_t *rules, size_t rules_len);
+
+/* A change in stages: from a service's rules in one rule sheet to those in another of equal k, with at most limit suffixes
+ * moved by a stage. The 2^k suffixes have places, by their bits from the last to the first. A stage has the new backends below
+ * a place and the old ones from it on, so it is named by that place. Each ends at the largest place whose churn from the stage
+ * before (the first: from the old table) is within the limit; the last place is 2^k, where the stage is the new table. No other
+ * row of places within the limit that ends at 2^k has fewer stages. Writes the places from the start of places; the value is
+ * how many stages there are, from 1 on. The rest of places stays as it was.
+ *
+ * Both rule sheets are read wholly, the old one first: their own refusals have their line and sheet. After these come, with line
+ * 0: 8 with the first sheet that lacks the service; and with sheet 0 too, in this order, 12; 2 for a limit outside 1 to 4,096 or
+ * a capacity outside 1 to 2,048; 14 where the list of some stage has more lines than the capacity (the old table is no stage);
+ * 7 where places is too short. */
+struct gulmorzon_answer gulmorzon_stages(const char *old_text, size_t old_len, const char *new_text, size_t new_len,
+                                         size_t service, size_t limit, size_t capacity, size_t *places, size_t places_len);
+
+/* One of these stages, by its number from 1, as a list for the switch: `service suffix backend` lines of the largest suffixes
+ * that one backend holds, by the lowest place that each covers. No two of them match one address, so their order makes no
+ * difference; it is no rule sheet, and no call reads it. Writes it from the start of out; the value is its number of bytes, no
+ * zero byte is added, and the rest of out stays as it was.
+ *
+ * Refused as gulmorzon_stages is: a number that no stage has is 2 too, and 14 is for any stage of the row, not only this one. */
+struct gulmorzon_answer gulmorzon_stage(const char *old_text, size_t old_len, const char *new_text, size_t new_len,
+                                        size_t service, size_t limit, size_t capacity, size_t number, char *out,
+                                        size_t out_len);
 
 #ifdef __cplusplus
 }

@@ -1,6 +1,6 @@
 /* A tool of an operator's own that calls Gulmorzon. It splits two sheets, looks addresses up, counts the churn between the
- * two tables, plans a third sheet in numbers, reads gauges, puts new weights on a service's rules and shows refusals and
- * short buffers. Each answer is printed and checked: the exit status is 1 if one is wrong. */
+ * two tables, plans a third sheet in numbers, reads gauges, puts new weights on a service's rules, cuts a change into stages
+ * and shows refusals and short buffers. Each answer is printed and checked: the exit status is 1 if one is wrong. */
 #include "gulmorzon.h"
 
 #include <math.h>
@@ -45,6 +45,14 @@
 #define NEW_RULES {5, 10, 700, 4, 2, 40, 2, 0, 700, 0, 0, 9999}
 #define RETIRED_RULES {3, 0, 40, 1, 1, 3, 1, 0, 700, 0, 0, 9999}
 #define CALM_RULES {2, 0, 40, 0, 0, 9999}
+
+/* A change in stages. From AGED to NEXT 13 suffixes of service 2 move, at the places 0 to 4 and 8 to 15. With a limit of 6 the
+ * stages end at the places 9, 15 and 32 and have 6, 6 and 3 lines. */
+#define NEXT "TABLE 5 3 0\n1 * 8\n2 *00 700\n2 * 9999\n"
+#define LONE "TABLE 5 1 0\n1 * 8\n"
+#define PLACES {9, 15, 32}
+#define FIRST_STAGE "2 *00 700\n2 *00010 9999\n2 *10010 700\n2 *1010 700\n2 *110 700\n2 *1 9999\n"
+#define LAST_STAGE "2 *00 700\n2 *10 9999\n2 *1 9999\n"
 
 #define LEN(text) (sizeof(text) - 1)
 
@@ -288,6 +296,76 @@ static void updates(void)
     update_to("update, the lowest churn with one rule kept", len, CALM, LEN(CALM), 2, 6, calm, calm_rules);
 }
 
+/* The row of places of service 2 from AGED to another table, with room for so many: the first ones of PLACES, or nothing
+ * written. */
+static void row(const char *what, size_t len, const char *next, size_t next_len, size_t limit, size_t capacity, size_t room,
+                size_t number, size_t line, size_t sheet, size_t value)
+{
+    static const size_t want[] = PLACES;
+    static size_t places[GULMORZON_PLACES];
+    fresh(places, sizeof places);
+    struct gulmorzon_answer a = gulmorzon_stages(AGED, len, next, next_len, 2, limit, capacity, places, room);
+    size_t end = value * sizeof places[0];
+    expect(what, a, number, line, sheet, value);
+    check("places", memcmp(places, want, end) == 0 && untouched(places, end, sizeof places));
+}
+
+static void rows(void)
+{
+    size_t len = LEN(AGED), next = LEN(NEXT), all = GULMORZON_PLACES;
+    row("stages", len, NEXT, next, 6, 2048, all, 0, 0, 0, 3);
+    row("stages, just enough lines and room", len, NEXT, next, 6, 6, 3, 0, 0, 0, 3);
+    row("stages, places too short", len, NEXT, next, 6, 6, 2, GULMORZON_SHORT_LOAN, 0, 0, 0);
+    row("stages, crowded, no room", len, NEXT, next, 6, 5, 0, GULMORZON_CROWDED, 0, 0, 0);
+    row("stages, both sheets cut", len - 1, NEXT, next - 1, 0, 0, 0, GULMORZON_MALFORMED, 6, 1, 0);
+    row("stages, the second sheet cut", len, NEXT, next - 1, 0, 0, 0, GULMORZON_MALFORMED, 4, 2, 0);
+    row("stages, no such service in the second", len, LONE, LEN(LONE), 0, 0, 0, GULMORZON_UNKNOWN_SERVICE, 0, 2, 0);
+    row("stages, unlike k", len, "TABLE 6 1 0\n2 * 1\n", 18, 0, 0, 0, GULMORZON_DEPTH, 0, 0, 0);
+    row("stages, limit 0", len, NEXT, next, 0, 5, 0, GULMORZON_BAD_FIELD, 0, 0, 0);
+    row("stages, limit 4,097", len, NEXT, next, 4097, 5, 0, GULMORZON_BAD_FIELD, 0, 0, 0);
+    row("stages, capacity 0", len, NEXT, next, 6, 0, 0, GULMORZON_BAD_FIELD, 0, 0, 0);
+    row("stages, capacity 2,049", len, NEXT, next, 6, 2049, 0, GULMORZON_BAD_FIELD, 0, 0, 0);
+}
+
+/* One stage of this change, with room for so many bytes: its text, or nothing written. */
+static void stage(const char *what, size_t capacity, size_t stage_number, size_t room, const char *want, size_t want_len,
+                  size_t number)
+{
+    static char out[GULMORZON_STAGE];
+    fresh(out, sizeof out);
+    struct gulmorzon_answer a =
+        gulmorzon_stage(AGED, LEN(AGED), NEXT, LEN(NEXT), 2, 6, capacity, stage_number, out, room);
+    expect(what, a, number, 0, 0, want_len);
+    fwrite(out, 1, want_len, stdout);
+    check("the lines", memcmp(out, want, want_len) == 0 && untouched(out, want_len, sizeof out));
+}
+
+/* The most stages: k 12, every suffix moved, one by one. */
+static void deepest(void)
+{
+    static const char before[] = "TABLE 12 1 0\n64 * 1\n", after[] = "TABLE 12 1 0\n64 * 9999\n";
+    static size_t places[GULMORZON_PLACES];
+    static char out[GULMORZON_STAGE];
+    expect("stages, every suffix of 12 bits",
+           gulmorzon_stages(before, LEN(before), after, LEN(after), 64, 1, 13, places, GULMORZON_PLACES), 0, 0, 0, 4096);
+    check("its places", places[0] == 1 && places[4094] == 4095 && places[4095] == 4096);
+    expect("the last stage but one",
+           gulmorzon_stage(before, LEN(before), after, LEN(after), 64, 1, 13, 4095, out, sizeof out), 0, 0, 0, 217);
+    fwrite(out, 1, LEN("64 *0 9999\n"), stdout);
+}
+
+static void stages(void)
+{
+    size_t all = GULMORZON_STAGE, first = LEN(FIRST_STAGE);
+    stage("the first stage", 2048, 1, all, FIRST_STAGE, first, 0);
+    stage("the last stage, just enough lines", 6, 3, all, LAST_STAGE, LEN(LAST_STAGE), 0);
+    stage("the first stage, just enough room", 6, 1, first, FIRST_STAGE, first, 0);
+    stage("the first stage, a byte too few", 6, 1, first - 1, "", 0, GULMORZON_SHORT_LOAN);
+    stage("the last stage, another is crowded", 5, 3, 0, "", 0, GULMORZON_CROWDED);
+    stage("stage 0", 5, 0, 0, "", 0, GULMORZON_BAD_FIELD);
+    stage("stage 4", 5, 4, 0, "", 0, GULMORZON_BAD_FIELD);
+}
+
 int main(void)
 {
     splits();
@@ -297,5 +375,8 @@ int main(void)
     records();
     readings();
     updates();
+    rows();
+    stages();
+    deepest();
     return wrong;
 }

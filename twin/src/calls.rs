@@ -58,6 +58,16 @@ impl fmt::Display for PairRefusal {
 
 /// Churn: how many k-bit suffixes of a service have backends of unlike ids.
 pub fn churn(first: &[u8], second: &[u8], service: u64) -> Result<u64, PairRefusal> {
+    let (old, new) = two_tables(first, second, service)?;
+    Ok(unlike(&old, &new, service))
+}
+
+/// The tables of two sheets, of like k and both with the service.
+pub fn two_tables(
+    first: &[u8],
+    second: &[u8],
+    service: u64,
+) -> Result<(Table, Table), PairRefusal> {
     let about = |which: u8| move |refusal: Refusal| PairRefusal { refusal, which };
     let old = rule_sheet::read(first).map_err(about(1))?;
     let new = rule_sheet::read(second).map_err(about(2))?;
@@ -69,7 +79,7 @@ pub fn churn(first: &[u8], second: &[u8], service: u64) -> Result<u64, PairRefus
     if old.k != new.k {
         return Err(about(0)(Reason::Depth.at(0)));
     }
-    Ok(unlike(&old, &new, service))
+    Ok((old, new))
 }
 
 /// The number of suffixes whose backend differs, for tables of like k.

@@ -3,9 +3,10 @@
 
 use crate::calls::{churn, lookup, program};
 use crate::gauges::fractions;
-use crate::limits::{MOST_BYTES, MOST_RULES};
+use crate::limits::{MOST_BYTES, MOST_MOVED, MOST_RULES};
 use crate::numerals::{read_number, read_numeral};
 use crate::rule_sheet::push_line;
+use crate::stages::{stage, stages, Change};
 use crate::suffix::Suffix;
 use crate::update::update_sheets;
 use std::ffi::OsStr;
@@ -19,9 +20,12 @@ pub const USAGE: &str = "usage: twin [split SHEET]
        twin lookup TABLE SERVICE ADDRESS
        twin churn OLD NEW SERVICE
        twin update OLD SHEET SERVICE
+       twin stages OLD NEW SERVICE LIMIT CAPACITY
+       twin stage OLD NEW SERVICE LIMIT CAPACITY NUMBER
        twin gauge TABLE SERVICE VOLUME BACKEND
-SHEET, TABLE, OLD and NEW are files, - is standard input (once); SERVICE and
-VOLUME are numbers, BACKEND is an id, ADDRESS is a number or a dotted quad.";
+SHEET, TABLE, OLD and NEW are files, - is standard input (once); SERVICE, LIMIT,
+CAPACITY, NUMBER and VOLUME are numbers, BACKEND is an id, ADDRESS is a number or
+a dotted quad.";
 
 /// The file name that stands for standard input.
 const INPUT: &[u8] = b"-";
@@ -47,12 +51,55 @@ pub enum Command<'a> {
         sheet: &'a [u8],
         service: u64,
     },
+    Stages(Cut<'a>),
+    Stage(Cut<'a>, u64),
     Gauge {
         table: &'a [u8],
         service: u64,
         volume: u64,
         backend: u64,
     },
+}
+
+/// A change in stages, its tables by their files.
+#[derive(Clone, Copy, PartialEq, Eq, Debug)]
+pub struct Cut<'a> {
+    old: &'a [u8],
+    new: &'a [u8],
+    service: u64,
+    limit: u64,
+    capacity: u64,
+}
+
+impl<'a> Cut<'a> {
+    /// Nothing if a word is no numeral, or if standard input is named twice.
+    fn of(old: &'a [u8], new: &'a [u8], words: [&[u8]; 3]) -> Option<Cut<'a>> {
+        let [service, limit, capacity] = words;
+        (old != INPUT || new != INPUT).then_some(())?;
+        Some(Cut {
+            old,
+            new,
+            service: read_numeral(service)?,
+            limit: read_numeral(limit)?,
+            capacity: read_numeral(capacity)?,
+        })
+    }
+
+    /// What is printed of it, once both files are read.
+    fn read(
+        self,
+        read: impl Fn(&[u8]) -> Result<Vec<u8>, String>,
+        print: impl Fn(&Change) -> Vec<u8>,
+    ) -> Result<Vec<u8>, String> {
+        let (old, new) = (read(self.old)?, read(self.new)?);
+        Ok(print(&Change {
+            old: &old,
+            new: &new,
+            service: self.service,
+            limit: self.limit,
+            capacity: self.capacity,
+        }))
+    }
 }
 
 impl<'a> Command<'a> {
@@ -78,6 +125,14 @@ impl<'a> Command<'a> {
                     sheet,
                     service,
                 })
+            }
+            [b"stages", old, new, service, limit, capacity] => {
+                let cut = Cut::of(old, new, [service, limit, capacity])?;
+                Some(Command::Stages(cut))
+            }
+            [b"stage", old, new, service, limit, capacity, number] => {
+                let cut = Cut::of(old, new, [service, limit, capacity])?;
+                Some(Command::Stage(cut, read_numeral(number)?))
             }
             [b"gauge", table, service, volume, backend] => Some(Command::Gauge {
                 table,
@@ -110,6 +165,8 @@ impl<'a> Command<'a> {
                 let (old, sheet) = (read(old)?, read(sheet)?);
                 updated(&old, &sheet, service)
             }
+            Command::Stages(cut) => cut.read(read, places)?,
+            Command::Stage(cut, number) => cut.read(read, |change| lines(change, number))?,
             Command::Gauge {
                 table,
                 service,
@@ -143,6 +200,29 @@ fn updated(old: &[u8], sheet: &[u8], service: u64) -> Vec<u8> {
     for &[length, value, backend] in list {
         let suffix = Suffix::new(length, value).expect("a rule has a suffix");
         push_line(service, suffix, backend, &mut text);
+    }
+    text
+}
+
+/// The places at which a change is cut, one on a line; or the refusal.
+fn places(change: &Change) -> Vec<u8> {
+    // Each stage but the last moves a suffix, and there are no more.
+    let mut row = [0; MOST_MOVED as usize];
+    match stages(change, &mut row) {
+        Ok(count) => row[..count]
+            .iter()
+            .flat_map(|place| format!("{place}\n").into_bytes())
+            .collect(),
+        Err(refusal) => format!("{refusal}\n").into_bytes(),
+    }
+}
+
+/// The lines of one stage of a change; or the refusal.
+fn lines(change: &Change, number: u64) -> Vec<u8> {
+    let mut text = vec![0; MOST_BYTES];
+    match stage(change, number, &mut text) {
+        Ok(length) => text.truncate(length),
+        Err(refusal) => text = format!("{refusal}\n").into_bytes(),
     }
     text
 }
@@ -188,11 +268,13 @@ mod tests {
         Command::of(&words)
     }
 
-    /// What is printed where the file `-` is the sample's rule sheet, `s` its
-    /// percentage sheet, `x` has nothing in it, and no other file is there.
+    /// What is printed where the file `-` is the sample's rule sheet, `n` one with
+    /// another backend, `s` its percentage sheet, `x` has nothing in it, and no
+    /// other file is there.
     fn said(words: &str) -> Result<String, String> {
         let read = |name: &[u8]| match name {
             b"-" => Ok(RULES.as_bytes().to_vec()),
+            b"n" => Ok(RULES.replace("*0 1", "*0 4").into_bytes()),
             b"s" => Ok(SHEET.as_bytes().to_vec()),
             b"x" => Ok(Vec::new()),
             _ => Err("no file".to_string()),
@@ -233,6 +315,47 @@ mod tests {
         }
     }
 
+    /// Service 2 of the sample has, by place, 2 and 1 in turn and then 3; in `n` it
+    /// has 4 in place of 1.
+    #[test]
+    fn stages_are_printed_by_their_places_and_lines() {
+        let (first, last) = (
+            "2 *00 2\n2 *010 4\n2 *110 1\n2 *1 3\n",
+            "2 *00 2\n2 *10 4\n2 *1 3\n",
+        );
+        let long = "18446744073709551617".repeat(9);
+        for (words, expected) in [
+            ("stages - n 2 4 4", "12\n32\n"),
+            ("stages - n 2 8 3", "32\n"),
+            ("stages - n 2 4096 2048", "32\n"),
+            ("stages - n 1 1 2", "32\n"),
+            ("stages n - 2 4 4", "12\n32\n"),
+            ("stages - n 2 4 3", "REFUSED 14 0 0\n"),
+            ("stages - n 2 0 3", "REFUSED 2 0 0\n"),
+            ("stages - n 2 4 2049", "REFUSED 2 0 0\n"),
+            ("stages - n 3 0 0", "REFUSED 8 0 1\n"),
+            ("stages x n 3 0 0", "REFUSED 1 1 1\n"),
+            ("stages n x 3 0 0", "REFUSED 1 1 2\n"),
+            ("stages n n 2 1 3", "32\n"),
+            ("stage - n 2 4 4 1", first),
+            ("stage - n 2 4 4 2", last),
+            ("stage - n 2 8 3 1", last),
+            ("stage - n 2 4 4 3", "REFUSED 2 0 0\n"),
+            ("stage - n 2 4 3 0", "REFUSED 2 0 0\n"),
+            ("stage - n 2 4 3 1", "REFUSED 14 0 0\n"),
+            ("stage - n 2 4 4 18446744073709551617", "REFUSED 2 0 0\n"),
+            (&format!("stage - n 2 4 4 {long}"), "REFUSED 2 0 0\n"),
+            (&format!("stages - n 2 4 {long}"), "REFUSED 2 0 0\n"),
+            (&format!("stages - n 2 {long} 4"), "REFUSED 2 0 0\n"),
+            (
+                &format!("stages - n {long} {long} {long}"),
+                "REFUSED 8 0 1\n",
+            ),
+        ] {
+            assert_eq!(said(words).unwrap(), expected, "{words}");
+        }
+    }
+
     #[test]
     fn gauges_are_printed_as_exact_decimals() {
         for (words, expected) in [
@@ -270,6 +393,10 @@ mod tests {
             "churn y x 1",
             "update x y 1",
             "update y x 1",
+            "stages x y 1 0 0",
+            "stages y x 1 0 0",
+            "stage x y 1 0 0 0",
+            "stage y x 1 0 0 0",
             "lookup y 1 1",
             "split y",
             "gauge y 1 1 1",
@@ -301,6 +428,20 @@ mod tests {
             "update x x 01",
             "update x x +1",
             "update - - 1",
+            "stages",
+            "stages x x 1 1",
+            "stages x x 1 1 1 1",
+            "stages - - 1 1 1",
+            "stages x x 01 1 1",
+            "stages x x 1 -1 1",
+            "stages x x 1 1 1.0",
+            "stage x x 1 1 1",
+            "stage x x 1 1 1 1 1",
+            "stage - - 1 1 1 1",
+            "stage x x x 1 1 1",
+            "stage x x 1 00 1 1",
+            "stage x x 1 1 +1 1",
+            "stage x x 1 1 1 ",
             "gauge",
             "gauge x 1 1",
             "gauge x 1 1 1 1",

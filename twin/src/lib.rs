@@ -1,4 +1,4 @@
-//! The Rust twin: document 01, and requests 01, 03, 04 and 05 of document 02,
+//! The Rust twin: document 01, and requests 01 and 03 to 06 of document 02,
 //! written once more, to be tried against.
 
 pub mod calls;
@@ -18,6 +18,8 @@ pub mod packing;
 pub mod percentage_sheet;
 #[cfg(test)]
 mod plain;
+#[cfg(test)]
+mod plain_stages;
 pub mod plan;
 pub mod random;
 pub mod refusal;
@@ -25,6 +27,7 @@ pub mod rows;
 pub mod rule_sheet;
 pub mod services;
 pub mod sheet_lines;
+pub mod stages;
 pub mod start;
 pub mod suffix;
 pub mod table;

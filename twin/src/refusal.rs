@@ -31,6 +31,8 @@ pub enum Reason {
     Depth = 12,
     /// No number of kept rules ends within the tolerance.
     Stuck = 13,
+    /// The list of some stage has more lines than the capacity.
+    Crowded = 14,
 }
 
 impl Reason {

@@ -28,7 +28,7 @@ none-above k n before [] h m = refl
 none-above k n before (l ∷ ls) h m =
     rw (ne-eqb (l .service) n (λ e. omega (arith, formed k l (h .0 .form) .service))) (none-above k n (l ∷ before) ls (h .1) m)
 
-unknown : (text : List ℕ) (t : Table) → readTable text ≡ got t → (n : ℕ) → mostServices < n → hasService t n ≡ false
+pub unknown : (text : List ℕ) (t : Table) → readTable text ≡ got t → (n : ℕ) → mostServices < n → hasService t n ≡ false
 unfolding hasService
 unknown text t e n h = rw (none-above (t .k) n [] (t .lines) (read-proper text t e .sorted) h)
 

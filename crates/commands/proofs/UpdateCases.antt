@@ -12,6 +12,7 @@ use Rattle.numerals.specs.Refusals.{numberOf}
 use Rattle.expansion.specs.Answer.{inLimits}
 use Rattle.expansion.specs.OldList.{rulesFrom}
 use Rattle.packing.specs.Count.{ownRules}
+use Rattle.packing.specs.Table.{linesOf}
 use Rattle.sheets.specs.Cases.{bytes}
 use Rattle.sheets.specs.Reading.{then, unless, onField, same}
 use Rattle.sheets.specs.FirstLine.{firstLine, openingLines, openingFields}
@@ -25,7 +26,7 @@ use Rattle.update.specs.declared.answer.SheetUpdated.the-variants.{Made}
 use Rattle.commands.specs.Said.{Said, prints, noNumber, onNumber}
 use Rattle.commands.specs.Refused.{numberText, refusal, refusedOfText}
 use Rattle.commands.specs.Numeral.{numeral}
-use Rattle.commands.specs.Update.{updateHead, linesOf, updatedText, updateText, updateSays}
+use Rattle.commands.specs.Update.{updateHead, updatedText, updateText, updateSays}
 
 abbrev text : String → Said
 text s = prints (bytes s)

@@ -18,12 +18,13 @@ use Rattle.expansion.specs.FirstMatch.{isRule}
 use Rattle.expansion.specs.OldList.{rulesFrom}
 use Rattle.expansion.specs.Inner.OldList.{ruleAt}
 use Rattle.expansion.specs.declared.rule.Rule.{Rule}
+use Rattle.packing.specs.Table.{linesOf}
 use Rattle.sheets.specs.Cases.{bytes}
 use Rattle.sheets.specs.RuleSheet.{lineText, linesText}
 use Rattle.sheets.specs.Inner.Writing.{Wrote, Before, endAt}
 use Rattle.sheets.proofs.Writes.{text, before-end}
 use Rattle.update.specs.declared.answer.Update.{Update}
-use Rattle.commands.specs.Update.{updateHead, linesOf}
+use Rattle.commands.specs.Update.{updateHead}
 use Rattle.commands.specs.Inner.Update.{lineOf, rulesIn, Rules, suffixRoom}
 
 -- UPDATE and a space

@@ -1,4 +1,5 @@
 -- The contracts of inner functions.
 pub mod Gauge
 pub mod Numeral
+pub mod Stages
 pub mod Update

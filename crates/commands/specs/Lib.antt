@@ -8,6 +8,7 @@ pub mod Split
 pub mod Lookup
 pub mod Churn
 pub mod Update
+pub mod Stages
 pub mod Gauge
 pub mod Help
 pub mod Inner

@@ -5,7 +5,7 @@ use Rattle.numerals.specs.Limits.{mostRules}
 use Rattle.numerals.specs.Decimal.{decimal}
 use Rattle.expansion.specs.OldList.{rulesFrom}
 use Rattle.expansion.specs.declared.rule.Rule.{Rule}
-use Rattle.packing.specs.Count.{Line}
+use Rattle.packing.specs.Table.{linesOf}
 use Rattle.sheets.specs.Cases.{bytes}
 use Rattle.sheets.specs.RuleSheet.{linesText}
 use Rattle.update.specs.Sheets.{sheetsAnswer, sheetsNumbers}
@@ -20,11 +20,6 @@ use Rattle.commands.specs.Numeral.{numeral}
 unfoldable pub updateHead : Update → List ℕ
 updateHead u =
     bytes "UPDATE " ++ decimal (u .k) ++ 32 ∷ decimal (u .kept) ++ 32 ∷ decimal (u .rules) ++ 32 ∷ decimal (u .churn) ++ 10 ∷ []
-
--- the rules as lines of service n, in their order
-unfoldable pub linesOf : ℕ → List Rule → List Line
-linesOf n [] = []
-linesOf n (r ∷ rs) = record { service = n; rule = r } ∷ linesOf n rs
 
 -- behind that, the service's lines as in a rule sheet, the newest rule first; or a refusal and the sheet that it is about
 unfoldable pub updatedText : SheetUpdated → ℕ → List Rule → List ℕ

@@ -5,6 +5,8 @@ pub enum Command {
     Lookup,
     Churn,
     Update,
+    Stages,
+    Stage,
     Gauge,
     Help,
     Unknown,

@@ -40,6 +40,12 @@ pub fn command(word: &[u8]) -> Command
     if same(word, b"update") {
         return Command::Update;
     }
+    if same(word, b"stages") {
+        return Command::Stages;
+    }
+    if same(word, b"stage") {
+        return Command::Stage;
+    }
     if same(word, b"gauge") {
         return Command::Gauge;
     }
@@ -57,15 +63,17 @@ pub fn help(out: &mut [u8; crate::ROOM]) -> usize
     put_bytes(
         out,
         0,
-        b"splitter                                     a percentage sheet on standard input: its rule sheet\n    splitter < figure-9.sheet\n\
-splitter split SHEET                         the same for a file\n    splitter split figure-9.sheet\n\
-splitter lookup TABLE SERVICE ADDRESS        the backend of an address\n    splitter lookup old.table 1 10.0.0.1\n\
-splitter churn OLD NEW SERVICE               how many suffixes moved\n    splitter churn old.table new.table 1\n\
-splitter update OLD SHEET SERVICE            new weights on a loaded table\n    splitter update old.table new.sheet 1\n\
-splitter gauge TABLE SERVICE VOLUME BACKEND  the share and the load of a backend\n    splitter gauge old.table 1 55 2\n\
-splitter help                                this text\n    splitter help | less\n\
+        b"splitter                                              a percentage sheet on standard input: its rule sheet\n    splitter < figure-9.sheet\n\
+splitter split SHEET                                  the same for a file\n    splitter split figure-9.sheet\n\
+splitter lookup TABLE SERVICE ADDRESS                 the backend of an address\n    splitter lookup old.table 1 10.0.0.1\n\
+splitter churn OLD NEW SERVICE                        how many suffixes moved\n    splitter churn old.table new.table 1\n\
+splitter update OLD SHEET SERVICE                     new weights on a loaded table\n    splitter update old.table new.sheet 1\n\
+splitter stages OLD NEW SERVICE LIMIT CAPACITY        the places at which a change is cut into stages\n    splitter stages old.table new.table 1 4 8\n\
+splitter stage OLD NEW SERVICE LIMIT CAPACITY NUMBER  one stage as lines for the switch\n    splitter stage old.table new.table 1 4 8 1\n\
+splitter gauge TABLE SERVICE VOLUME BACKEND           the share and the load of a backend\n    splitter gauge old.table 1 55 2\n\
+splitter help                                         this text\n    splitter help | less\n\
 A file named - is standard input (once in a call).\n\
-What isn't proper prints REFUSED number line (churn, update: number line sheet).\n",
+What isn't proper prints REFUSED number line (churn, update, stages, stage: number line sheet).\n",
     )
 }
 
@@ -79,6 +87,16 @@ pub fn usage(command: Command, out: &mut [u8; crate::ROOM]) -> usize
         Command::Lookup => put_bytes(out, 0, b"usage: splitter lookup TABLE SERVICE ADDRESS\n"),
         Command::Churn => put_bytes(out, 0, b"usage: splitter churn OLD NEW SERVICE\n"),
         Command::Update => put_bytes(out, 0, b"usage: splitter update OLD SHEET SERVICE\n"),
+        Command::Stages => put_bytes(
+            out,
+            0,
+            b"usage: splitter stages OLD NEW SERVICE LIMIT CAPACITY\n",
+        ),
+        Command::Stage => put_bytes(
+            out,
+            0,
+            b"usage: splitter stage OLD NEW SERVICE LIMIT CAPACITY NUMBER\n",
+        ),
         Command::Gauge => put_bytes(
             out,
             0,
@@ -89,7 +107,9 @@ pub fn usage(command: Command, out: &mut [u8; crate::ROOM]) -> usize
             out,
             0,
             b"usage: splitter\n       splitter split SHEET\n       splitter lookup TABLE SERVICE ADDRESS\n       \
-splitter churn OLD NEW SERVICE\n       splitter update OLD SHEET SERVICE\n       splitter gauge TABLE SERVICE VOLUME BACKEND\n       splitter help\n",
+splitter churn OLD NEW SERVICE\n       splitter update OLD SHEET SERVICE\n       \
+splitter stages OLD NEW SERVICE LIMIT CAPACITY\n       splitter stage OLD NEW SERVICE LIMIT CAPACITY NUMBER\n       \
+splitter gauge TABLE SERVICE VOLUME BACKEND\n       splitter help\n",
         ),
     }
 }

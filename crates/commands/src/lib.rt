@@ -8,6 +8,7 @@ mod helping;
 mod looking;
 mod numeral;
 mod splitting;
+mod staging;
 mod updating;
 mod writing;
 
@@ -20,6 +21,8 @@ pub use helping::help;
 pub use helping::usage;
 pub use looking::lookup;
 pub use splitting::split;
+pub use staging::stage;
+pub use staging::stages;
 pub use updating::update;
 
 // The bytes of a buffer that is lent for a text, and the limit of a text: no answer is longer.

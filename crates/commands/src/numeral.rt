@@ -11,6 +11,10 @@ ghost use Rattle.commands.specs.Inner.Numeral.{capped};
 pub const MOST_SERVICE: u64 = numerals::MOST_SERVICES as u64;
 // The largest id of a backend.
 pub const MOST_ID: u64 = numerals::MOST_ID as u64;
+// The most suffixes: the largest limit of a stage, and more stages no change has.
+pub const MOST_SUFFIXES: u64 = numerals::MOST_SUFFIXES as u64;
+// The largest capacity.
+pub const MOST_CAPACITY: u64 = numerals::MOST_CAPACITY as u64;
 // The largest address of 32 bits.
 pub const MOST_ADDRESS: u64 = u32::MAX as u64;
 

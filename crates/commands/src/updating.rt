@@ -18,11 +18,12 @@ ghost use lib.ListN.{length};
 ghost use Rattle.numerals.specs.Limits.{mostBits};
 ghost use Rattle.numerals.specs.Suffix.{isSuffix, suffixText};
 ghost use Rattle.expansion.specs.FirstMatch.{isRule};
+ghost use Rattle.packing.specs.Table.{linesOf};
 ghost use Rattle.sheets.specs.RuleSheet.{lineText, linesText};
 ghost use Rattle.sheets.specs.Inner.Writing.{Wrote};
 ghost use Rattle.update.specs.declared.answer.SheetUpdated.the-variants.{Made};
 ghost use Rattle.commands.specs.Said.{outcome, filled};
-ghost use Rattle.commands.specs.Update.{updateHead, linesOf, updatedText, updateText, updateSays};
+ghost use Rattle.commands.specs.Update.{updateHead, updatedText, updateText, updateSays};
 ghost use Rattle.commands.specs.Inner.Update.{lineOf, rulesIn, Rules, suffixRoom, headRoom, lineRoom, updateRoom};
 
 // UPDATE k r n churn; the position after it.

@@ -7,28 +7,9 @@ use native.Mathlib.Omega.{arith}
 use lib.Dec.{leb}
 use borrow.Author.Tests.{le-leb, leb-true, leb-false}
 use Rattle.numerals.specs.Pick.{pick}
-use Rattle.numerals.proofs.Searches.{clash, both-true, all-true, true-all}
-use Rattle.expansion.specs.Resume.{isLowest, largestTo}
-
--- the largest that passes
-
-record IsLargest (n : ℕ) (t : ℕ → Bool) (r : ℕ) : Type 0 where
-  most : r ≤ n
-  passes : 0 < r → t r ≡ true
-  above : (j : ℕ) → r < j → j ≤ n → t j ≡ false
-
-largest-is : (n : ℕ) (t : ℕ → Bool) → IsLargest n t (largestTo n t)
-unfolding largestTo
-largest-is zero t = record { most = omega arith; passes = λ l. absurd (omega arith); above = λ j l m. absurd (omega arith) }
-largest-is (suc n) t = go (largest-is n t) (t (suc n)) refl
-  where
-    go : IsLargest n t (largestTo n t) → (b : Bool) → t (suc n) ≡ b → IsLargest (suc n) t (pick b (suc n) (largestTo n t))
-    go h true e = record { most = omega arith; passes = λ l. e; above = λ j l m. absurd (omega arith) }
-    go h false e = record { most = omega (arith, h .most); passes = h .passes; above = λ j l m. up j l m (ℕ-discrete j (suc n)) }
-      where
-        up : (j : ℕ) → largestTo n t < j → j ≤ suc n → Dec (j ≡ suc n) → t j ≡ false
-        up j l m (yes p) = ap t p ∙ e
-        up j l m (no p) = h .above j l (omega arith)
+use Rattle.numerals.specs.Sums.{largestTo}
+use Rattle.numerals.proofs.Searches.{clash, both-true, all-true, true-all, largest-is}
+use Rattle.expansion.specs.Resume.{isLowest}
 
 -- of the numbers above `from` up to n that pass, the one of the lowest cost, the largest if equal; 0 where none passes
 pub record LowestAbove (from n : ℕ) (passes : ℕ → Bool) (cost : ℕ → ℕ) (r : ℕ) : Type 0 where

@@ -24,14 +24,14 @@ use Rattle.expansion.proofs.FirstMatch.{rule-short, rule-bits}
 
 -- a test of all that the suffix of l bits with the value v covers
 module _ (k l v : ℕ) (h : l ≤ k) (f : ℕ → Bool) where
-  covered-true : v < 2 ^ l → ((s : ℕ) → s < 2 ^ k → s % 2 ^ l ≡ v → f s ≡ true) → allTo (2 ^ (k - l)) (λ j. f (v + j * 2 ^ l)) ≡ true
+  pub covered-true : v < 2 ^ l → ((s : ℕ) → s < 2 ^ k → s % 2 ^ l ≡ v → f s ≡ true) → allTo (2 ^ (k - l)) (λ j. f (v + j * 2 ^ l)) ≡ true
   covered-true small p =
       true-all (2 ^ (k - l)) (λ j. f (v + j * 2 ^ l)) (λ j m.
       p (v + j * 2 ^ l)
       (omega (arith, pow-split l k h, digits-lt {c = 2 ^ l} m small))
       (add-mul-mod-self-right v j (2 ^ l) ∙ mod-eq-of-lt small))
 
-  covered-at : allTo (2 ^ (k - l)) (λ j. f (v + j * 2 ^ l)) ≡ true → (s : ℕ) → s < 2 ^ k → s % 2 ^ l ≡ v → f s ≡ true
+  pub covered-at : allTo (2 ^ (k - l)) (λ j. f (v + j * 2 ^ l)) ≡ true → (s : ℕ) → s < 2 ^ k → s % 2 ^ l ≡ v → f s ≡ true
   covered-at w s m e =
       ap f (omega (arith, div-add-mod' s (2 ^ l)))
       ∙ all-true (2 ^ (k - l)) (λ j. f (v + j * 2 ^ l)) w (s / 2 ^ l)
@@ -43,7 +43,7 @@ module _ (k l : ℕ) (h : l ≤ k) where
   all-nodes = pow-split l k h ∙ mul-comm (2 ^ (k - l)) (2 ^ l)
 
   -- the node of a suffix
-  node-of : (s : ℕ) → place k s / 2 ^ (k - l) ≡ place l s
+  pub node-of : (s : ℕ) → place k s / 2 ^ (k - l) ≡ place l s
   node-of s = let sum : l + (k - l) ≡ k = omega arith in rw sum at (place-high l (k - l) s)
 
   -- the lowest bits of the suffix at a place
@@ -52,7 +52,7 @@ module _ (k l : ℕ) (h : l ≤ k) where
       sym (place-twice l (place k q))
       ∙ ap (place l) (sym (node-of (place k q)) ∙ ap (λ (x : ℕ). x / 2 ^ (k - l)) (place-involution k q m))
 
-  node-at : (p q : ℕ) → p * 2 ^ (k - l) ≤ q → q < p * 2 ^ (k - l) + 2 ^ (k - l) → q / 2 ^ (k - l) ≡ p
+  pub node-at : (p q : ℕ) → p * 2 ^ (k - l) ≤ q → q < p * 2 ^ (k - l) + 2 ^ (k - l) → q / 2 ^ (k - l) ≡ p
   node-at p q from to =
       let r : ℕ = q - p * 2 ^ (k - l) in
       let is : q ≡ p * 2 ^ (k - l) + r = omega arith in

@@ -9,7 +9,7 @@ use lib.ListN.{length}
 use Rattle.numerals.specs.Pick.{pick, both}
 use Rattle.numerals.specs.Limits.{mostBits, unit}
 use Rattle.numerals.specs.Refusals.{no2, no7, no13}
-use Rattle.numerals.specs.Sums.{allTo}
+use Rattle.numerals.specs.Sums.{allTo, largestTo}
 use Rattle.expansion.specs.FirstMatch.{churn}
 use Rattle.expansion.specs.Imbalance.{Targets}
 use Rattle.expansion.specs.Steps.{Frame, isWithin, oldest, listOf}
@@ -54,11 +54,6 @@ churnKept T tolerance old r = churn (T .k) old (listKept T tolerance old r)
 -- r passes, and each of the numbers 1 to n that passes costs at least as much
 unfoldable pub isLowest : ℕ → (ℕ → Bool) → (ℕ → ℕ) → ℕ → Bool
 isLowest n passes cost r = both (passes r) (allTo n (λ i. pick (passes (suc i)) (leb (cost r) (cost (suc i))) true))
-
--- the largest of the numbers 1 to n that passes the test, or 0 where none does
-unfoldable pub largestTo : ℕ → (ℕ → Bool) → ℕ
-largestTo zero t = 0
-largestTo (suc n) t = pick (t (suc n)) (suc n) (largestTo n t)
 
 -- the r that is answered, from 1 to all: of those that end within, the one with the lowest churn, the largest if equal (Req 05)
 unfoldable pub keptOf : Targets → ℕ → List Rule → ℕ

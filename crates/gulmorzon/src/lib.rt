@@ -1,4 +1,4 @@
-// The calls for C: each hands on the answer of a call of crate `sheets`, `gauges` or `update` in plain numbers.
+// The calls for C: each hands on the answer of a call of crate `sheets`, `gauges`, `update` or `stages` in plain numbers.
 // `include/gulmorzon.h` declares them.
 mod answer;
 mod gauge_answer;
@@ -22,6 +22,8 @@ ghost use Rattle.sheets.specs.Reading.{got};
 ghost use Rattle.sheets.specs.RuleSheet.{Table, readTable};
 ghost use Rattle.gauges.specs.Gauges.{gaugesAnswer, ExactGauges};
 ghost use Rattle.update.specs.Sheets as texts;
+ghost use Rattle.stages.specs.Calls.{placesAnswer, placesWritten, linesAnswer, linesWritten};
+ghost use Rattle.stages.specs.Promise.{PromisedRow, PromisedStage};
 ghost use Rattle.gulmorzon.specs.Answers as answers;
 ghost use Rattle.gulmorzon.specs.Gauges.{ofRecord, readingCalled, ExactMarked};
 ghost use Rattle.gulmorzon.specs.Update.{ofUpdate};
@@ -127,4 +129,48 @@ pub extern "C" fn gulmorzon_update(
         (texts.sheetsAnswer (now (old .entry)) (now (sheet .entry)) service (length (now (rules .entry)))) (now (rules .exit)) ⌝ }
 {
     update_answer::of_update(update::update_sheets(old, sheet, service, rules))
+}
+
+// The places at which a service's change from one rule sheet to another is cut into stages, into a lent buffer. The value is
+// the number of stages.
+#[no_mangle]
+pub extern "C" fn gulmorzon_stages(
+    old: &[u8],
+    new: &[u8],
+    service: usize,
+    limit: usize,
+    capacity: usize,
+    places: &mut [usize],
+) -> Answer
+    ensures answer { λ r. ⌜ r ≡ answers.ofAnswer
+        (placesAnswer (now (old .entry)) (now (new .entry)) service limit capacity (length (now (places .entry)))) ⌝ }
+    ensures buffer { λ _. ⌜ now (places .exit) ≡ calls.afterwards
+        (calls.isValue (placesAnswer (now (old .entry)) (now (new .entry)) service limit capacity (length (now (places .entry)))))
+        (now (places .entry)) (placesWritten (now (old .entry)) (now (new .entry)) service limit) ⌝ }
+    ensures promise { λ r. ⌜ (r .number ≡ 0
+        → PromisedRow (now (old .entry)) (now (new .entry)) service limit (take (r .value) (now (places .exit)))) ⌝ }
+{
+    answer::of_answer(stages::stage_places(old, new, service, limit, capacity, places))
+}
+
+// One of these stages by its number, from 1, as lines for the switch, into a lent buffer. The value is the number of bytes.
+#[no_mangle]
+pub extern "C" fn gulmorzon_stage(
+    old: &[u8],
+    new: &[u8],
+    service: usize,
+    limit: usize,
+    capacity: usize,
+    number: usize,
+    out: &mut [u8],
+) -> Answer
+    ensures answer { λ r. ⌜ r ≡ answers.ofAnswer
+        (linesAnswer (now (old .entry)) (now (new .entry)) service limit capacity number (length (now (out .entry)))) ⌝ }
+    ensures buffer { λ _. ⌜ now (out .exit) ≡ calls.afterwards
+        (calls.isValue (linesAnswer (now (old .entry)) (now (new .entry)) service limit capacity number (length (now (out .entry)))))
+        (now (out .entry)) (linesWritten (now (old .entry)) (now (new .entry)) service limit number) ⌝ }
+    ensures promise { λ r. ⌜ (r .number ≡ 0
+        → PromisedStage (now (old .entry)) (now (new .entry)) service limit number (take (r .value) (now (out .exit)))) ⌝ }
+{
+    answer::of_answer(stages::stage_lines(old, new, service, limit, capacity, number, out))
 }

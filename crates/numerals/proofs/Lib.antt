@@ -11,6 +11,7 @@ pub mod Decimal
 pub mod Writing
 pub mod Fields
 pub mod Place
+pub mod PlaceSums
 pub mod Suffix
 pub mod Table
 pub mod Percent

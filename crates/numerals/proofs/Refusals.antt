@@ -3,19 +3,19 @@ use Prim.Native.Nat.{ℕ, _-_}
 use mathlib.Core.Path.{_≡_, refl}
 use mathlib.Core.List.{List, [], _∷_}
 use lib.ListN.{getD}
-use Rattle.numerals.specs.Refusals.{numberOf, no1, no2, no3, no4, no5, no6, no7, no8, no9, no10, no11, no12, no13}
+use Rattle.numerals.specs.Refusals.{numberOf, no1, no2, no3, no4, no5, no6, no7, no8, no9, no10, no11, no12, no13, no14}
 use Rattle.numerals.specs.declared.refusal.Refusal.{Refusal}
 use Rattle.numerals.specs.declared.refusal.Refusal.the-variants.{Malformed, BadField, Unbalanced, TooMany, NoService, TableShort, ShortLoan}
-use Rattle.numerals.specs.declared.refusal.Refusal.the-variants.{UnknownService, Order, Miscount, TooLong, Depth, Stuck}
+use Rattle.numerals.specs.declared.refusal.Refusal.the-variants.{UnknownService, Order, Miscount, TooLong, Depth, Stuck, Crowded}
 
 pub all : List Refusal
-all = no1 ∷ no2 ∷ no3 ∷ no4 ∷ no5 ∷ no6 ∷ no7 ∷ no8 ∷ no9 ∷ no10 ∷ no11 ∷ no12 ∷ no13 ∷ []
+all = no1 ∷ no2 ∷ no3 ∷ no4 ∷ no5 ∷ no6 ∷ no7 ∷ no8 ∷ no9 ∷ no10 ∷ no11 ∷ no12 ∷ no13 ∷ no14 ∷ []
 
 pub each : (Refusal → ℕ) → List Refusal → List ℕ
 each f [] = []
 each f (r ∷ rs) = f r ∷ each f rs
 
-pub numbers-right : each numberOf all ≡ 1 ∷ 2 ∷ 3 ∷ 4 ∷ 5 ∷ 6 ∷ 7 ∷ 8 ∷ 9 ∷ 10 ∷ 11 ∷ 12 ∷ 13 ∷ []
+pub numbers-right : each numberOf all ≡ 1 ∷ 2 ∷ 3 ∷ 4 ∷ 5 ∷ 6 ∷ 7 ∷ 8 ∷ 9 ∷ 10 ∷ 11 ∷ 12 ∷ 13 ∷ 14 ∷ []
 unfolding numberOf each all
 numbers-right = refl
 
@@ -35,3 +35,4 @@ numbered Miscount = refl
 numbered TooLong = refl
 numbered Depth = refl
 numbered Stuck = refl
+numbered Crowded = refl

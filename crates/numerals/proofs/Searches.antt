@@ -1,4 +1,4 @@
--- Laws of the searches over the numbers below n: do all pass a test, the first that passes, the first and the last place of a maximum.
+-- Laws of the searches over the numbers up to n: do all pass a test, the first and the largest that passes, the first and the last place of a maximum.
 use Prim.Native.Nat.{ℕ, zero, suc, _≤_, _<_}
 use mathlib.Core.Bool.{Bool, true, false}
 use mathlib.Core.Path.{_≡_, refl, ap, sym, _∙_, subst}
@@ -7,7 +7,7 @@ use native.Mathlib.Omega.{arith}
 use lib.Dec.{ltb}
 use borrow.Author.Tests.{ltb-true, ltb-false, lt-ltb, le-ltb, le-leb, lt-leb}
 use Rattle.numerals.specs.Pick.{pick, both}
-use Rattle.numerals.specs.Sums.{allTo, firstTo, argmax, lastmax}
+use Rattle.numerals.specs.Sums.{allTo, firstTo, largestTo, argmax, lastmax}
 
 -- two tests at once
 
@@ -109,8 +109,34 @@ first-le n t i l e = go (decLt i (firstTo n t))
     go (yes m) = absurd (clash (t i) e (first-is n t .below i m))
     go (no m) = omega arith
 
--- the first place of the greatest value
+-- the largest that passes
+pub record IsLargest (n : ℕ) (t : ℕ → Bool) (r : ℕ) : Type 0 where
+  pub most : r ≤ n
+  pub passes : 0 < r → t r ≡ true
+  pub above : (j : ℕ) → r < j → j ≤ n → t j ≡ false
 
+pub largest-is : (n : ℕ) (t : ℕ → Bool) → IsLargest n t (largestTo n t)
+unfolding largestTo
+largest-is zero t = record { most = omega arith; passes = λ l. absurd (omega arith); above = λ j l m. absurd (omega arith) }
+largest-is (suc n) t = go (largest-is n t) (t (suc n)) refl
+  where
+    go : IsLargest n t (largestTo n t) → (b : Bool) → t (suc n) ≡ b → IsLargest (suc n) t (pick b (suc n) (largestTo n t))
+    go h true e = record { most = omega arith; passes = λ l. e; above = λ j l m. absurd (omega arith) }
+    go h false e = record { most = omega (arith, h .most); passes = h .passes; above = λ j l m. up j l m (ℕ-discrete j (suc n)) }
+      where
+        up : (j : ℕ) → largestTo n t < j → j ≤ suc n → Dec (j ≡ suc n) → t j ≡ false
+        up j l m (yes p) = ap t p ∙ e
+        up j l m (no p) = h .above j l (omega arith)
+
+pub largest-unique : (n : ℕ) (t : ℕ → Bool) (i j : ℕ) → IsLargest n t i → IsLargest n t j → i ≡ j
+largest-unique n t i j p q = go (decLt i j) (decLt j i)
+  where
+    go : Dec (i < j) → Dec (j < i) → i ≡ j
+    go (yes l) d = absurd (clash (t j) (q .passes (omega arith)) (p .above j l (q .most)))
+    go (no l) (yes m) = absurd (clash (t i) (p .passes (omega arith)) (q .above i m (p .most)))
+    go (no l) (no m) = omega arith
+
+-- the first place of the greatest value
 pub record IsArgmax (f : ℕ → ℕ) (n : ℕ) (i : ℕ) : Type 0 where
   pub inside : i < n
   pub best : (j : ℕ) → j < n → f j ≤ f i

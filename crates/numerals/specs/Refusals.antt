@@ -2,7 +2,7 @@
 use Prim.Native.Nat.{ℕ}
 use Rattle.numerals.specs.declared.refusal.Refusal.{Refusal}
 use Rattle.numerals.specs.declared.refusal.Refusal.the-variants.{Malformed, BadField, Unbalanced, TooMany, NoService, TableShort, ShortLoan}
-use Rattle.numerals.specs.declared.refusal.Refusal.the-variants.{UnknownService, Order, Miscount, TooLong, Depth, Stuck}
+use Rattle.numerals.specs.declared.refusal.Refusal.the-variants.{UnknownService, Order, Miscount, TooLong, Depth, Stuck, Crowded}
 
 unfoldable pub numberOf : Refusal → ℕ
 numberOf Malformed = 1
@@ -18,6 +18,7 @@ numberOf Miscount = 10
 numberOf TooLong = 11
 numberOf Depth = 12
 numberOf Stuck = 13
+numberOf Crowded = 14
 
 -- each by its number there, the column "no."
 abbrev pub no1 : Refusal
@@ -59,3 +60,7 @@ no12 = Depth
 -- document 02, Req 03
 abbrev pub no13 : Refusal
 no13 = Stuck
+
+-- document 02, Req 06
+abbrev pub no14 : Refusal
+no14 = Crowded

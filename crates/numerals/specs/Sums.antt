@@ -29,6 +29,11 @@ unfoldable pub firstTo : ℕ → (ℕ → Bool) → ℕ
 firstTo zero t = 0
 firstTo (suc n) t = let i = firstTo n t in pick (ltb i n) i (pick (t n) n (suc n))
 
+-- the largest of the numbers 1 to n that passes the test, or 0 where none does
+unfoldable pub largestTo : ℕ → (ℕ → Bool) → ℕ
+largestTo zero t = 0
+largestTo (suc n) t = pick (t (suc n)) (suc n) (largestTo n t)
+
 -- the number below n at which f is greatest, the lowest if equal
 unfoldable pub argmax : (ℕ → ℕ) → ℕ → ℕ
 argmax f zero = 0

@@ -16,6 +16,7 @@ pub enum Refusal {
     TooLong,
     Depth,
     Stuck,
+    Crowded,
 }
 
 // Its number there.
@@ -36,5 +37,6 @@ pub fn refusal_number(why: Refusal) -> u64
         Refusal::TooLong => 11,
         Refusal::Depth => 12,
         Refusal::Stuck => 13,
+        Refusal::Crowded => 14,
     }
 }

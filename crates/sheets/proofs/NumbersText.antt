@@ -111,7 +111,7 @@ module _ (table : List ℕ) (n : ℕ) (room : 4 * n ≤ length table) where
   first-two k before i h s =
       let all = rw (rows-more table n room i h) at s in (formed k (lineAt table i) (all .0 .form), all .1)
 
-  formed-from : (k : ℕ) (before : List Line) (m i j : ℕ) → j ≡ i + m → j < n → InOrder k before (rest i) → Formed k (lineAt table j)
+  pub formed-from : (k : ℕ) (before : List Line) (m i j : ℕ) → j ≡ i + m → j < n → InOrder k before (rest i) → Formed k (lineAt table j)
   formed-from k before zero i j e h s =
       let here : j ≡ i = omega arith in
       rw here (first-two k before i (omega arith) s .0)

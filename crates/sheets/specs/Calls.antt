@@ -90,7 +90,7 @@ figuresFor S = figuresMade (servicesIn S) (S .tolerance) (S .capacity)
 unfoldable pub cellsFor : Sheet → List ℕ
 cellsFor S = cells (tableFor S .lines)
 
--- a text for a lent buffer: how many bytes of it are written, if there is room, else 7
+-- a text, or other values, for a lent buffer: how many of them are written, if there is room, else 7
 unfoldable pub printText : List ℕ → ℕ → Answer
 printText bytes room = pick (leb (length bytes) room) (Value (length bytes)) (Refused (refusedAt no7 0))
 
@@ -161,15 +161,19 @@ lookupAnswer text n address = answered Refused 0 (readTable text) (λ t. lookupI
 unfoldable pub moved : ℕ → List Line → List Line → ℕ → ℕ
 moved all old new n = differing all (ownRules n old) (ownRules n new)
 
--- churn: 8 is about the first sheet that lacks the service, 12 about neither
+-- what is answered of a service that both sheets have, under one k: 8 is about the first that lacks it, 12 about neither
+abbrev pub ofService : {A : Type 0} → (Why → A) → Bool → Bool → Bool → A → A
+ofService refuse first second alike a =
+    pick first
+    (pick second
+    (pick alike a
+    (refuse (refusedAt no12 0)))
+    (refuse (about 2 no8 0)))
+    (refuse (about 1 no8 0))
+
 unfoldable pub churnOf : Table → Table → ℕ → Answer
 churnOf old new n =
-    pick (hasService old n)
-    (pick (hasService new n)
-    (pick (eqb (old .k) (new .k)) (Value (moved (2 ^ (old .k)) (old .lines) (new .lines) n))
-    (Refused (refusedAt no12 0)))
-    (Refused (about 2 no8 0)))
-    (Refused (about 1 no8 0))
+    ofService Refused (hasService old n) (hasService new n) (eqb (old .k) (new .k)) (Value (moved (2 ^ (old .k)) (old .lines) (new .lines) n))
 
 -- the first sheet is read wholly first
 unfoldable pub churnAnswer : List ℕ → List ℕ → ℕ → Answer

@@ -7,6 +7,9 @@ use lib.ListN.{length}
 use Rattle.numerals.specs.Pick.{pick, both}
 use Rattle.numerals.specs.Decimal.{number, decimal}
 use Rattle.numerals.specs.Suffix.{suffix, suffixText}
+use Rattle.numerals.specs.Digits.{put, putEnd}
+use Rattle.numerals.specs.declared.digits.Written.{Written}
+use Rattle.numerals.specs.declared.digits.Written.the-variants.{Refused}
 use Rattle.numerals.specs.Text.{split}
 use Rattle.numerals.specs.declared.suffixes.SuffixRead.{SuffixRead}
 use Rattle.numerals.specs.declared.suffixes.SuffixRead.the-variants.{Suffix, Bad}
@@ -125,3 +128,11 @@ checkSheet t broken =
     (unless (inLimits 1 mostCapacity (length (t .lines) + broken)) no2 0
     (unless (leb (t .total) totalLimit) no2 0
     (then (checkLines (t .k) [] (t .lines)) (checkEnd broken t))))
+
+-- a lent buffer after a rule line was to be written into it at a position: one out of its limits isn't written
+unfoldable pub putLine : List ℕ → ℕ → Line → List ℕ
+putLine out at l = pick (isLine mostBits l) (put out at (lineText l)) out
+
+-- the answer of that: a number out of its limits is refusal 2, which comes before 7
+unfoldable pub putLineEnd : List ℕ → ℕ → Line → Written
+putLineEnd out at l = pick (isLine mostBits l) (putEnd out at (lineText l)) (Refused no2)

@@ -6,14 +6,14 @@ use mathlib.Core.List.{List, []}
 use lib.Dec.{leb, eqb}
 use lib.ListN.{length, getD}
 use Rattle.numerals.specs.Pick.{pick, both}
-use Rattle.numerals.specs.Refusals.{no7, no8, no12}
+use Rattle.numerals.specs.Refusals.{no7}
 use Rattle.expansion.specs.Answer.{inLimits}
 use Rattle.expansion.specs.OldList.{numbersOf}
 use Rattle.expansion.specs.declared.rule.Rule.{Rule}
 use Rattle.packing.specs.Count.{ownRules}
 use Rattle.sheets.specs.PercentageSheet.{Sheet, readSheet}
 use Rattle.sheets.specs.RuleSheet.{Table, readTable}
-use Rattle.sheets.specs.Calls.{about, refusedAt, answered, hasService}
+use Rattle.sheets.specs.Calls.{refusedAt, answered, ofService, hasService}
 use Rattle.sheets.specs.declared.answer.Refused.{Refused as Why}
 use Rattle.sheets.specs.declared.answer.UpdateRead.{UpdateRead}
 use Rattle.sheets.specs.declared.answer.UpdateRead.the-variants.{Made, Refused}
@@ -33,20 +33,14 @@ newIds S n = getD (S .ids) (n - 1) []
 unfoldable pub newWeights : Sheet → ℕ → List ℕ
 newWeights S n = getD (S .weights) (n - 1) []
 
--- what is answered of a service that both sheets have, under one k: 8 is about the first that lacks it, 12 about neither
-abbrev pub ofService : {A : Type 0} → (Why → A) → Table → Sheet → ℕ → A → A
-ofService refuse t S n a =
-    pick (hasService t n)
-    (pick (hasWeights S n)
-    (pick (eqb (t .k) (S .k)) a
-    (refuse (refusedAt no12 0)))
-    (refuse (about 2 no8 0)))
-    (refuse (about 1 no8 0))
+-- what is answered of a service that both sheets have, under one k
+abbrev pub ofBoth : {A : Type 0} → (Why → A) → Table → Sheet → ℕ → A → A
+ofBoth refuse t S n a = ofService refuse (hasService t n) (hasWeights S n) (eqb (t .k) (S .k)) a
 
 -- the answer, where the lent buffers have so many places
 unfoldable pub updateIn : Table → Sheet → ℕ → ℕ → ℕ → ℕ → UpdateRead
 updateIn t S n rulesRoom idsRoom weightsRoom =
-    ofService Refused t S n
+    ofBoth Refused t S n
     (pick
     (both (leb (length (numbersOf (oldRules t n))) rulesRoom) (both (leb (length (newIds S n)) idsRoom) (leb (length (newWeights S n)) weightsRoom)))
     (Made (record { k = t .k; tolerance = S .tolerance; rules = length (oldRules t n); backends = length (newWeights S n) }))

@@ -23,6 +23,7 @@ pub use answer::UpdateRead;
 pub use answer::UpdateRecord;
 pub use planning::plan;
 pub use planning::split_sheet;
+pub use printing::write_line;
 pub use printing::write_table;
 pub use shares::count_share;
 pub use tables::churn;

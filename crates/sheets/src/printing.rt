@@ -17,7 +17,7 @@ ghost use lib.Seq.{slice};
 ghost use Rattle.numerals.specs.Limits.{mostBits, mostServices, mostCapacity};
 ghost use Rattle.numerals.specs.Decimal.{decimal};
 ghost use Rattle.numerals.specs.Suffix.{suffixText};
-ghost use Rattle.sheets.specs.RuleSheet.{headText, lineText, tableText, isLine};
+ghost use Rattle.sheets.specs.RuleSheet.{headText, lineText, tableText, isLine, putLine, putLineEnd};
 ghost use Rattle.sheets.specs.Inner.TableNumbers.{line, lineAt, tableIn, RuleLines};
 ghost use Rattle.sheets.specs.Inner.Writing.{Wrote, Before, endAt, lineWidth, counted, CheckedAs, checkedCells, Checking, handed};
 ghost use Rattle.sheets.specs.Calls as calls;
@@ -292,4 +292,31 @@ pub fn write_table(k: usize, total: u64, table: &[usize], out: &mut [u8]) -> Ans
         return Answer::Refused(refused_at(why, 0));
     }
     print(k, total, table, table.len() / 4, out)
+}
+
+// The text of a rule line of at most 12 bits, written into a lent buffer at a position: 2 for a number out of its limits,
+// then 7 where there is no room.
+pub fn write_line(
+    out: &mut [u8],
+    at: usize,
+    service: usize,
+    len: usize,
+    value: usize,
+    backend: usize,
+) -> Written
+    ensures answer { λ r. ⌜ r ≡ putLineEnd (now (out .entry)) at
+        (record { service = service; rule = record { len = len; value = value; backend = backend } }) ⌝ }
+    ensures buffer { λ _. ⌜ now (out .exit) ≡ putLine (now (out .entry)) at
+        (record { service = service; rule = record { len = len; value = value; backend = backend } }) ⌝ }
+{
+    if !is_line(numerals::MOST_BITS, service, len, value, backend) {
+        return Written::Refused(Refusal::BadField);
+    }
+    if out.len() < at {
+        return Written::Refused(Refusal::ShortLoan);
+    }
+    if out.len() - at < line_width(service, len, backend) {
+        return Written::Refused(Refusal::ShortLoan);
+    }
+    Written::End(put_line(out, at, service, len, value, backend))
 }

@@ -27,7 +27,8 @@ pub fn read_table(text: &[u8], table: &mut [usize]) -> TableRead
     ensures buffer { λ r. ⌜ now (table .exit) ≡ calls.afterwards (calls.isTable r) (now (table .entry))
         (calls.valuesOf (readTable (now (text .entry))) (λ t. cells (t .lines))) ⌝ }
 {
-    let mut lines = [0usize; CELLS];
+    // what stands there first means nothing; ones are stored by the word, zeros by the byte
+    let mut lines = [1usize; CELLS];
     let read = crate::rule_sheet::read_sheet_lines(text, &mut lines);
     match read {
         SheetLines::Refused(why) => TableRead::Refused(why),

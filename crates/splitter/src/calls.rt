@@ -96,19 +96,105 @@ fn read_service(old: &[u8], new: &[u8], command: Command) {
     }
 }
 
+fn print_staged(outcome: Outcome, out: &[u8; commands::ROOM], command: Command) {
+    match outcome {
+        Outcome::Answer(n) => output::print(output::text(out, n)),
+        Outcome::NoNumber(place) => arguments::no_number(place, command),
+    }
+}
+
+// The answer about a change from one text to another, cut into stages; the number is that of a stage.
+fn answer_staged(
+    old: &[u8],
+    new: &[u8],
+    service: &[u8],
+    limit: &[u8],
+    capacity: &[u8],
+    number: &[u8],
+    command: Command,
+) {
+    let mut out = [0u8; commands::ROOM];
+    let outcome = if let Command::Stage = command {
+        commands::stage(old, new, service, limit, capacity, number, &mut out)
+    } else {
+        commands::stages(old, new, service, limit, capacity, &mut out)
+    };
+    print_staged(outcome, &out, command);
+}
+
+// The same where the words may have any length.
+fn staged_long(old: &[u8], new: &[u8], command: Command) {
+    let mut service = [0u8; arguments::ROOM];
+    let s = os::arg(4, &mut service);
+    let mut limit = [0u8; arguments::ROOM];
+    let l = os::arg(5, &mut limit);
+    let mut capacity = [0u8; arguments::ROOM];
+    let c = os::arg(6, &mut capacity);
+    let mut number = [0u8; arguments::ROOM];
+    let i = os::arg(7, &mut number);
+    answer_staged(
+        old,
+        new,
+        start(&service, s),
+        start(&limit, l),
+        start(&capacity, c),
+        start(&number, i),
+        command,
+    );
+}
+
+// The words are the fourth argument and those behind it, and mostly short. `stages` has no number.
+fn read_words(old: &[u8], new: &[u8], command: Command) {
+    let mut service = [0u8; arguments::SHORT];
+    let s = os::arg(4, &mut service);
+    let mut limit = [0u8; arguments::SHORT];
+    let l = os::arg(5, &mut limit);
+    let mut capacity = [0u8; arguments::SHORT];
+    let c = os::arg(6, &mut capacity);
+    let mut number = [0u8; arguments::SHORT];
+    let i = os::arg(7, &mut number);
+    let numbered = if let Command::Stage = command {
+        i != 0
+    } else {
+        true
+    };
+    if s != 0 && l != 0 && c != 0 && numbered {
+        answer_staged(
+            old,
+            new,
+            start(&service, s),
+            start(&limit, l),
+            start(&capacity, c),
+            start(&number, i),
+            command,
+        );
+    } else {
+        staged_long(old, new, command);
+    }
+}
+
+// What is asked of two texts that were read.
+fn ask_two(old: &[u8], new: &[u8], command: Command) {
+    match command {
+        Command::Stages => read_words(old, new, command),
+        Command::Stage => read_words(old, new, command),
+        _ => read_service(old, new, command),
+    }
+}
+
 // The second text is the third argument.
 fn read_second(old: &[u8], command: Command) {
     let mut new = [0u8; TEXT];
     let read = input::read_file(3, &mut new);
     match read {
-        Read::Bytes(n) => read_service(old, start(&new, n), command),
+        Read::Bytes(n) => ask_two(old, start(&new, n), command),
         Read::Failed => output::usage(command),
     }
 }
 
-// A command of two texts and a service: standard input can only be one of the texts.
-fn read_two(command: Command) {
-    if !arguments::are(3, command) {
+// A command of two texts and n arguments in all: standard input can only be one of the texts.
+fn read_two(n: usize, command: Command) {
+    if !arguments::are(n, command) {
         return;
     }
     if arguments::is_input(2) && arguments::is_input(3) {
@@ -125,12 +211,22 @@ fn read_two(command: Command) {
 
 // splitter churn OLD NEW SERVICE
 pub fn churn() {
-    read_two(Command::Churn);
+    read_two(3, Command::Churn);
 }
 
 // splitter update OLD SHEET SERVICE
 pub fn update() {
-    read_two(Command::Update);
+    read_two(3, Command::Update);
+}
+
+// splitter stages OLD NEW SERVICE LIMIT CAPACITY
+pub fn stages() {
+    read_two(5, Command::Stages);
+}
+
+// splitter stage OLD NEW SERVICE LIMIT CAPACITY NUMBER
+pub fn stage() {
+    read_two(6, Command::Stage);
 }
 
 // The service, the volume and the backend are the third to the fifth argument.

@@ -18,6 +18,8 @@ fn main() {
         Command::Lookup => calls::lookup(),
         Command::Churn => calls::churn(),
         Command::Update => calls::update(),
+        Command::Stages => calls::stages(),
+        Command::Stage => calls::stage(),
         Command::Gauge => calls::gauge(),
         Command::Help => calls::help(),
         Command::Unknown => output::complain(b"splitter: no such command\n", Command::Unknown),

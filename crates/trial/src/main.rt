@@ -5,6 +5,7 @@ mod of_gauges;
 mod of_numerals;
 mod of_packing;
 mod of_sheets;
+mod of_stages;
 mod of_update;
 mod plans;
 mod shown;
@@ -27,6 +28,7 @@ fn answer(vector: &[u8]) {
         b's' => of_sheets::answer(h, text),
         b'g' => of_gauges::answer(h, text),
         b'u' => of_update::answer(h, text),
+        b't' => of_stages::answer(h, text),
         _ => print::bytes(b"unknown layer"),
     }
     print::bytes(b"\n");

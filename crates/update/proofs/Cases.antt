@@ -3,7 +3,7 @@ use mathlib.Core.Path.{refl}
 use Rattle.numerals.specs.Limits.{unit}
 use Rattle.numerals.specs.Suffix.{place, isSuffix}
 use Rattle.numerals.specs.Digits.{value, valueFrom, lowest}
-use Rattle.numerals.specs.Sums.{listTo, sumTo, countTo, allTo, firstTo, argmax, lastmax}
+use Rattle.numerals.specs.Sums.{listTo, sumTo, countTo, allTo, firstTo, largestTo, argmax, lastmax}
 use Rattle.expansion.specs.FirstMatch.{isRule, matches, firstMatch, gives, share, differing, churn}
 use Rattle.expansion.specs.Imbalance.{backends, label, weight, has, wants, excess, shortfall, imbalance, giver, receiver}
 use Rattle.expansion.specs.Imbalance.{largestExcess, largestShortfall}
@@ -11,7 +11,7 @@ use Rattle.expansion.specs.Steps.{isWithin, reduction, reductionAt, term, isNoG
 use Rattle.expansion.specs.Answer.{inLimits, idBefore, isBackend, checkWeights}
 use Rattle.expansion.specs.Known.{include, knownIds, weightOf, targetsKnown}
 use Rattle.expansion.specs.OldList.{rulesFrom, numbersOf, isProper, checkRules, checkList}
-use Rattle.expansion.specs.Resume.{longest, capFrom, frameFrom, frameKept, listKept, endsWithin, churnKept, isLowest, largestTo, keptOf, listResumed}
+use Rattle.expansion.specs.Resume.{longest, capFrom, frameFrom, frameKept, listKept, endsWithin, churnKept, isLowest, keptOf, listResumed}
 use Rattle.expansion.specs.Resume.{checkOld, numbersResumed, resumeOf, resumeAnswer}
 use Rattle.update.specs.Update.{updateAnswer}
 use Rattle.update.specs.Cases.{Shows, unchanged, quarter, afresh, hidden, retired, replaced, Halted, Tied}

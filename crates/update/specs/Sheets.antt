@@ -9,7 +9,7 @@ use Rattle.sheets.specs.PercentageSheet.{Sheet, readSheet}
 use Rattle.sheets.specs.RuleSheet.{Table, readTable}
 use Rattle.sheets.specs.Calls.{refusedAt, answered, valuesOf, hasService}
 use Rattle.sheets.specs.Reading.{got}
-use Rattle.sheets.specs.Update.{oldRules, hasWeights, newIds, newWeights, ofService}
+use Rattle.sheets.specs.Update.{oldRules, hasWeights, newIds, newWeights, ofBoth}
 use Rattle.sheets.specs.declared.answer.Refused.{Refused as Why}
 use Rattle.expansion.specs.Resume.{numbersResumed}
 use Rattle.update.specs.Update.{updateAnswer}
@@ -30,7 +30,7 @@ ofUpdated (updated.Refused why) = Refused (neither why)
 -- the list, the ids, the weights and the tolerance that were read, handed to the call without a text
 unfoldable pub sheetsIn : Table → Sheet → ℕ → ℕ → SheetUpdated
 sheetsIn t S n room =
-    ofService Refused t S n
+    ofBoth Refused t S n
     (ofUpdated (updateAnswer (t .k) (S .tolerance) (newIds S n) (newWeights S n) (numbersOf (oldRules t n)) room))
 
 unfoldable pub sheetsAnswer : List ℕ → List ℕ → ℕ → ℕ → SheetUpdated

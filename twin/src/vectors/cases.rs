@@ -6,7 +6,7 @@ use super::percentage_sheets::small;
 use super::rule_sheets::{some_service, table};
 use super::shapes::{rule_table, sheet_text};
 use super::spoil::spoil;
-use crate::limits::{MOST_ID, MOST_VOLUME};
+use crate::limits::{MOST_CAPACITY, MOST_ID, MOST_MOVED, MOST_VOLUME};
 use crate::random::Random;
 use crate::rule_sheet::text_of;
 use crate::table::Table;
@@ -52,8 +52,9 @@ fn case(random: &mut Random) -> Case {
     let mut case = match random.below(16) {
         0 => split(random),
         1..=3 => lookup(random),
-        4..=7 => churn(random),
-        8..=11 => update(random),
+        4..=6 => churn(random),
+        7..=9 => update(random),
+        10..=12 => stages(random),
         _ => gauge(random),
     };
     if random.once_in(8) {
@@ -168,6 +169,30 @@ fn update(random: &mut Random) -> Case {
     };
     rename(random, &mut case);
     case
+}
+
+/// Two rule sheets as for churn and where the change is cut, or one stage of it.
+fn stages(random: &mut Random) -> Case {
+    let mut case = churn(random);
+    let numbers = [
+        stage_word(random, &[8, 64, MOST_MOVED], MOST_MOVED),
+        stage_word(random, &[16, MOST_CAPACITY], MOST_CAPACITY),
+        stage_word(random, &[1, 2, 5], 64),
+    ];
+    let (command, count) = *random.pick(&[("stages", 2), ("stage", 3)]);
+    case.words[0] = command.as_bytes().to_vec();
+    case.words.extend(numbers.into_iter().take(count));
+    case
+}
+
+/// A number up to one of these, at a limit, or beyond it.
+fn stage_word(random: &mut Random, tops: &[u64], limit: u64) -> Vec<u8> {
+    let top = *random.pick(tops);
+    let number = match random.below(12) {
+        0 => *random.pick(&[0, 1, limit, limit + 1]),
+        _ => random.within(1, top),
+    };
+    numeral_word(random, number)
 }
 
 /// A sheet as it is, spoilt, with many lines, empty, of the other kind, or as
@@ -340,7 +365,8 @@ fn spoil_words(random: &mut Random, words: &mut Vec<Vec<u8>>) {
         4 => words.truncate(at),
         _ => {
             let names = [
-                "", "1", "-", "first", "split", "lookup", "churn", "update", "gauge", "Split",
+                "", "1", "-", "first", "split", "lookup", "churn", "update", "gauge", "stages",
+                "stage", "Split",
             ];
             words.insert(at, random.pick(&names).as_bytes().to_vec());
         }
@@ -416,11 +442,36 @@ mod tests {
     }
 
     #[test]
+    fn stages_of_every_kind() {
+        let mut random = Random::new(61);
+        let mut refusals = BTreeSet::new();
+        let (mut silent, mut rows, mut lists) = (0, 0, 0);
+        for _ in 0..4_000 {
+            let case = stages(&mut random);
+            match printed(&case) {
+                None => silent += 1,
+                Some(text) if text.starts_with("REFUSED ") => drop(refusals.insert(text)),
+                Some(_) if case.words[0] == b"stages" => rows += 1,
+                Some(_) => lists += 1,
+            }
+        }
+        assert!(silent > 400, "{silent}");
+        assert!(rows > 200 && lists > 60, "{rows} {lists}");
+        for refusal in [
+            "1 1 1", "1 1 2", "2 0 0", "2 2 1", "2 2 2", "4 34 1", "4 34 2", "8 0 1", "8 0 2",
+            "10 1 1", "10 1 2", "11 0 1", "11 0 2", "12 0 0", "14 0 0",
+        ] {
+            let line = format!("REFUSED {refusal}\n");
+            assert!(refusals.contains(&line), "{refusal}");
+        }
+    }
+
+    #[test]
     fn cases_of_every_kind() {
         let mut random = Random::new(41);
         let mut refusals = BTreeSet::new();
         let (mut silent, mut answers) = (0, 0);
-        for _ in 0..3_000 {
+        for _ in 0..3_200 {
             let case = case(&mut random);
             assert!(case.words.iter().all(|word| !word.contains(&0)));
             match printed(&case) {
@@ -434,7 +485,7 @@ mod tests {
         let seen: Vec<&str> = refusals.iter().map(String::as_str).collect();
         assert_eq!(
             seen,
-            ["1", "10", "11", "12", "13", "2", "3", "4", "5", "6", "8", "9"]
+            ["1", "10", "11", "12", "13", "14", "2", "3", "4", "5", "6", "8", "9"]
         );
         assert!(silent > 500 && answers > 600, "{silent} {answers}");
     }

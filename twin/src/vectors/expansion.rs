@@ -196,7 +196,7 @@ fn refused_ids(records: &mut Records) {
 
 /// Weights of every shape, with every k, tolerance and budget.
 fn at_random(records: &mut Records, random: &mut Random) {
-    for turn in 0..876 {
+    for turn in 0..840 {
         let most = *random.pick(&[4, 8, 32]);
         let count = random.within(1, most) as usize;
         let (ids, weights) = (ids(random, count), weights(random, count));

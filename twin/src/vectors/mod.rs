@@ -2,6 +2,7 @@
 
 mod asks;
 pub mod cases;
+mod changes;
 mod choices;
 mod counts;
 pub mod expansion;
@@ -19,6 +20,7 @@ pub mod several;
 pub mod shapes;
 pub mod sheets;
 pub mod spoil;
+mod stages;
 mod updates;
 mod writes;
 
@@ -32,7 +34,7 @@ struct Layer {
     answer: fn(&Record) -> Option<String>,
 }
 
-const LAYERS: [Layer; 6] = [
+const LAYERS: [Layer; 7] = [
     Layer {
         name: "numerals",
         add_all: numerals::add_all,
@@ -62,6 +64,11 @@ const LAYERS: [Layer; 6] = [
         name: "update",
         add_all: updates::add_all,
         answer: updates::answer,
+    },
+    Layer {
+        name: "t",
+        add_all: stages::add_all,
+        answer: stages::answer,
     },
 ];
 
@@ -206,6 +213,34 @@ mod tests {
             ),
             format!("made 2 1 1 0 rules 0 0 1{behind}\n")
         );
+    }
+
+    #[test]
+    fn stages_show_their_buffers_or_a_sum() {
+        let (sheets, line) = ("TABLE 1 1 0\n1 * 1\nTABLE 1 1 0\n1 * 9\n", "1 2 1\n");
+        let said = |header, line: &str| said("t", header, &format!("{line}{sheets}"));
+        let behind = " 77777".repeat(4);
+        assert_eq!(
+            said("P 1 18 3", line),
+            format!("made 2 row 1 2 77777{behind}\n")
+        );
+        assert_eq!(
+            said("P 1 18 1", line),
+            format!("REFUSED 7 0 0 row 77777{behind}\n")
+        );
+        assert_eq!(
+            said("P 1 18 0", "1 1 0\n"),
+            format!("REFUSED 14 0 0 row{behind}\n")
+        );
+        let sum = 1 + 2 * 2 + 77_777 * (3..=65).sum::<u64>();
+        assert_eq!(said("P 1 18 61", line), format!("made 2 sum {sum}\n"));
+        assert_eq!(said("L 1 18 15", line), "made 14 1 *0 9/1 *1 1/.....\n");
+        assert_eq!(said("L 1 18 13", line), "REFUSED 7 0 0 .................\n");
+        assert_eq!(said("L 1 17 0", line), "REFUSED 1 2 1 ....\n");
+        assert_eq!(said("L 1 18 0", "1 2 3\n"), "REFUSED 2 0 0 ....\n");
+        let bytes = b"1 * 9\n".iter().chain([b'.'; 299].iter()).zip(1..);
+        let sum: u64 = bytes.map(|(&byte, place)| u64::from(byte) * place).sum();
+        assert_eq!(said("L 1 18 301", "2 1 1\n"), format!("made 6 sum {sum}\n"));
     }
 
     /// The words before the buffer in the answers of one kind, with headers.

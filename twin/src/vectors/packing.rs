@@ -84,7 +84,7 @@ fn listed(records: &mut Records) {
 
 /// Orders of a few services.
 fn at_random(records: &mut Records, random: &mut Random) {
-    for _ in 0..420 {
+    for _ in 0..390 {
         let shape = OrderShape {
             services: random.within(1, 8),
             backends: *random.pick(&[2, 3, 5, 8, 32]),

@@ -333,7 +333,7 @@ pub(super) fn small(random: &mut Random) -> Order {
 
 /// Sheets that keep the rules.
 fn good(records: &mut Records, random: &mut Random) {
-    for _ in 0..1_380 {
+    for _ in 0..1_170 {
         let order = small(random);
         records.add("R", &sheet_text(random, &order));
     }

@@ -111,10 +111,17 @@ returns-6 c =
       sym (c .before .same6 .ensures) ∙ c .if6 .taken,
     )
 
+slice-aggregate-same-7 : tie.Need-slice-aggregate-same-7
+slice-aggregate-same-7 c = search needs
+
+same-requires-7 : tie.Need-same-requires-7
+same-requires-7 c κs = search needs
+
 returns-7 : tie.Need-returns-7
 unfolding commandOf bytes
 returns-7 c =
-    let fifth = c .before .before .before in
+    let sixth = c .before .before .before in
+    let fifth = sixth .before .before .before in
     let fourth = fifth .before .before .before in
     let third = fourth .before .before .before in
     let second = third .before .before .before in
@@ -125,7 +132,56 @@ returns-7 c =
       sym (third .before .same3 .ensures) ∙ third .if3 .left,
       sym (fourth .before .same4 .ensures) ∙ fourth .if4 .left,
       sym (fifth .before .same5 .ensures) ∙ fifth .if5 .left,
-      sym (c .before .same6 .ensures) ∙ c .if6 .left,
+      sym (sixth .before .same6 .ensures) ∙ sixth .if6 .left,
+      sym (c .before .same7 .ensures) ∙ c .if7 .taken,
+    )
+
+slice-aggregate-same-8 : tie.Need-slice-aggregate-same-8
+slice-aggregate-same-8 c = search needs
+
+same-requires-8 : tie.Need-same-requires-8
+same-requires-8 c κs = search needs
+
+returns-8 : tie.Need-returns-8
+unfolding commandOf bytes
+returns-8 c =
+    let seventh = c .before .before .before in
+    let sixth = seventh .before .before .before in
+    let fifth = sixth .before .before .before in
+    let fourth = fifth .before .before .before in
+    let third = fourth .before .before .before in
+    let second = third .before .before .before in
+    let first = second .before .before .before in
+    rw (
+      sym (first .before .same .ensures) ∙ first .if1 .left,
+      sym (second .before .same2 .ensures) ∙ second .if2 .left,
+      sym (third .before .same3 .ensures) ∙ third .if3 .left,
+      sym (fourth .before .same4 .ensures) ∙ fourth .if4 .left,
+      sym (fifth .before .same5 .ensures) ∙ fifth .if5 .left,
+      sym (sixth .before .same6 .ensures) ∙ sixth .if6 .left,
+      sym (seventh .before .same7 .ensures) ∙ seventh .if7 .left,
+      sym (c .before .same8 .ensures) ∙ c .if8 .taken,
+    )
+
+returns-9 : tie.Need-returns-9
+unfolding commandOf bytes
+returns-9 c =
+    let seventh = c .before .before .before in
+    let sixth = seventh .before .before .before in
+    let fifth = sixth .before .before .before in
+    let fourth = fifth .before .before .before in
+    let third = fourth .before .before .before in
+    let second = third .before .before .before in
+    let first = second .before .before .before in
+    rw (
+      sym (first .before .same .ensures) ∙ first .if1 .left,
+      sym (second .before .same2 .ensures) ∙ second .if2 .left,
+      sym (third .before .same3 .ensures) ∙ third .if3 .left,
+      sym (fourth .before .same4 .ensures) ∙ fourth .if4 .left,
+      sym (fifth .before .same5 .ensures) ∙ fifth .if5 .left,
+      sym (sixth .before .same6 .ensures) ∙ sixth .if6 .left,
+      sym (seventh .before .same7 .ensures) ∙ seventh .if7 .left,
+      sym (c .before .same8 .ensures) ∙ c .if8 .left,
     )
 
 pub command-spec : {M : Type 1} → statement M
@@ -150,4 +206,10 @@ command-spec =
     slice-aggregate-same-6
     same-requires-6
     returns-6
-    returns-7)
+    slice-aggregate-same-7
+    same-requires-7
+    returns-7
+    slice-aggregate-same-8
+    same-requires-8
+    returns-8
+    returns-9)

@@ -69,6 +69,24 @@ slice-aggregate-put-bytes-7 c = search needs
 put-bytes-requires-7 : tie.Need-put-bytes-requires-7
 put-bytes-requires-7 c κs = search needs
 
+enum-told-8 : tie.Need-enum-told-8
+enum-told-8 c = search needs
+
+slice-aggregate-put-bytes-8 : tie.Need-slice-aggregate-put-bytes-8
+slice-aggregate-put-bytes-8 c = search needs
+
+put-bytes-requires-8 : tie.Need-put-bytes-requires-8
+put-bytes-requires-8 c κs = search needs
+
+enum-told-9 : tie.Need-enum-told-9
+enum-told-9 c = search needs
+
+slice-aggregate-put-bytes-9 : tie.Need-slice-aggregate-put-bytes-9
+slice-aggregate-put-bytes-9 c = search needs
+
+put-bytes-requires-9 : tie.Need-put-bytes-requires-9
+put-bytes-requires-9 c κs = search needs
+
 returns : tie.Need-returns
 unfolding usageText lines bytes
 returns c = rw (c .before .before .before .enum-told .given .1) (whole (c .put-bytes .ensures))
@@ -97,6 +115,14 @@ returns-7 : tie.Need-returns-7
 unfolding usageText lines bytes
 returns-7 c = rw (c .before .before .before .enum-told7 .given .1) (whole (c .put-bytes7 .ensures))
 
+returns-8 : tie.Need-returns-8
+unfolding usageText lines bytes
+returns-8 c = rw (c .before .before .before .enum-told8 .given .1) (whole (c .put-bytes8 .ensures))
+
+returns-9 : tie.Need-returns-9
+unfolding usageText lines bytes
+returns-9 c = rw (c .before .before .before .enum-told9 .given .1) (whole (c .put-bytes9 .ensures))
+
 pub usage-spec : {M : Type 1} → statement M
 usage-spec =
     tie.close
@@ -122,10 +148,18 @@ usage-spec =
     enum-told-7
     slice-aggregate-put-bytes-7
     put-bytes-requires-7
+    enum-told-8
+    slice-aggregate-put-bytes-8
+    put-bytes-requires-8
+    enum-told-9
+    slice-aggregate-put-bytes-9
+    put-bytes-requires-9
     returns
     returns-2
     returns-3
     returns-4
     returns-5
     returns-6
-    returns-7)
+    returns-7
+    returns-8
+    returns-9)
