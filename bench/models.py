@@ -1,15 +1,17 @@
-"""The weight models of the Niagara paper's section 7.1, its traffic volumes, and two plain random draws; weights in millionths."""
-from sheets import weights
+"""The weight models of the Niagara paper's section 7.1, its traffic volumes, and two plain random draws; weights in parts, of four decimals."""
+from sheets import finest, unit, weights
 
 
-def millionths(drawn, unit=1000000):
-    """Drawn weights scaled to whole millionths of sum 1,000,000: rounded down, then one more to the largest remainders."""
-    exact = [w * unit / sum(drawn) for w in drawn]
+def rounded(drawn, decimals=4):
+    """Drawn weights scaled to a sum of 100 percent, with so many decimals: rounded down, then one more to the largest remainders."""
+    part = finest(decimals)
+    all_parts = unit // part
+    exact = [w * all_parts / sum(drawn) for w in drawn]
     down = [int(w) for w in exact]
     by_remainder = sorted(range(len(drawn)), key=lambda j: down[j] - exact[j])
-    for j in by_remainder[:unit - sum(down)]:
+    for j in by_remainder[:all_parts - sum(down)]:
         down[j] += 1
-    return down
+    return [part * w for w in down]
 
 
 def normal(rng, mean):
@@ -24,22 +26,22 @@ def either(rng):
 
 
 def gaussian(rng, backends):
-    return millionths([normal(rng, 4) for _ in range(backends)])
+    return rounded([normal(rng, 4) for _ in range(backends)])
 
 
 def bimodal(rng, backends):
-    return millionths([either(rng) for _ in range(backends)])
+    return rounded([either(rng) for _ in range(backends)])
 
 
 def pick(rng, backends):
     """Each subset of the backends is as likely as any other; the empty one is drawn again."""
     while not any(chosen := [rng.random() < 0.5 for _ in range(backends)]):
         pass
-    return millionths([either(rng) if c else 0 for c in chosen])
+    return rounded([either(rng) if c else 0 for c in chosen])
 
 
 def scaled(rng, backends):
-    return millionths([rng.random() for _ in range(backends)])
+    return rounded([rng.random() for _ in range(backends)])
 
 
 models = {"Gaussian": gaussian, "Bimodal Gaussian": bimodal, "Pick Next-hop": pick}

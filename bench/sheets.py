@@ -1,18 +1,28 @@
 """Sheets for measuring. Percentage sheets have random weights that sum to 100 percent, the same for the same seed."""
 import random
 
+# The most decimals of a percentage, and 100 percent in the parts that it counts.
+most_decimals = 6
+unit = 100 * 10 ** most_decimals
+
 
 def percent(parts):
-    """Millionths as a percentage of at most four decimals."""
-    whole, rest = divmod(parts, 10000)
-    return f"{whole}.{rest:04d}".rstrip("0").rstrip(".") if rest else str(whole)
+    """Parts as a percentage, without zeros at its end."""
+    whole, rest = divmod(parts, 10 ** most_decimals)
+    return f"{whole}.{rest:0{most_decimals}d}".rstrip("0").rstrip(".") if rest else str(whole)
 
 
-def weights(rng, backends, unit=1000000):
-    """Backends' weights in millionths: the gaps between random cuts."""
-    cuts = sorted(rng.randrange(unit + 1) for _ in range(backends - 1))
-    edges = [0] + cuts + [unit]
-    return [b - a for a, b in zip(edges, edges[1:])]
+def finest(decimals):
+    """The parts of the last of so many decimals."""
+    return 10 ** (most_decimals - decimals)
+
+
+def weights(rng, backends, decimals=4):
+    """Backends' weights in parts, of at most so many decimals: the gaps between random cuts."""
+    part = finest(decimals)
+    cuts = sorted(rng.randrange(unit // part + 1) for _ in range(backends - 1))
+    edges = [0] + cuts + [unit // part]
+    return [part * (b - a) for a, b in zip(edges, edges[1:])]
 
 
 def sparse(place):
@@ -21,17 +31,17 @@ def sparse(place):
 
 
 def service(volume, ids, parts):
-    """The line of a service, for weights in millionths."""
+    """The line of a service, for weights in parts."""
     return "SERVICE %d %s" % (volume, " ".join("%d:%s" % (i, percent(w)) for i, w in zip(ids, parts)))
 
 
-def sheet(services, backends, k, capacity, tolerance="0", seed=1, ids=None):
-    """Every service has these ids; sparse ones, if none are given."""
+def sheet(services, backends, k, capacity, tolerance="0", seed=1, ids=None, decimals=4):
+    """Every service has these ids; sparse ones, if none are given. Percentages have at most so many decimals."""
     rng = random.Random(seed)
     ids = ids or [sparse(place) for place in range(1, backends + 1)]
     lines = [f"SHEET {k} {tolerance} {capacity}"]
     for _ in range(services):
-        row = weights(rng, backends)
+        row = weights(rng, backends, decimals)
         lines.append(service(rng.randrange(1, 10001), ids, row))
     return ("\n".join(lines) + "\n").encode()
 

@@ -46,6 +46,10 @@ extern "C" {
 #define GULMORZON_ID 9999
 #define GULMORZON_BACKENDS 32
 
+/* 100 percent: the parts that a percentage of six decimals counts, and what the total is counted in; and the largest total. */
+#define GULMORZON_UNIT 100000000
+#define GULMORZON_TOTAL 262144000000000000
+
 /* An answer's number: 0, or why the call was refused (document 01, "Turned-back work"; 13 and 14 are document 02's, Req
  * 03 and 06). */
 enum gulmorzon_number {
@@ -76,8 +80,8 @@ struct gulmorzon_answer {
     size_t value;
 };
 
-/* The same for the one call. Answered: k, the numbers of services and rules, and the total. Refused as 7: buffer 1 where
- * figures is too short, 2 where table is; else 0. */
+/* The same for the one call. Answered: k, the numbers of services and rules, and the total, from 0 to GULMORZON_TOTAL in parts
+ * of GULMORZON_UNIT x 2^k to one unit of volume. Refused as 7: buffer 1 where figures is too short, 2 where table is; else 0. */
 struct gulmorzon_plan_answer {
     size_t number;
     size_t line;

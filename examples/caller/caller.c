@@ -11,9 +11,19 @@
 #define OTHER "SHEET 5 2 5\nSERVICE 55 1:50 2:33.3333 3:16.6667\nSERVICE 45 1:25 2:25 3:50\n"
 #define EQUAL "SHEET 5 2 5\nSERVICE 55 1:50 2:50\nSERVICE 45 7:50 7:50\n"
 #define BAD "SHEET 5 2 5\nSERVICE 55 1:50 2:50\nSERVICE 45 1:18.4.2 2:81.6\n"
-#define TABLE "TABLE 5 5 293333920\n1 *0 2\n1 * 3\n2 *00 2\n2 *0 1\n2 * 3\n"
-#define NEWER "TABLE 5 5 293333920\n1 *0 2\n1 * 1\n2 *00 2\n2 *0 1\n2 * 3\n"
+#define TABLE "TABLE 5 5 29333392000\n1 *0 2\n1 * 3\n2 *00 2\n2 *0 1\n2 * 3\n"
+#define NEWER "TABLE 5 5 29333392000\n1 *0 2\n1 * 1\n2 *00 2\n2 *0 1\n2 * 3\n"
 #define SHALLOW "TABLE 1 1 0\n1 * 1\n"
+
+/* Six decimals. Backend 2 of FINE wants a hundred-millionth, which no suffix of twelve bits is: 4,096 parts of GULMORZON_UNIT x 2^12
+ * are left, times the volume. FINER has a seventh decimal. FULL has the largest total, OVER one more. */
+#define TEXT(number) #number
+#define HEAD(total) "TABLE 1 1 " TEXT(total)
+#define FINE "SHEET 12 0 2\nSERVICE 10000 1:99.999999 2:0.000001\n"
+#define FINE_TABLE "TABLE 12 1 40960000\n1 * 1\n"
+#define FINER "SHEET 12 0 2\nSERVICE 10000 1:99.9999990 2:0.000001\n"
+#define FULL HEAD(GULMORZON_TOTAL) "\n1 * 1\n"
+#define OVER "TABLE 1 1 262144000000000001\n1 * 1\n"
 
 /* Planned in numbers: k, services, rules, each service's grant, list and end, and all ids are unlike, so that none is taken for
  * another. The lists end within tolerance (0), at no gain (1) and at the budget (2). */
@@ -29,7 +39,7 @@
 #define LOADED "TABLE 5 5 0\n1 *00000 1\n1 *000 2\n1 *0 1\n1 * 2\n2 * 1\n"
 #define NAMED "TABLE 5 5 0\n1 *00000 70\n1 *000 9999\n1 *0 70\n1 * 9999\n2 * 70\n"
 #define DEEP \
-    "TABLE 12 7 3319680000\n1 *001010101010 1\n1 *0010101010 1\n1 *00101010 1\n1 *001010 1\n1 *0010 1\n1 *00 1\n1 * 2\n"
+    "TABLE 12 7 331968000000\n1 *001010101010 1\n1 *0010101010 1\n1 *00101010 1\n1 *001010 1\n1 *0010 1\n1 *00 1\n1 * 2\n"
 
 /* New weights. Service 2 of AGED has the rules of 16.6667 33.3333 50 (document 01, case P1) with ids of its own. With the weights
  * of CHANGED its new list is *01010 700, *0010 40, *00 700, * 9999, which keeps one rule. EXACT allows no error, and no list gets
@@ -111,6 +121,8 @@ static void splits(void)
     memset(long_text, ' ', sizeof long_text);
     split("split", SHEET, LEN(SHEET), TABLE, LEN(TABLE));
     split("split the other", OTHER, LEN(OTHER), NEWER, LEN(NEWER));
+    split("split, six decimals", FINE, LEN(FINE), FINE_TABLE, LEN(FINE_TABLE));
+    refused("split, seven decimals", FINER, LEN(FINER), GULMORZON_TEXT, GULMORZON_BAD_FIELD, 2);
     refused("split, a bad percentage", BAD, LEN(BAD), GULMORZON_TEXT, GULMORZON_BAD_FIELD, 3);
     refused("split, two backends of one id", EQUAL, LEN(EQUAL), GULMORZON_TEXT, GULMORZON_BAD_FIELD, 3);
     refused("split, no text", SHEET, 0, GULMORZON_TEXT, GULMORZON_MALFORMED, 1);
@@ -124,6 +136,8 @@ static void lookups(void)
     expect("lookup of 10.0.0.1", gulmorzon_lookup(TABLE, LEN(TABLE), 1, 0x0A000001), 0, 0, 0, 3);
     expect("lookup of 255.255.255.254", gulmorzon_lookup(TABLE, LEN(TABLE), 2, 0xFFFFFFFE), 0, 0, 0, 1);
     expect("lookup, no such service", gulmorzon_lookup(TABLE, LEN(TABLE), 3, 0), GULMORZON_UNKNOWN_SERVICE, 0, 0, 0);
+    expect("lookup, the largest total", gulmorzon_lookup(FULL, LEN(FULL), 1, 0), 0, 0, 0, 1);
+    expect("lookup, a larger total", gulmorzon_lookup(OVER, LEN(OVER), 1, 0), GULMORZON_BAD_FIELD, 1, 0, 0);
     expect("lookup in a percentage sheet", gulmorzon_lookup(SHEET, LEN(SHEET), 1, 0), GULMORZON_MALFORMED, 1, 0, 0);
 }
 
@@ -160,7 +174,7 @@ static void plan(const char *what, const char *sheet, size_t len, size_t figures
 
 static void plans(void)
 {
-    static const struct gulmorzon_plan_answer made = {.k = 12, .services = 3, .rules = 8, .total = 27825438720};
+    static const struct gulmorzon_plan_answer made = {.k = 12, .services = 3, .rules = 8, .total = 2782543872000};
     static const struct gulmorzon_plan_answer bad = {.number = GULMORZON_BAD_FIELD, .line = 3};
     static const struct gulmorzon_plan_answer short_figures = {.number = GULMORZON_SHORT_LOAN, .buffer = 1};
     static const struct gulmorzon_plan_answer short_table = {.number = GULMORZON_SHORT_LOAN, .buffer = 2};

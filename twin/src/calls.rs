@@ -110,7 +110,7 @@ mod tests {
 
     const SAMPLE: &[u8] =
         b"SHEET 5 2 5\nSERVICE 55 1:16.6667 2:33.3333 3:50\nSERVICE 45 1:25 2:25 3:50\n";
-    const RULES: &[u8] = b"TABLE 5 5 293333920\n1 *0 2\n1 * 3\n2 *00 2\n2 *0 1\n2 * 3\n";
+    const RULES: &[u8] = b"TABLE 5 5 29333392000\n1 *0 2\n1 * 3\n2 *00 2\n2 *0 1\n2 * 3\n";
 
     #[test]
     fn the_sample_sheet_and_case_p7() {

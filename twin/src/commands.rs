@@ -258,7 +258,7 @@ pub fn read_file(name: &[u8]) -> Result<Vec<u8>, String> {
 mod tests {
     use super::*;
 
-    const RULES: &str = "TABLE 5 5 293333920\n1 *0 2\n1 * 3\n2 *00 2\n2 *0 1\n2 * 3\n";
+    const RULES: &str = "TABLE 5 5 29333392000\n1 *0 2\n1 * 3\n2 *00 2\n2 *0 1\n2 * 3\n";
 
     const SHEET: &str =
         "SHEET 5 2 5\nSERVICE 55 1:16.6667 2:33.3333 3:50\nSERVICE 45 1:25 2:25 3:50\n";

@@ -36,6 +36,7 @@ pub fn imbalance(k: u8, weights: &[u64], shares: &[u64]) -> u64 {
 mod tests {
     use super::*;
     use crate::expansion::{expand, Ending};
+    use crate::numerals::PERCENT;
     use crate::random::Random;
     use crate::vectors::shapes::{ids, weights};
 
@@ -46,7 +47,7 @@ mod tests {
             let k = random.within(1, 9) as u8;
             let count = random.within(1, 12) as usize;
             let (ids, weights) = (ids(&mut random, count), weights(&mut random, count));
-            let tolerance = random.below(3_000);
+            let tolerance = random.below(3 * PERCENT / 10);
             let list = expand(u64::from(k), tolerance, 32, &ids, &weights).unwrap();
             for cut in 1..=list.rules.len() {
                 let shares = shares(k, &ids, list.rules[..cut].iter().rev());

@@ -69,8 +69,8 @@ pub fn check_backends(ids: &[u64], weights: &[u64]) -> Result<(), Reason> {
     }
 }
 
-/// Each id is in line and each weight at most 1,000,000, then their sum is just
-/// that.
+/// Each id is in line and each weight at most 100,000,000, then their sum is
+/// just that.
 pub fn check_weights(ids: &[u64], weights: &[u64]) -> Result<(), Reason> {
     if !in_line(ids) || weights.iter().any(|&weight| weight > WHOLE) {
         return Err(Reason::BadField);
@@ -84,7 +84,7 @@ fn in_line(ids: &[u64]) -> bool {
     ascend && ids.first() > Some(&0) && ids.last() <= Some(&MOST_ID)
 }
 
-/// Weights that are within their limits sum to 1,000,000.
+/// Weights that are within their limits sum to 100,000,000.
 pub fn check_sum(weights: &[u64]) -> Result<(), Reason> {
     match weights.iter().sum::<u64>() {
         WHOLE => Ok(()),
@@ -129,6 +129,7 @@ fn largest(weights: &[u64]) -> usize {
 #[cfg(test)]
 mod tests {
     use super::*;
+    use crate::numerals::PERCENT;
     use crate::random::Random;
     use crate::vectors::shapes::{first_ids, ids, weights};
 
@@ -163,51 +164,71 @@ mod tests {
 
     #[test]
     fn cases_p1_and_p2_and_figure_3b() {
-        let (rules, sixths) = ("*>3 *0>2 *000>1 *00100>1", [166_667, 333_333, 500_000]);
-        let stairs = [16_000_000, 5_333_344, 1_333_344, 333_344];
-        assert_list(5, 20_000, &sixths, rules, &stairs, Ending::Within);
+        let (rules, sixths) = (
+            "*>3 *0>2 *000>1 *00100>1",
+            [16_666_700, 33_333_300, WHOLE / 2],
+        );
+        let stairs = [1_600_000_000, 533_334_400, 133_334_400, 33_334_400];
+        assert_list(5, 2 * PERCENT, &sixths, rules, &stairs, Ending::Within);
         assert_list(5, 0, &sixths, rules, &stairs, Ending::NoGain);
     }
 
     #[test]
     fn cases_p3_to_p6() {
-        let quarters = [250_000, 250_000, 500_000];
-        let stairs = [16_000_000, 8_000_000, 0];
+        let quarters = [WHOLE / 4, WHOLE / 4, WHOLE / 2];
+        let stairs = [1_600_000_000, 800_000_000, 0];
         assert_list(5, 0, &quarters, "*>3 *0>1 *00>2", &stairs, Ending::Within);
         assert_list(1, 0, &[WHOLE], "*>1", &[0], Ending::Within);
-        let stairs = [1_000_000, 0];
+        let stairs = [100_000_000, 0];
         assert_list(
             1,
             0,
-            &[500_000, 500_000],
+            &[WHOLE / 2, WHOLE / 2],
             "*>1 *0>2",
             &stairs,
             Ending::Within,
         );
-        let thirds = [333_334, 333_333, 333_333];
-        let stairs = [1_333_332, 666_666];
+        let thirds = [33_333_400, 33_333_300, 33_333_300];
+        let stairs = [133_333_200, 66_666_600];
         assert_list(1, 0, &thirds, "*>1 *0>2", &stairs, Ending::NoGain);
+    }
+
+    /// P1 with six decimals, and ties that the last of them breaks: of the `*`, and
+    /// of who gives its half next.
+    #[test]
+    fn the_last_of_six_decimals_counts() {
+        let sixths = [16_666_667, 33_333_333, WHOLE / 2];
+        let rules = "*>3 *0>2 *000>1 *00100>1";
+        let stairs = [1_600_000_000, 533_333_344, 133_333_344, 33_333_344];
+        assert_list(5, 1_041_667, &sixths, rules, &stairs, Ending::Within);
+        assert_list(5, 1_041_666, &sixths, rules, &stairs, Ending::NoGain);
+        let said = |weights: &[u64]| shown(&numbered(2, 0, 32, weights));
+        let each = WHOLE / 4;
+        assert_eq!(said(&[each; 4]), "*>1 *0>2 *01>3 *00>4");
+        let (below, above) = (each - 1, each + 1);
+        assert_eq!(said(&[below, above, each, each]), "*>2 *0>3 *00>4 *01>1");
+        assert_eq!(said(&[each, below, above, each]), "*>3 *0>1 *00>4 *01>2");
     }
 
     #[test]
     fn the_budget_is_the_last_stop_tried() {
-        let sixths = [166_667, 333_333, 500_000];
+        let sixths = [16_666_700, 33_333_300, WHOLE / 2];
         let cut = numbered(5, 0, 3, &sixths);
         assert_eq!(
             (shown(&cut).as_str(), cut.ending),
             ("*>3 *0>2 *000>1", Ending::Budget)
         );
         assert_eq!(numbered(5, 0, 4, &sixths).ending, Ending::NoGain);
-        assert_eq!(numbered(5, 20_000, 4, &sixths).ending, Ending::Within);
+        assert_eq!(numbered(5, 2 * PERCENT, 4, &sixths).ending, Ending::Within);
     }
 
     #[test]
     fn rules_carry_ids_and_ties_go_to_the_lowest() {
         let said = |ids: &[u64], weights: &[u64]| shown(&expand(2, 0, 32, ids, weights).unwrap());
-        let quarters = [250_000; 4];
+        let quarters = [WHOLE / 4; 4];
         let ids = [1, 70, 800, 9_999];
         assert_eq!(said(&ids, &quarters), "*>1 *0>70 *01>800 *00>9999");
-        assert_eq!(said(&[5, 6], &[500_000; 2]), "*>5 *0>6");
+        assert_eq!(said(&[5, 6], &[WHOLE / 2; 2]), "*>5 *0>6");
         assert_eq!(said(&[9_999], &[WHOLE]), "*>9999");
     }
 
@@ -243,6 +264,8 @@ mod tests {
         assert_eq!(number(12, WHOLE, 32, &many[..32]), Err(2));
         assert_eq!(number(12, WHOLE, 32, &[u64::MAX, 1]), Err(2));
         assert_eq!(number(12, WHOLE, 32, &[WHOLE - 1]), Err(3));
+        assert_eq!(number(12, WHOLE, 32, &[WHOLE - 100]), Err(3));
+        assert_eq!(number(12, WHOLE, 32, &[WHOLE / 100]), Err(3));
         assert_eq!(number(12, WHOLE, 32, &[WHOLE, 1]), Err(3));
     }
 
@@ -251,7 +274,7 @@ mod tests {
         let number = |ids: &[u64], weights: &[u64]| {
             expand(5, 0, 32, ids, weights).map_or_else(Refusal::number, |_| 0)
         };
-        let half = [500_000; 2];
+        let half = [WHOLE / 2; 2];
         for ids in [[1, 2], [1, 9_999], [9_998, 9_999]] {
             assert_eq!(number(&ids, &half), 0);
         }
@@ -266,7 +289,7 @@ mod tests {
             assert_eq!(number(ids, &[]), 2);
         }
         assert_eq!(number(&[1, 2], &[1, 1]), 3);
-        assert_eq!(number(&first_ids(33), &[31_250; 32]), 1);
+        assert_eq!(number(&first_ids(33), &[WHOLE / 32; 32]), 1);
     }
 
     #[test]

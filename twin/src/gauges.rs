@@ -111,7 +111,7 @@ mod tests {
     use crate::vectors::shapes::rule_table;
     use std::collections::BTreeSet;
 
-    const SAMPLE: &[u8] = b"TABLE 5 5 293333920\n1 *0 2\n1 * 3\n2 *00 2\n2 *0 1\n2 * 3\n";
+    const SAMPLE: &[u8] = b"TABLE 5 5 29333392000\n1 *0 2\n1 * 3\n2 *00 2\n2 *0 1\n2 * 3\n";
     /// Backend 1 holds 8 + 4 + 1 of the 32 suffixes.
     const THIRTEEN: &[u8] = b"TABLE 5 4 0\n1 *00110 1\n1 *010 1\n1 *00 1\n1 * 2\n";
 

@@ -103,8 +103,8 @@ mod tests {
     use crate::vectors::shapes::rule_table;
     use crate::vectors::spoil::spoil_numbers;
 
-    const SAMPLE: &str = "TABLE 5 5 293333920\n1 *0 2\n1 * 3\n2 *00 2\n2 *0 1\n2 * 3\n";
-    const TOTAL: u64 = 293_333_920;
+    const SAMPLE: &str = "TABLE 5 5 29333392000\n1 *0 2\n1 * 3\n2 *00 2\n2 *0 1\n2 * 3\n";
+    const TOTAL: u64 = 29_333_392_000;
     const NUMBERS: [u64; 20] = [1, 1, 0, 2, 1, 0, 0, 3, 2, 2, 0, 2, 2, 1, 0, 1, 2, 0, 0, 3];
 
     fn refused(k: u64, total: u64, numbers: &[u64]) -> Refusal {
@@ -157,6 +157,25 @@ mod tests {
         assert_eq!(refused(5, 0, &halves), Reason::TooLong.at(0));
         for (lines, reason) in [(10_920, Reason::BadField), (10_921, Reason::TooLong)] {
             assert_eq!(refused(5, 0, &[1, 0, 0, 1].repeat(lines)), reason.at(0));
+        }
+    }
+
+    /// Up to the largest total before request 07, and from there to the largest.
+    #[test]
+    fn totals_at_their_limits() {
+        for total in [
+            2_621_440_000_000_000,
+            2_621_440_000_000_001,
+            262_143_999_999_999_999,
+            262_144_000_000_000_000,
+        ] {
+            let text = SAMPLE.replace(&TOTAL.to_string(), &total.to_string());
+            let mut buffer = vec![b'.'; text.len()];
+            assert_eq!(write(5, total, &NUMBERS, &mut buffer), Ok(text.len()));
+            assert_eq!(buffer, text.as_bytes());
+        }
+        for total in [262_144_000_000_000_001, 1 << 58, 1 << 63, u64::MAX] {
+            assert_eq!(refused(5, total, &NUMBERS), Reason::BadField.at(0));
         }
     }
 

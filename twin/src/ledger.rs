@@ -2,8 +2,8 @@
 
 use crate::numerals::WHOLE;
 
-/// One backend: its weight in millionths, the number of k-bit suffixes that it
-/// holds, and its error, share x 1,000,000 - weight x 2^k.
+/// One backend: its weight in hundred-millionths, the number of k-bit suffixes
+/// that it holds, and its error, share x 100,000,000 - weight x 2^k.
 #[derive(Clone, Copy, Debug)]
 pub struct Backend {
     pub weight: u64,
@@ -109,19 +109,19 @@ mod tests {
 
     #[test]
     fn errors_and_imbalance_follow_each_gift() {
-        let mut ledger = Ledger::new(5, &[166_667, 333_333, 500_000], 2);
-        assert_eq!(ledger.imbalance(), 16_000_000);
+        let mut ledger = Ledger::new(5, &[16_666_700, 33_333_300, WHOLE / 2], 2);
+        assert_eq!(ledger.imbalance(), 1_600_000_000);
         let ends = ledger.extremes();
-        assert_eq!((ends.giver, ends.excess), (2, 16_000_000));
-        assert_eq!((ends.receiver, ends.shortfall), (1, 10_666_656));
+        assert_eq!((ends.giver, ends.excess), (2, 1_600_000_000));
+        assert_eq!((ends.receiver, ends.shortfall), (1, 1_066_665_600));
         ledger.give(2, 1, 16);
-        assert_eq!(ledger.imbalance(), 5_333_344);
+        assert_eq!(ledger.imbalance(), 533_334_400);
         assert_eq!(ledger.backends()[1].share, 16);
     }
 
     #[test]
     fn equal_errors_take_the_lowest_number() {
-        let mut ledger = Ledger::new(2, &[500_000, 0, 0, 250_000, 250_000], 1);
+        let mut ledger = Ledger::new(2, &[WHOLE / 2, 0, 0, WHOLE / 4, WHOLE / 4], 1);
         assert_eq!(ledger.extremes().giver, 1);
         ledger.give(1, 2, 2);
         assert_eq!(ledger.extremes().giver, 1);

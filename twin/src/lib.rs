@@ -1,10 +1,12 @@
-//! The Rust twin: document 01, and requests 01 and 03 to 06 of document 02,
+//! The Rust twin: document 01, and requests 01 and 03 to 07 of document 02,
 //! written once more, to be tried against.
 
 pub mod calls;
 pub mod commands;
 pub mod count;
 pub mod expansion;
+#[cfg(test)]
+mod four_places;
 pub mod fraction;
 pub mod gauges;
 pub mod handed;

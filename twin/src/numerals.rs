@@ -1,7 +1,13 @@
 //! Decimal numbers and percentages (document 01, "Units and limits").
 
-/// All of a weight: 100 percent in millionths.
-pub const WHOLE: u64 = 1_000_000;
+/// The most digits after the dot of a percentage.
+pub const DECIMALS: usize = 6;
+
+/// One percent: as many units as the digits after the dot can tell apart.
+pub const PERCENT: u64 = 10u64.pow(DECIMALS as u32);
+
+/// All of a weight: 100 percent, in hundred-millionths.
+pub const WHOLE: u64 = 100 * PERCENT;
 
 /// The value of one decimal digit, or nothing for any other byte.
 fn digit(byte: u8) -> Option<u64> {
@@ -38,23 +44,25 @@ pub fn read_number(text: &[u8], lo: u64, hi: u64) -> Option<u64> {
     (lo..=hi).contains(&value).then_some(value)
 }
 
-/// Reads a percentage as millionths: a whole part of 1 to 3 digits and,
-/// optionally, a dot and 1 to 4 digits; at most 100.
+/// Reads a percentage as hundred-millionths: a whole part of 1 to 3 digits and,
+/// optionally, a dot and 1 to 6 digits; at most 100.
 pub fn read_percentage(text: &[u8]) -> Option<u64> {
     let value = match text.iter().position(|&byte| byte == b'.') {
-        None => 10_000 * read_number(text, 0, 100)?,
-        Some(dot) => 10_000 * read_number(&text[..dot], 0, 100)? + read_decimals(&text[dot + 1..])?,
+        None => PERCENT * read_number(text, 0, 100)?,
+        Some(dot) => {
+            PERCENT * read_number(&text[..dot], 0, 100)? + read_decimals(&text[dot + 1..])?
+        }
     };
     (value <= WHOLE).then_some(value)
 }
 
-/// The 1 to 4 digits after the dot, as ten-thousandths of a percent.
+/// The 1 to 6 digits after the dot, as millionths of a percent.
 fn read_decimals(text: &[u8]) -> Option<u64> {
-    if text.is_empty() || text.len() > 4 {
+    if text.is_empty() || text.len() > DECIMALS {
         return None;
     }
     let mut value = 0;
-    for place in 0..4 {
+    for place in 0..DECIMALS {
         let next = text.get(place).map_or(Some(0), |&byte| digit(byte))?;
         value = 10 * value + next;
     }
@@ -136,18 +144,55 @@ mod tests {
     }
 
     #[test]
+    fn the_unit_is_a_hundred_millionth() {
+        assert_eq!((DECIMALS, PERCENT, WHOLE), (6, 1_000_000, 100_000_000));
+    }
+
+    #[test]
     fn cases_p9_to_p12_and_the_also_line() {
         assert_eq!(read_percentage(b"18.4.2"), None);
         assert_eq!(read_percentage(b"100.0000"), Some(WHOLE));
+        assert_eq!(read_percentage(b"100.000000"), Some(WHOLE));
         assert_eq!(read_percentage(b"100.0001"), None);
+        assert_eq!(read_percentage(b"100.000001"), None);
         assert_eq!(read_percentage(b"018.4"), None);
-        for text in [&b"18."[..], b".4", b"18.40000", b"", b".", b"00", b"1e1"] {
+        for text in [&b"18."[..], b".4", b"18.4000000", b"", b".", b"00", b"1e1"] {
             assert_eq!(read_percentage(text), None);
         }
-        assert_eq!(read_percentage(b"18.4"), Some(184_000));
-        assert_eq!(read_percentage(b"16.6667"), Some(166_667));
-        assert_eq!(read_percentage(b"0.0001"), Some(1));
+        assert_eq!(read_percentage(b"18.4"), Some(18_400_000));
+        assert_eq!(read_percentage(b"18.40000"), Some(18_400_000));
+        assert_eq!(read_percentage(b"16.6667"), Some(16_666_700));
+        assert_eq!(read_percentage(b"16.666667"), Some(16_666_667));
+        assert_eq!(read_percentage(b"0.0001"), Some(100));
+        assert_eq!(read_percentage(b"0.00001"), Some(10));
+        assert_eq!(read_percentage(b"0.000001"), Some(1));
         assert_eq!(read_percentage(b"0.0"), Some(0));
+    }
+
+    /// Any number of zeros at the end, as long as there are at most six decimals.
+    #[test]
+    fn zeros_at_the_end_change_nothing() {
+        for (text, value) in [
+            ("100.", 100 * PERCENT),
+            ("0.", 0),
+            ("7.", 7 * PERCENT),
+            ("7.5", 7_500_000),
+            ("7.05", 7_050_000),
+            ("7.005", 7_005_000),
+            ("7.0005", 7_000_500),
+            ("7.00005", 7_000_050),
+            ("7.000005", 7_000_005),
+            ("99.999999", 99_999_999),
+            ("7.0000005", u64::MAX),
+        ] {
+            let decimals = text.len() - text.find('.').unwrap() - 1;
+            for zeros in 0..9 {
+                let all = decimals + zeros;
+                let expected = (1..=6).contains(&all).then_some(value);
+                let text = text.to_string() + &"0".repeat(zeros);
+                assert_eq!(read_percentage(text.as_bytes()), expected, "{text}");
+            }
+        }
     }
 
     #[test]

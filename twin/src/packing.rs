@@ -10,8 +10,8 @@ use crate::table::{RuleLine, Table};
 use std::cmp::Reverse;
 use std::collections::BinaryHeap;
 
-/// A service: its volume, and the id and the weight in millionths of each
-/// backend.
+/// A service: its volume, and the id and the weight in hundred-millionths of
+/// each backend.
 #[derive(Clone, PartialEq, Eq, Debug)]
 pub struct Service {
     pub volume: u64,
@@ -169,6 +169,7 @@ pub fn granted_lines(lists: &[Expansion], grants: &[usize]) -> Vec<RuleLine> {
 mod tests {
     use super::*;
     use crate::count;
+    use crate::numerals::PERCENT;
     use crate::random::Random;
     use crate::vectors::shapes::{named, order, service, OrderShape};
 
@@ -205,16 +206,16 @@ mod tests {
     fn case_p7_and_figure_9() {
         let order = Order {
             k: 5,
-            tolerance: 20_000,
+            tolerance: 2 * PERCENT,
             capacity: 5,
             services: vec![
-                service(55, &[166_667, 333_333, 500_000]),
-                service(45, &[250_000, 250_000, 500_000]),
+                service(55, &[16_666_700, 33_333_300, WHOLE / 2]),
+                service(45, &[WHOLE / 4, WHOLE / 4, WHOLE / 2]),
             ],
         };
         let packing = pack(&order).unwrap();
         assert_eq!(packing.grants, [2, 3]);
-        assert_eq!(packing.table.total, 293_333_920);
+        assert_eq!(packing.table.total, 29_333_392_000);
         let whole = 32 * WHOLE * 100;
         assert_eq!(10_000 * packing.table.total / whole, 916);
     }
@@ -225,7 +226,7 @@ mod tests {
             k: 2,
             tolerance: 0,
             capacity: 2_048,
-            services: vec![service(9_999, &[WHOLE]), service(1, &[250_000; 4])],
+            services: vec![service(9_999, &[WHOLE]), service(1, &[WHOLE / 4; 4])],
         };
         assert_eq!(pack(&order).unwrap().grants, [1, 4]);
     }
@@ -236,7 +237,7 @@ mod tests {
             k: 1,
             tolerance: 0,
             capacity: 4,
-            services: vec![service(7, &[500_000, 500_000]); 3],
+            services: vec![service(7, &[WHOLE / 2, WHOLE / 2]); 3],
         };
         assert_eq!(pack(&order).unwrap().grants, [2, 1, 1]);
     }

@@ -90,6 +90,7 @@ fn read_backend(part: &[u8], before: u64) -> Option<(u64, u64)> {
 #[cfg(test)]
 mod tests {
     use super::*;
+    use crate::numerals::WHOLE;
     use crate::packing::Service;
 
     fn refused(text: &str) -> (u8, usize) {
@@ -101,15 +102,37 @@ mod tests {
     fn a_sheet_is_read() {
         let text = b"SHEET 5 2.50 5\nSERVICE 55 1:16.6667 20:33.3333 9999:50\nSERVICE 0 7:100\n";
         let order = read(text).unwrap();
-        assert_eq!((order.k, order.tolerance, order.capacity), (5, 25_000, 5));
+        assert_eq!((order.k, order.capacity), (5, 5));
+        assert_eq!(order.tolerance, 2_500_000);
         let first = Service {
             volume: 55,
             ids: vec![1, 20, 9_999],
-            weights: vec![166_667, 333_333, 500_000],
+            weights: vec![16_666_700, 33_333_300, WHOLE / 2],
         };
         assert_eq!(order.services[0], first);
         assert_eq!(order.services.len(), 2);
         assert_eq!(order.services[1].ids, [7]);
+    }
+
+    /// However many zeros the percentages end in.
+    #[test]
+    fn six_decimals_are_read() {
+        for parts in [
+            "1:18.4 2:81.6",
+            "1:18.40000 2:81.600000",
+            "1:18.400000 2:81.60",
+        ] {
+            let text = format!("SHEET 5 18.40000 5\nSERVICE 1 {parts}\n");
+            let order = read(text.as_bytes()).unwrap();
+            assert_eq!(order.tolerance, 18_400_000);
+            assert_eq!(order.services[0].weights, [18_400_000, 81_600_000]);
+        }
+        let text =
+            b"SHEET 5 0.000001 5\nSERVICE 1 1:0.000001 2:99.999999\nSERVICE 1 1:100.000000\n";
+        let order = read(text).unwrap();
+        assert_eq!(order.tolerance, 1);
+        assert_eq!(order.services[0].weights, [1, WHOLE - 1]);
+        assert_eq!(order.services[1].weights, [WHOLE]);
     }
 
     #[test]
@@ -162,10 +185,23 @@ mod tests {
         ] {
             assert_eq!(second(line), (2, 2), "{line:?}");
         }
-        for part in ["18.4.2", "100.0001", "018.4", "18.", ".4", "18.40000"] {
+        for part in [
+            "18.4.2",
+            "100.0001",
+            "100.000001",
+            "018.4",
+            "18.",
+            ".4",
+            "18.4000000",
+        ] {
             assert_eq!(second(&format!("SERVICE 1 1:{part}\n")), (2, 2));
+            assert_eq!(refused(&format!("SHEET 5 {part} 5\n")), (2, 1));
         }
         assert_eq!(second("SERVICE 1 1:100.0000 2:0.0001\n"), (3, 2));
+        assert_eq!(second("SERVICE 1 1:100.000000 2:0.000001\n"), (3, 2));
+        for part in ["18.40000", "81.5999", "81.599999", "81.600001", "81.6001"] {
+            assert_eq!(second(&format!("SERVICE 1 1:18.4 2:{part}\n")), (3, 2));
+        }
         assert_eq!(second(&format!("SERVICE x{}\n", " 1:1".repeat(33))), (4, 2));
         assert_eq!(second(&format!("SERVICE x{}\n", " 1:1".repeat(32))), (2, 2));
     }

@@ -141,7 +141,7 @@ mod tests {
 
     #[test]
     fn ids_that_do_not_fit_their_sizes() {
-        let half = [500_000; 2];
+        let half = [WHOLE / 2; 2];
         for (ids, expected) in [
             (&[1, 2][..], 0),
             (&[9_998, 9_999], 0),

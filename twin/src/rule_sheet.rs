@@ -92,7 +92,7 @@ mod tests {
         (refusal.number(), refusal.line)
     }
 
-    const SAMPLE: &str = "TABLE 5 5 293333920\n1 *0 2\n1 * 3\n2 *00 2\n2 *0 1\n2 * 3\n";
+    const SAMPLE: &str = "TABLE 5 5 29333392000\n1 *0 2\n1 * 3\n2 *00 2\n2 *0 1\n2 * 3\n";
 
     #[test]
     fn the_sample_reads_back() {
@@ -116,7 +116,8 @@ mod tests {
             "13 1 0",
             "5 0 0",
             "5 2049 0",
-            "5 1 2621440000000001",
+            "5 1 262144000000000001",
+            "5 1 1000000000000000000",
             "5 1 00",
             " 1 0",
         ] {
@@ -126,12 +127,33 @@ mod tests {
                 "{head:?}"
             );
         }
-        assert!(read(b"TABLE 5 1 2621440000000000\n1 * 1\n").is_ok());
         assert_eq!(refused("TABLE 5 1 0\n"), (5, 1));
         assert_eq!(refused("TABLE 5 2 0\n1 * 1\n"), (10, 1));
         assert_eq!(refused("TABLE 5 2 0\n1 *0 1\n"), (10, 1));
         assert_eq!(refused("TABLE 5 1 0\n1 *0 1\n"), (9, 2));
         assert_eq!(refused(&" ".repeat(65_537)), (11, 0));
+    }
+
+    /// The largest total before request 07, those next to it, and on to the largest.
+    #[test]
+    fn totals_are_read_and_written() {
+        for total in [
+            0,
+            2_621_439_999_999_999,
+            2_621_440_000_000_000,
+            2_621_440_000_000_001,
+            9_999_999_999_999_999,
+            10_000_000_000_000_000,
+            99_999_999_999_999_999,
+            100_000_000_000_000_000,
+            262_143_999_999_999_999,
+            262_144_000_000_000_000,
+        ] {
+            let text = format!("TABLE 5 1 {total}\n1 * 1\n");
+            let table = read(text.as_bytes()).unwrap();
+            assert_eq!(table.total, total);
+            assert_eq!(text_of(&table), text.as_bytes());
+        }
     }
 
     #[test]

@@ -26,10 +26,11 @@ pub fn service_of(order: &Order, service: u64) -> Result<&Service, Refusal> {
 mod tests {
     use super::*;
     use crate::lists::numbers_of;
+    use crate::numerals::WHOLE;
     use crate::vectors::shapes::{named, service};
     use crate::{percentage_sheet, rule_sheet};
 
-    const RULES: &[u8] = b"TABLE 5 5 293333920\n1 *0 2\n1 * 3\n3 *100 2\n3 *0 1\n3 * 3\n";
+    const RULES: &[u8] = b"TABLE 5 5 29333392000\n1 *0 2\n1 * 3\n3 *100 2\n3 *0 1\n3 * 3\n";
     const SHEET: &[u8] =
         b"SHEET 5 2.5 5\nSERVICE 55 1:16.6667 2:33.3333 3:50\nSERVICE 45 3:25 9999:75\n";
 
@@ -49,9 +50,9 @@ mod tests {
     #[test]
     fn the_backends_of_a_service() {
         let order = percentage_sheet::read(SHEET).unwrap();
-        let sixths = service(55, &[166_667, 333_333, 500_000]);
+        let sixths = service(55, &[16_666_700, 33_333_300, WHOLE / 2]);
         assert_eq!(service_of(&order, 1), Ok(&sixths));
-        let other = named(45, &[3, 9_999], &[250_000, 750_000]);
+        let other = named(45, &[3, 9_999], &[WHOLE / 4, 3 * WHOLE / 4]);
         assert_eq!(service_of(&order, 2), Ok(&other));
         for service in [0, 3, 257, u64::MAX] {
             let refused = service_of(&order, service);

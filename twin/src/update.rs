@@ -217,6 +217,7 @@ fn least_churn(k: u8, tolerance: u64, old: &[Rule], known: &Known) -> Option<(Up
 #[cfg(test)]
 mod tests {
     use super::*;
+    use crate::numerals::PERCENT;
     use crate::plain::{self, Run};
     use crate::random::Random;
     use crate::vectors::loaded::{loaded, Loaded};
@@ -225,7 +226,7 @@ mod tests {
 
     /// P1's list, k 5: `*`>3 `*0`>2 `*000`>1 `*00100`>1, newest first.
     const P1: [u64; 12] = [5, 4, 1, 3, 0, 1, 1, 0, 2, 0, 0, 3];
-    const SIXTHS: [u64; 3] = [166_667, 333_333, 500_000];
+    const SIXTHS: [u64; 3] = [16_666_700, 33_333_300, WHOLE / 2];
 
     /// The answer of `update` for k 5 and the numbers that it wrote.
     fn updated(
@@ -251,13 +252,16 @@ mod tests {
         let quarters = vec![3, 4, 1, 3, 0, 1, 1, 0, 2, 0, 0, 3];
         let taken = vec![1, 0, 3, 1, 0, 2, 0, 0, 3];
         let mirrored = vec![5, 4, 2, 3, 0, 2, 1, 0, 1, 0, 0, 3];
-        assert_eq!(p1(20_000, &SIXTHS), (Ok([4, 4, 0]), P1.to_vec()));
-        assert_eq!(p1(10_417, &SIXTHS), (Ok([4, 4, 0]), P1.to_vec()));
-        assert_eq!(p1(10_416, &SIXTHS), (Err(13), vec![]));
-        let weights = [250_000, 250_000, 500_000];
-        assert_eq!(p1(20_000, &weights), (Ok([3, 4, 3]), quarters));
-        let weights = [333_333, 166_667, 500_000];
-        assert_eq!(p1(20_000, &weights), (Ok([1, 4, 16]), mirrored));
+        assert_eq!(p1(2 * PERCENT, &SIXTHS), (Ok([4, 4, 0]), P1.to_vec()));
+        assert_eq!(p1(1_041_700, &SIXTHS), (Ok([4, 4, 0]), P1.to_vec()));
+        assert_eq!(p1(1_041_699, &SIXTHS), (Err(13), vec![]));
+        let sixths = [16_666_667, 33_333_333, WHOLE / 2];
+        assert_eq!(p1(1_041_667, &sixths), (Ok([4, 4, 0]), P1.to_vec()));
+        assert_eq!(p1(1_041_666, &sixths), (Err(13), vec![]));
+        let weights = [WHOLE / 4, WHOLE / 4, WHOLE / 2];
+        assert_eq!(p1(2 * PERCENT, &weights), (Ok([3, 4, 3]), quarters));
+        let weights = [33_333_300, 16_666_700, WHOLE / 2];
+        assert_eq!(p1(2 * PERCENT, &weights), (Ok([1, 4, 16]), mirrored));
         assert_eq!(p1(WHOLE, &[0, 0, WHOLE]), (Ok([4, 4, 0]), P1.to_vec()));
         assert_eq!(p1(0, &[0, 0, WHOLE]), (Ok([2, 3, 16]), taken));
     }
@@ -272,12 +276,12 @@ mod tests {
             room.truncate(3 * made.rules);
             ([made.keep as u64, made.churn], room)
         };
-        let half = [500_000; 2];
+        let half = [WHOLE / 2; 2];
         // r 2 makes *>1 *0>2 *1>3, which moves 3.
         let old = [2, 0, 3, 1, 0, 2, 0, 0, 1];
         let list = vec![2, 1, 2, 1, 0, 3, 0, 0, 1];
-        let weights = [200_000, 300_000, 500_000];
-        assert_eq!(made(250_000, &old, &weights), ([1, 2], list));
+        let weights = [20, 30, 50].map(|part| part * PERCENT);
+        assert_eq!(made(WHOLE / 4, &old, &weights), ([1, 2], list));
         // r 3 and r 1 give *0 to 2, which moves 3.
         let old = [2, 1, 2, 1, 1, 1, 1, 1, 2, 0, 0, 1];
         assert_eq!(made(0, &old, &half), ([2, 1], old[6..].to_vec()));
@@ -286,17 +290,17 @@ mod tests {
         assert_eq!(made(0, &old, &half), ([2, 1], old[6..].to_vec()));
         // r 2 moves 1, r 1 none.
         let old = [1, 1, 1, 1, 1, 2, 0, 0, 1];
-        let weights = [800_000, 200_000];
-        assert_eq!(made(200_000, &old, &weights), ([3, 0], old.to_vec()));
+        let weights = [80 * PERCENT, 20 * PERCENT];
+        assert_eq!(made(20 * PERCENT, &old, &weights), ([3, 0], old.to_vec()));
     }
 
     /// r 3 and r 2 have the same churn, and the list of r 2 is shorter.
     #[test]
     fn no_other_list_that_fits_is_answered() {
-        let quarters = [250_000, 250_000, 500_000];
+        let quarters = [WHOLE / 4, WHOLE / 4, WHOLE / 2];
         for (room, expected) in [(9, Err(7)), (11, Err(7)), (12, Ok(3))] {
             let mut room = vec![99; room];
-            let answer = update(5, 20_000, &P1, &[1, 2, 3], &quarters, &mut room);
+            let answer = update(5, 2 * PERCENT, &P1, &[1, 2, 3], &quarters, &mut room);
             let kept = answer.map(|made| made.keep).map_err(Refusal::number);
             assert_eq!(kept, expected);
             assert_eq!(room.iter().all(|&number| number == 99), kept.is_err());
@@ -313,14 +317,14 @@ mod tests {
 
     #[test]
     fn each_r_of_case_p1() {
-        let weights = [333_333, 166_667, 500_000];
+        let weights = [33_333_300, 16_666_700, WHOLE / 2];
         for (keep, ending, list) in [
             (1, Ending::Within, vec![5, 4, 2, 3, 0, 2, 1, 0, 1, 0, 0, 3]),
             (2, Ending::Budget, vec![4, 2, 1, 2, 0, 1, 1, 0, 2, 0, 0, 3]),
             (3, Ending::Budget, vec![3, 4, 1, 3, 0, 1, 1, 0, 2, 0, 0, 3]),
             (4, Ending::Budget, P1.to_vec()),
         ] {
-            assert_eq!(ran(5, 20_000, &P1, keep, &weights), (ending, list));
+            assert_eq!(ran(5, 2 * PERCENT, &P1, keep, &weights), (ending, list));
         }
         assert_eq!(ran(5, 0, &P1, 4, &SIXTHS).0, Ending::NoGain);
     }
@@ -328,7 +332,7 @@ mod tests {
     #[test]
     fn the_cap_is_the_smallest_kept_suffix_or_half_the_tree() {
         let old = [3, 0, 1, 0, 0, 2];
-        let (half, none) = ([500_000, 500_000], [0, WHOLE]);
+        let (half, none) = ([WHOLE / 2, WHOLE / 2], [0, WHOLE]);
         let (one, both) = (
             |weights: &[u64]| ran(3, 0, &old, 1, weights),
             |weights: &[u64]| ran(3, 0, &old, 2, weights),
@@ -366,7 +370,7 @@ mod tests {
         assert_eq!(refused(5, WHOLE, &P1, &[]), 2);
         assert_eq!(refused(5, WHOLE, &P1, &[high]), 2);
         assert_eq!(refused(5, WHOLE, &P1, &[WHOLE - 1]), 3);
-        assert_eq!(refused(5, WHOLE, &P1, &[500_000; 2]), 7);
+        assert_eq!(refused(5, WHOLE, &P1, &[WHOLE / 2; 2]), 7);
         assert_eq!(refused(5, 0, &P1, &SIXTHS), 13);
         assert_eq!(refused(5, WHOLE, &P1, &SIXTHS), 7);
     }
@@ -376,7 +380,7 @@ mod tests {
         let number = |old: &[u64], ids: &[u64], weights: &[u64]| {
             update(5, WHOLE, old, ids, weights, &mut [0; 12]).map_or_else(Refusal::number, |_| 0)
         };
-        assert_eq!(number(&P1, &[9_998, 9_999], &[500_000; 2]), 0);
+        assert_eq!(number(&P1, &[9_998, 9_999], &[WHOLE / 2; 2]), 0);
         for ids in [
             &[][..],
             &[1],
@@ -387,7 +391,7 @@ mod tests {
             &[1, 10_000],
         ] {
             let expected = if ids.len() == 2 { 2 } else { 1 };
-            assert_eq!(number(&P1, ids, &[500_000; 2]), expected, "{ids:?}");
+            assert_eq!(number(&P1, ids, &[WHOLE / 2; 2]), expected, "{ids:?}");
             assert_eq!(number(&P1, ids, &[1; 2]), expected, "{ids:?}");
             assert_eq!(number(&P1, ids, &[1; 33]), 4, "{ids:?}");
             assert_eq!(number(&P1[..9], ids, &[1; 33]), 9, "{ids:?}");
@@ -405,11 +409,11 @@ mod tests {
             (Ok([1, 1, 16]), vec![0, 0, 30])
         );
         assert_eq!(
-            updated(499_999, &all, &[30], &[WHOLE]),
+            updated(WHOLE / 2 - 1, &all, &[30], &[WHOLE]),
             (Ok([2, 2, 0]), all.clone())
         );
         let new = vec![1, 0, 9, 0, 0, 30];
-        let half = [500_000; 2];
+        let half = [WHOLE / 2; 2];
         assert_eq!(updated(0, &old, &[9, 30], &half), (Ok([1, 2, 16]), new));
         assert_eq!(updated(0, &[0, 0, 20], &[9], &[WHOLE]), (Err(13), vec![]));
         let whole = (Ok([1, 1, 0]), vec![0, 0, 20]);
@@ -419,7 +423,7 @@ mod tests {
     /// Old ids below and above the new ones, of like errors.
     #[test]
     fn ties_go_to_the_lowest_id_of_all() {
-        let half = [500_000; 2];
+        let half = [WHOLE / 2; 2];
         let old = [2, 1, 9, 2, 0, 5, 1, 0, 7, 0, 0, 9];
         for (id, other) in [(3, 4), (6, 8), (10, 11)] {
             let (ending, list) = named_run(&old, 1, &[id, other], &half);
@@ -448,12 +452,12 @@ mod tests {
         let old: Vec<u64> = (1..32).flat_map(rule).chain([0, 0, 1]).collect();
         let rules = list_of(5, &old).unwrap();
         let ids: Vec<u64> = (1..=32).map(|i| 2 * i).collect();
-        let known = Known::new(&rules, &ids, &[31_250; 32]);
+        let known = Known::new(&rules, &ids, &[WHOLE / 32; 32]);
         assert_eq!(known.ids, first_ids(64));
-        assert_eq!(known.weights, [0, 31_250].repeat(32));
-        let (answer, list) = updated(31_250, &old, &ids, &[31_250; 32]);
+        assert_eq!(known.weights, [0, WHOLE / 32].repeat(32));
+        let (answer, list) = updated(WHOLE / 32, &old, &ids, &[WHOLE / 32; 32]);
         assert_eq!((answer, list), (Ok([32, 32, 0]), old.clone()));
-        let (answer, list) = updated(31_249, &old, &ids, &[31_250; 32]);
+        let (answer, list) = updated(WHOLE / 32 - 1, &old, &ids, &[WHOLE / 32; 32]);
         assert_eq!((answer, list), (Err(13), vec![]));
     }
 
@@ -513,7 +517,7 @@ mod tests {
             new,
         } = case;
         let known = Known::new(old, &new.ids, &new.weights);
-        let runs = plain::all_runs(*k, *tolerance, old, new);
+        let runs = plain::all_runs(WHOLE, *k, *tolerance, old, new);
         for expected in &runs {
             let (ending, list) = run(*k, *tolerance, old, expected.keep, &known);
             assert_eq!(ending, expected.ending, "{case:?} {}", expected.keep);

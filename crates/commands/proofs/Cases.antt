@@ -36,7 +36,7 @@ text s = prints (bytes s)
 
 -- the sample's rule sheet, another one of the same service, and one without its last LF
 abbrev sample : String
-sample = "TABLE 5 5 293333920\n1 *0 2\n1 * 3\n2 *00 2\n2 *0 1\n2 * 3\n"
+sample = "TABLE 5 5 29333392000\n1 *0 2\n1 * 3\n2 *00 2\n2 *0 1\n2 * 3\n"
 
 abbrev short : String
 short = "TABLE 1 1 0\n1 * 1\n"

@@ -1,22 +1,25 @@
--- What the splitting of a percentage sheet prints: its rule sheet, which is never longer than a text may be.
+-- What the splitting of a percentage sheet prints: its rule sheet, which is never longer than a text may be, and that of four-place percentages as promised.
 use Prim.Native.Nat.{ℕ, _≤_}
-use mathlib.Core.Path.{_≡_, refl}
+use mathlib.Core.Path.{_≡_, refl, ap, _∙_}
 use mathlib.Core.List.{List}
 use native.Mathlib.Omega.{arith}
 use lib.ListN.{length}
 use borrow.Author.Tests.{le-leb, leb-true}
-use Rattle.sheets.specs.Reading.{Reading, got, refused}
-use Rattle.sheets.specs.PercentageSheet.{Sheet, readSheet}
-use Rattle.numerals.specs.Limits.{textLimit}
+use Rattle.sheets.specs.Reading.{Reading, got, refused, then}
+use Rattle.sheets.specs.PercentageSheet.{Sheet, readSheet, readSheetAt}
+use Rattle.numerals.specs.Limits.{decimals, unit, textLimit}
 use Rattle.sheets.specs.FirstLine.{firstLine}
-use Rattle.sheets.specs.RuleSheet.{tableLine, readTable}
+use Rattle.sheets.specs.RuleSheet.{Table, tableLine, readTable}
 use Rattle.sheets.specs.Calls.{printText, printRead, valuesOf, sheetText}
 use Rattle.sheets.specs.declared.answer.Refused as answer
 use Rattle.sheets.specs.declared.answer.Answer.the-variants.{Value, Refused}
 use Rattle.sheets.proofs.Readings.{unless-got, then-got, not-got}
 use Rattle.sheets.proofs.DemandThree.{demand-three}
 use Rattle.commands.specs.Refused.{refusedText}
-use Rattle.commands.specs.Split.{splitOf, splitPrints}
+use Rattle.sheets.specs.Calls.{servicesAt, servicesIn, tableWith, tableFor}
+use Rattle.sheets.specs.FourPlaces.{tableAt}
+use Rattle.sheets.proofs.FourPlaces as four
+use Rattle.commands.specs.Split.{splitOf, splitPrints, tablePrints, FourPlaces}
 
 sheet-fits : (text : List ℕ) (S : Sheet) → readSheet text ≡ got S → length (sheetText S) ≤ textLimit
 unfolding readTable tableLine firstLine
@@ -54,3 +57,20 @@ module _ (text : List ℕ) where
           → (splitOf r ≡ refusedText w) × ((S : Sheet) → r ≡ got S → ⊥)
       go (got S) e h = absurd (let z : _≡_ {A = ℕ} 0 1 = cc (prints S e) in omega arith)
       go (refused why line) e h = (cc, λ S g. not-got g)
+
+  -- the table of the sheet is what is printed
+  as-table : splitPrints text ≡ tablePrints (tableAt decimals unit text)
+  unfolding splitPrints splitOf tablePrints tableAt readSheet then sheetText tableFor servicesIn
+  as-table = go (readSheet text)
+    where
+      go : (r : Reading Sheet) → splitOf r ≡ tablePrints (then r (λ S. got (tableWith (servicesAt unit S) S)))
+      go (got S) = refl
+      go (refused why line) = refl
+
+  pub printed-four : FourPlaces text (splitPrints text)
+  unfolding tablePrints
+  printed-four =
+      record {
+        valid = λ t e. as-table ∙ ap tablePrints (four.valid text t e);
+        alike = λ h. as-table ∙ ap tablePrints (four.alike text h);
+      }

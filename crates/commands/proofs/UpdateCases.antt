@@ -16,7 +16,7 @@ use Rattle.packing.specs.Table.{linesOf}
 use Rattle.sheets.specs.Cases.{bytes}
 use Rattle.sheets.specs.Reading.{then, unless, onField, same}
 use Rattle.sheets.specs.FirstLine.{firstLine, openingLines, openingFields}
-use Rattle.sheets.specs.PercentageSheet.{weightFields, sum, serviceFields, serviceLines, volumesOf, idsOf, weightsOf, whole, sheetLine, readSheet}
+use Rattle.sheets.specs.PercentageSheet.{weightFields, sum, serviceFields, serviceLines, volumesOf, idsOf, weightsOf, whole, sheetLine, readSheet, readSheetAt}
 use Rattle.sheets.specs.RuleSheet.{onSuffix, countOf, inOrder, placed, ruleFields, ruleLines, closed}
 use Rattle.sheets.specs.RuleSheet.{wholeTable, tableLine, readTable, lineText, linesText}
 use Rattle.sheets.specs.Calls.{hasService}
@@ -56,11 +56,11 @@ pub record Updates : Type 0 where
   pub no-number : updates cutTable cutSheet "01" ≡ noNumber 3
 
 pub all-updates : Updates
-unfolding updateSays onNumber numeral updateText updatedText numberText refusedOfText refusal numberOf decimal width widthIn lowest sheetsAnswer
-    sheetsIn hasService hasWeights inLimits ownRules bytes readTable textLimit tableLine firstLine openingLines openingFields wholeTable closed
-    ruleLines ruleFields placed inOrder countOf onSuffix totalLimit same onField unless then number isNumeral noLeadingZero allDigits isDigit
-    value valueFrom suffix split onto readSheet sheetLine whole volumesOf idsOf weightsOf serviceLines serviceFields sum weightFields unit percentage
-    percentOf onValue fraction atMostAll
+unfolding updateSays onNumber numeral updateText updatedText numberText refusedOfText refusal numberOf decimal width widthIn lowest
+    sheetsAnswer sheetsIn hasService hasWeights inLimits ownRules bytes readTable textLimit tableLine firstLine openingLines openingFields
+    wholeTable closed ruleLines ruleFields placed inOrder countOf onSuffix totalLimit same onField unless then number isNumeral
+    noLeadingZero allDigits isDigit value valueFrom suffix split onto readSheet readSheetAt sheetLine whole volumesOf idsOf weightsOf
+    serviceLines serviceFields sum weightFields unit percentage percentOf onValue fraction atMostAll
 all-updates = record { first = refl; second = refl; unknown = refl; no-weights = refl; depth = refl; no-number = refl }
 
 -- the lines of an update that was made, the newest rule first

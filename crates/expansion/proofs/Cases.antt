@@ -27,7 +27,7 @@ use Rattle.expansion.proofs.FirstMatch.{gives-matched, gives-passed}
 use Rattle.expansion.proofs.Checks.{call-passed}
 
 pub worked-show : AllShow worked
-unfolding listTo sumTo countTo allTo firstTo argmax lastmax matches firstMatch gives share backends label weight has wants excess shortfall
+unfolding listTo unit sumTo countTo allTo firstTo argmax lastmax matches firstMatch gives share backends label weight has wants excess shortfall
     imbalance giver receiver largestExcess largestShortfall firstRule frame isWithin reduction reductionAt term isNoGain isWhole termLength
     lowestPlace newRule step after endOf listOf oldest stair stairsTo place value valueFrom lowest
 worked-show = (
@@ -51,8 +51,8 @@ worked-show = (
 )
 
 -- in P6 the largest excess and the largest shortfall make just one suffix
-pub p6-one-suffix : (largestExcess (p6 .given .targets) (p6 .rules) ≡ 333334) × (largestShortfall (p6 .given .targets) (p6 .rules) ≡ 666666)
-unfolding listTo sumTo countTo argmax matches firstMatch gives share backends label weight has wants excess shortfall giver receiver
+pub p6-one-suffix : (largestExcess (p6 .given .targets) (p6 .rules) ≡ 33333400) × (largestShortfall (p6 .given .targets) (p6 .rules) ≡ 66666600)
+unfolding listTo unit sumTo countTo argmax matches firstMatch gives share backends label weight has wants excess shortfall giver receiver
     largestExcess largestShortfall frame
 p6-one-suffix = (refl, refl)
 
@@ -68,7 +68,7 @@ halved = half ∷ star ∷ []
 
 -- P1 with a budget of two rules is cut after them
 pub p1-cut : (listOf (p1 .given) 2 ≡ halved) × (endOf (p1 .given) (listOf (p1 .given) 2) ≡ Budget)
-unfolding listTo sumTo countTo allTo firstTo argmax lastmax matches firstMatch gives share backends label weight has wants excess shortfall
+unfolding listTo unit sumTo countTo allTo firstTo argmax lastmax matches firstMatch gives share backends label weight has wants excess shortfall
     imbalance giver receiver largestExcess largestShortfall firstRule frame isWithin reduction reductionAt term isNoGain isWhole termLength
     lowestPlace newRule step after endOf listOf oldest place value valueFrom lowest
 p1-cut = (refl, refl)
@@ -84,7 +84,7 @@ by-three P p q r more (suc (suc zero)) = r
 by-three P p q r more (suc (suc (suc b))) = more b
 
 p1-keeps : (c : ℕ) → 1 ≤ c → c ≤ 4 → Keeps T (oldest c (p1 .rules)) (p1-ledger c)
-unfolding listTo sumTo countTo matches firstMatch gives share backends label weight oldest entryOf frame
+unfolding listTo unit sumTo countTo matches firstMatch gives share backends label weight oldest entryOf frame
 p1-keeps zero l m = absurd (omega arith)
 p1-keeps (suc zero) l m = record { entries = by-three _ (λ _. refl) (λ _. refl) (λ _. refl) (λ b l. absurd (omega arith)) }
 p1-keeps (suc (suc zero)) l m = record { entries = by-three _ (λ _. refl) (λ _. refl) (λ _. refl) (λ b l. absurd (omega arith)) }
@@ -94,7 +94,7 @@ p1-keeps (suc (suc (suc (suc (suc c))))) l m = absurd (omega arith)
 
 -- the third gives to the second, which gives to the first, twice
 p1-others : (c : ℕ) → 1 ≤ c → c < 4 → OthersStay T (oldest c (p1 .rules)) (p1-ledger c) (p1-ledger (suc c))
-unfolding listTo sumTo countTo argmax matches firstMatch gives share backends label weight has wants excess shortfall giver receiver oldest frame
+unfolding listTo unit sumTo countTo argmax matches firstMatch gives share backends label weight has wants excess shortfall giver receiver oldest frame
 p1-others zero l m = absurd (omega arith)
 p1-others (suc zero) l m = record { entries = by-three _ (λ g r. refl) (λ g r. absurd (r refl)) (λ g r. absurd (g refl)) (λ b g r. refl) }
 p1-others (suc (suc zero)) l m = record { entries = by-three _ (λ g r. absurd (r refl)) (λ g r. absurd (g refl)) (λ g r. refl) (λ b g r. refl) }
@@ -114,10 +114,10 @@ p1-kept from l m =
 
 -- a start that isn't `*`: P1 taken up after its second rule, with terms of at most 2^3 suffixes, fits and comes to the same list
 abbrev resumed : Frame
-resumed = framed 5 3 20000 (T .labels) (T .weights) halved
+resumed = framed 5 3 2000000 (T .labels) (T .weights) halved
 
 halved-complete : Complete (label T) (backends T) halved
-unfolding listTo matches backends label frame
+unfolding listTo unit matches backends label frame
 halved-complete s = go (eqb (s % 2) 0) refl
   where
     go : (t : Bool) → eqb (s % 2) 0 ≡ t → (b : ℕ) × (b < backends T) × (gives halved s (label T b) ≡ true)
@@ -129,9 +129,9 @@ unfolding listTo sumTo countTo allTo firstTo argmax lastmax matches firstMatch g
     imbalance giver receiver largestExcess largestShortfall frame isWithin reduction reductionAt term isNoGain isWhole termLength
     lowestPlace newRule step after listOf place value valueFrom lowest unit checkCall checkWeights isBackend idBefore inLimits Lengths
 p1-resumed =
-    let valid = call-passed 5 20000 32 (T .labels) (T .weights) refl .0 in (
+    let valid = call-passed 5 2000000 32 (T .labels) (T .weights) refl .0 in (
       record {
-        millionths = refl;
+        in-unit = refl;
         few-bits = valid .few-bits;
         tolerable = valid .tolerable;
         few = valid .few;

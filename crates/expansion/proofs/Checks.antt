@@ -172,7 +172,7 @@ module _ (k tolerance : ℕ) (labels ws : List ℕ) (valid : Valid k tolerance l
   pub fits : Fits (frame k unit tolerance labels ws)
   unfolding frame backends firstRule
   fits =
-      record { millionths = refl; few-bits = valid .few-bits; tolerable = valid .tolerable; few = valid .few; labelled = valid .labelled; sound = sound }
+      record { in-unit = refl; few-bits = valid .few-bits; tolerable = valid .tolerable; few = valid .few; labelled = valid .labelled; sound = sound }
 
   pub first-lt : argmax (λ b. getD ws b 0) (length ws) < length ws
   first-lt = first-known k unit tolerance labels ws (valid .some-bits) some-unit (valid .balanced) (valid .distinct)

@@ -129,7 +129,7 @@ module _ (k tolerance : ℕ) (labels ws : List ℕ) (list : RuleList) (holder sh
   unfolding backends label weight
   fits =
       record {
-        millionths = refl;
+        in-unit = refl;
         few-bits = S .valid .few-bits;
         tolerable = S .valid .tolerable;
         few = S .valid .few;

@@ -9,6 +9,8 @@ pub mod Bounds
 pub mod Moves
 pub mod Turns
 pub mod Stairs
+pub mod Scaled
+pub mod ScaledKept
 pub mod Shape
 pub mod Base
 pub mod Signed

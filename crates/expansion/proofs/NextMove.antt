@@ -137,7 +137,7 @@ module _ (F : Frame) (fits : Fits F) (holder low : List ℕ) (rs : List Rule) (L
             → Holds (F .targets) (newRule F rs ∷ rs) holder′ low′) lowest
             (found-holds F S rs G gain holder low H (omega (arith, giver-lt F S rs, fits .few)) (omega (arith, receiver-lt F S rs, fits .few)) holder′ low′);
         moved = λ M e.
-            kept-moved F rs (newRule F rs ∷ rs) L M K (fits .millionths) (giver (F .targets) rs) (receiver (F .targets) rs) (2 ^ term F rs) (apart F S rs gain)
+            kept-moved F rs (newRule F rs ∷ rs) L M K (fits .in-unit) (giver (F .targets) rs) (receiver (F .targets) rs) (2 ^ term F rs) (apart F S rs gain)
             (new-giver F S rs G gain) (new-receiver F S rs G gain) (new-other F S rs G gain)
             can e;
       }
@@ -154,9 +154,9 @@ module _ (F : Frame) (fits : Fits F) (holder low : List ℕ) (rs : List Rule) (L
             giver-in = kept-inside F rs L K (giver (F .targets) rs) (giver-lt F S rs) (omega (arith, some-excess F S rs gain));
             receiver-in = kept-inside F rs L K (receiver (F .targets) rs) (receiver-lt F S rs) (omega (arith, some-shortfall F S rs gain));
             gives =
-                kept-change F rs L K S (fits .millionths) (fits .few-bits) (giver (F .targets) rs) (giver-lt F S rs) (2 ^ term F rs) 0
+                kept-change F rs L K S (fits .in-unit) (fits .few-bits) (giver (F .targets) rs) (giver-lt F S rs) (2 ^ term F rs) 0
                 (omega (arith, new-giver F S rs G gain)) (omega arith);
             takes =
-                kept-change F rs L K S (fits .millionths) (fits .few-bits) (receiver (F .targets) rs) (receiver-lt F S rs) 0 (2 ^ term F rs)
+                kept-change F rs L K S (fits .in-unit) (fits .few-bits) (receiver (F .targets) rs) (receiver-lt F S rs) 0 (2 ^ term F rs)
                 (omega arith) (pow-few (term F rs) (omega (arith, term-le F rs, S .below, fits .few-bits)));
           }

@@ -66,7 +66,7 @@ listed-count F x list L = sym (length-newest (list .rules) (list .count)) ∙ ap
 
 module _ (F : Frame) (fits : Fits F) where
   pub small : (rs : List Rule) (L : Ledger) → Keeps (F .targets) rs L → (b : ℕ) → b < backends (F .targets) → Small (errorAt L b)
-  small rs L K = kept-small F rs L K (fits .sound) (fits .millionths) (fits .few-bits)
+  small rs L K = kept-small F rs L K (fits .sound) (fits .in-unit) (fits .few-bits)
 
   pub someone : 0 < backends (F .targets)
   someone = omega (arith, giver-lt F (fits .sound) (F .start))
@@ -86,7 +86,7 @@ module _ (F : Frame) (fits : Fits F) where
             h b l
             ∙ ap (entryOf unit (F .targets .k) (weight (F .targets) b)) (shared .each b l)
             ∙ ap (λ (u : ℕ). entryOf u (F .targets .k) (weight (F .targets) b) (share (F .targets .k) (F .start) (label (F .targets) b)))
-            (sym (fits .millionths));
+            (sym (fits .in-unit));
       }
 
   pub stands-start : (L : Ledger) → Keeps (F .targets) (F .start) L
@@ -138,7 +138,7 @@ module _ (F : Frame) (fits : Fits F) where
 
 module _ (F : Frame) (x : ℕ) (holder low : List ℕ) (st : State) (S : Stands F x holder low st) where
   pub stands-next : st .next ≡ nextBy F (after F x)
-  stands-next = S .next ∙ kept-next F (after F x) (st .ledger) (S .keeps) (S .fits .sound) (S .fits .millionths)
+  stands-next = S .next ∙ kept-next F (after F x) (st .ledger) (S .keeps) (S .fits .sound) (S .fits .in-unit)
 
   -- the list kept beside the state
   module _ (list : RuleList) (L : Listed F x list) where
@@ -214,7 +214,7 @@ module _ (F : Frame) (x : ℕ) (holder low : List ℕ) (st : State) (S : Stands 
     index-falls M e w h =
         let rs : List Rule = after F x in
         let rs′ : List Rule = newRule F rs ∷ rs in
-        let q = next-go F rs′ w (sym (kept-next F rs′ M (feasible-go .moved M e) (S .fits .sound) (S .fits .millionths)) ∙ h) in
+        let q = next-go F rs′ w (sym (kept-next F rs′ M (feasible-go .moved M e) (S .fits .sound) (S .fits .in-unit)) ∙ h) in
         omega (
           arith,
           ap (λ (o : Move). o .index) (going .1),

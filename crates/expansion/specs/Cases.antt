@@ -1,11 +1,11 @@
--- Worked cases of the expansion: P1 to P6 of document 01 ("Figures to try"), figure 3(b) of the paper, and P1's ledger after each rule (document 02,
--- request 02).
+-- Worked cases of the expansion: P1 to P6 of document 01 ("Figures to try") in the unit of document 02, Req 07, figure 3(b) of the paper, and P1's ledger after
+-- each rule (document 02, request 02).
 use Prim.Native.Nat.{ℕ, suc, _-_}
 use mathlib.Core.List.{List, [], _∷_}
 use mathlib.Core.Path.{_≡_}
 use lib.IntN.{ℤ, pos, negℤ}
 use lib.ListN.{length, getD}
-use Rattle.numerals.specs.Limits.{mostRules}
+use Rattle.numerals.specs.Limits.{mostRules, unit}
 use Rattle.numerals.specs.Sums.{listTo}
 use Rattle.expansion.specs.Steps.{frame, endOf, listOf, stairsTo, Frame}
 use Rattle.expansion.specs.declared.rule.Rule.{Rule}
@@ -32,7 +32,7 @@ AllShow (w ∷ ws) = Shows w × AllShow ws
 
 -- backends labelled 1, 2, ..
 abbrev numbered : ℕ → ℕ → ℕ → List ℕ → Frame
-numbered k unit tolerance ws = frame k unit tolerance (listTo (length ws) suc) ws
+numbered k all tolerance ws = frame k all tolerance (listTo (length ws) suc) ws
 
 abbrev rule : ℕ → ℕ → ℕ → Rule
 rule l v b = record { len = l; value = v; backend = b }
@@ -47,49 +47,49 @@ halves = rule 1 0 2 ∷ rule 0 0 1 ∷ []
 abbrev pub p1 : Worked
 p1 =
     record {
-      given = numbered 5 1000000 20000 (166667 ∷ 333333 ∷ 500000 ∷ []);
+      given = numbered 5 unit 2000000 (16666700 ∷ 33333300 ∷ 50000000 ∷ []);
       rules = thirds;
       ended = Within;
-      stairs = 16000000 ∷ 5333344 ∷ 1333344 ∷ 333344 ∷ [];
+      stairs = 1600000000 ∷ 533334400 ∷ 133334400 ∷ 33334400 ∷ [];
     }
 
 abbrev pub p2 : Worked
 p2 =
     record {
-      given = numbered 5 1000000 0 (166667 ∷ 333333 ∷ 500000 ∷ []);
+      given = numbered 5 unit 0 (16666700 ∷ 33333300 ∷ 50000000 ∷ []);
       rules = thirds;
       ended = NoGain;
-      stairs = 16000000 ∷ 5333344 ∷ 1333344 ∷ 333344 ∷ [];
+      stairs = 1600000000 ∷ 533334400 ∷ 133334400 ∷ 33334400 ∷ [];
     }
 
 abbrev pub p3 : Worked
 p3 =
     record {
-      given = numbered 5 1000000 0 (250000 ∷ 250000 ∷ 500000 ∷ []);
+      given = numbered 5 unit 0 (25000000 ∷ 25000000 ∷ 50000000 ∷ []);
       rules = rule 2 0 2 ∷ rule 1 0 1 ∷ rule 0 0 3 ∷ [];
       ended = Within;
-      stairs = 16000000 ∷ 8000000 ∷ 0 ∷ [];
+      stairs = 1600000000 ∷ 800000000 ∷ 0 ∷ [];
     }
 
 abbrev pub p4 : Worked
-p4 = record { given = numbered 1 1000000 0 (1000000 ∷ []); rules = rule 0 0 1 ∷ []; ended = Within; stairs = 0 ∷ [] }
+p4 = record { given = numbered 1 unit 0 (100000000 ∷ []); rules = rule 0 0 1 ∷ []; ended = Within; stairs = 0 ∷ [] }
 
 abbrev pub p5 : Worked
 p5 =
     record {
-      given = numbered 1 1000000 0 (500000 ∷ 500000 ∷ []);
+      given = numbered 1 unit 0 (50000000 ∷ 50000000 ∷ []);
       rules = halves;
       ended = Within;
-      stairs = 1000000 ∷ 0 ∷ [];
+      stairs = 100000000 ∷ 0 ∷ [];
     }
 
 abbrev pub p6 : Worked
 p6 =
     record {
-      given = numbered 1 1000000 0 (333334 ∷ 333333 ∷ 333333 ∷ []);
+      given = numbered 1 unit 0 (33333400 ∷ 33333300 ∷ 33333300 ∷ []);
       rules = halves;
       ended = NoGain;
-      stairs = 1333332 ∷ 666666 ∷ [];
+      stairs = 133333200 ∷ 66666600 ∷ [];
     }
 
 -- one sixth, one third and one half, with the tolerance 0.02, in parts of 300
@@ -112,10 +112,10 @@ entry w a e = record { weight = w; share = a; error = e }
 -- one that neither gives nor receives keeps its entry.
 abbrev pub p1-entries : List (List Backend)
 p1-entries =
-    (entry 166667 0 (negℤ (pos 5333344)) ∷ entry 333333 0 (negℤ (pos 10666656)) ∷ entry 500000 32 (pos 16000000) ∷ [])
-    ∷ (entry 166667 0 (negℤ (pos 5333344)) ∷ entry 333333 16 (pos 5333344) ∷ entry 500000 16 (pos 0) ∷ [])
-    ∷ (entry 166667 4 (negℤ (pos 1333344)) ∷ entry 333333 12 (pos 1333344) ∷ entry 500000 16 (pos 0) ∷ [])
-    ∷ (entry 166667 5 (negℤ (pos 333344)) ∷ entry 333333 11 (pos 333344) ∷ entry 500000 16 (pos 0) ∷ [])
+    (entry 16666700 0 (negℤ (pos 533334400)) ∷ entry 33333300 0 (negℤ (pos 1066665600)) ∷ entry 50000000 32 (pos 1600000000) ∷ [])
+    ∷ (entry 16666700 0 (negℤ (pos 533334400)) ∷ entry 33333300 16 (pos 533334400) ∷ entry 50000000 16 (pos 0) ∷ [])
+    ∷ (entry 16666700 4 (negℤ (pos 133334400)) ∷ entry 33333300 12 (pos 133334400) ∷ entry 50000000 16 (pos 0) ∷ [])
+    ∷ (entry 16666700 5 (negℤ (pos 33334400)) ∷ entry 33333300 11 (pos 33334400) ∷ entry 50000000 16 (pos 0) ∷ [])
     ∷ []
 
 abbrev pub p1-ledger : ℕ → Ledger

@@ -8,7 +8,7 @@ use Rattle.expansion.specs.FirstMatch.{share, nobody}
 use Rattle.expansion.specs.declared.rule.Rule.{Rule}
 
 -- What the shares of a service are measured against: k suffix bits, and for each backend, by its place from 0, the label that its rules carry and its
--- weight. The weights sum to the unit, which is 1,000,000 in document 01.
+-- weight. The weights sum to the unit, which is 1,000,000 in document 01 and 100,000,000 since document 02, Req 07.
 pub record Targets : Type 0 where
   pub k : ℕ
   pub unit : ℕ

@@ -18,6 +18,7 @@ ghost use Rattle.numerals.specs.Buffer.{filled};
 ghost use Rattle.sheets.specs.PercentageSheet.{readSheet};
 ghost use Rattle.sheets.specs.Calls as calls;
 ghost use Rattle.sheets.specs.Demand.{Demand3};
+ghost use Rattle.sheets.specs.FourPlaces.{FourPlaces};
 ghost use Rattle.sheets.specs.Reading.{got};
 ghost use Rattle.sheets.specs.RuleSheet.{Table, readTable};
 ghost use Rattle.gauges.specs.Gauges.{gaugesAnswer, ExactGauges};
@@ -52,6 +53,8 @@ pub extern "C" fn gulmorzon_split(text: &[u8], out: &mut [u8]) -> Answer
     ensures answer { λ r. ⌜ r ≡ answers.ofAnswer (answers.splitAnswer (now (text .entry)) (length (now (out .entry)))) ⌝ }
     ensures buffer { λ _. ⌜ now (out .exit) ≡ answers.splitFilled (now (text .entry)) (length (now (out .entry))) (now (out .entry)) ⌝ }
     ensures demand { λ r. ⌜ (r .number ≡ 0 → Demand3 (now (text .entry)) (take (r .value) (now (out .exit)))) ⌝ }
+    ensures four_places { λ _. ⌜ FourPlaces (now (text .entry)) (answers.splitAnswer (now (text .entry)) (length (now (out .entry))))
+        (now (out .entry)) (now (out .exit)) ⌝ }
 {
     answer::of_answer(sheets::split_sheet(text, out))
 }

@@ -3,6 +3,7 @@ pub mod Choice
 pub mod Powers
 pub mod Sums
 pub mod Searches
+pub mod Scaled
 pub mod Refusals
 pub mod Slice
 pub mod Lists
@@ -15,4 +16,5 @@ pub mod PlaceSums
 pub mod Suffix
 pub mod Table
 pub mod Percent
+pub mod MoreDecimals
 pub mod Cases

@@ -1,4 +1,5 @@
--- The unit and the limits (document 01, "Units and limits" and "Rule sheet and program"; document 02, Req 04), each named once. `src/limits.rt` has the same names as constants.
+-- The unit and the limits (document 01, "Units and limits" and "Rule sheet and program"; document 02, Req 04 and 07), each named once. `src/limits.rt` has the
+-- same names as constants.
 use Prim.Native.Nat.{ℕ}
 
 -- k, and the bits of a suffix
@@ -36,18 +37,18 @@ mostCapacity = 2048
 abbrev pub mostVolume : ℕ
 mostVolume = 10000
 
--- digits behind the dot of a percentage
+-- digits behind the dot of a percentage (document 02, Req 07)
 abbrev pub decimals : ℕ
-decimals = 4
+decimals = 6
 
--- the sum of a service's weights, 100 percent in parts of 10 ^ decimals: millionths
+-- the sum of a service's weights (document 02, Req 07): 100 percent, of which 10 ^ decimals parts are one, so that a part is a hundred-millionth
 unfoldable pub unit : ℕ
-unit = 1000000
+unit = 100000000
 
 -- a text in bytes
 unfoldable pub textLimit : ℕ
 textLimit = 65536
 
--- the total of a table
+-- the total of a table (document 02, Req 07)
 unfoldable pub totalLimit : ℕ
-totalLimit = 2621440000000000
+totalLimit = 262144000000000000

@@ -1,4 +1,4 @@
-// The unit and the limits (document 01, "Units and limits"; document 02, Req 04), each named once; specs/Limits has the same names.
+// The unit and the limits (document 01, "Units and limits"; document 02, Req 04 and 07), each named once; specs/Limits has the same names.
 
 // k, and the bits of a suffix.
 pub const MOST_BITS: usize = 12;
@@ -19,10 +19,10 @@ pub const MOST_CAPACITY: usize = 2048;
 
 pub const MOST_VOLUME: u64 = 10000;
 // Digits behind the dot of a percentage.
-pub const DECIMALS: usize = 4;
-// 100 percent, the sum of a service's weights; also one suffix in parts of the imbalance.
-pub const UNIT: u64 = 1000000;
+pub const DECIMALS: usize = 6;
+// 100 percent in hundred-millionths, the sum of a service's weights; also one suffix in parts of the imbalance.
+pub const UNIT: u64 = 100000000;
 // A text in bytes.
 pub const TEXT_LIMIT: usize = 65536;
 // The total of a table.
-pub const TOTAL_LIMIT: u64 = 2621440000000000;
+pub const TOTAL_LIMIT: u64 = 262144000000000000;

@@ -1,4 +1,4 @@
-// Percentages, read as millionths.
+// Percentages, read as whole parts of the unit.
 use crate::digits::Number;
 use crate::limits::DECIMALS;
 use crate::limits::UNIT;
@@ -9,25 +9,25 @@ ghost use lib.ListN.{length};
 ghost use Rattle.numerals.specs.Limits.{decimals};
 ghost use Rattle.numerals.specs.Percentage.{percentage, fraction, atMostAll};
 
-// One percent in millionths.
+// One percent in parts.
 const PERCENT: u64 = UNIT / 100;
 // The greatest fraction of a percent.
 const MOST_FRACTION: u64 = PERCENT - 1;
 
-// The worth of the last of n digits after the dot, in millionths.
+// The worth of the last of n digits after the dot, in parts: ten times as much for each decimal that is left out.
 fn worth(n: usize) -> u64
     ensures { λ r. ⌜ r ≡ 10 ^ (decimals - n) ⌝ }
 {
-    match n {
-        0 => PERCENT,
-        1 => 1000,
-        2 => 100,
-        3 => 10,
-        _ => 1,
+    let mut w: u64 = 1;
+    let mut i = n;
+    while i < DECIMALS {
+        w = w * 10;
+        i += 1;
     }
+    w
 }
 
-// The digits after the dot, in millionths.
+// The digits after the dot, in parts.
 fn read_fraction(s: &[u8], from: usize, to: usize) -> Number
     requires { ⌜ to ≤ length (now s) ⌝ }
     ensures { λ r. ⌜ r ≡ fraction decimals (slice from to (now (s .entry))) ⌝ }

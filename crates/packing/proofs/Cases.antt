@@ -3,6 +3,7 @@ use Prim.Native.Nat.{ℕ, zero, suc, _<_}
 use mathlib.Core.Path.{_≡_, refl, sym, ap, subst, fun-ext, _∙_}
 use mathlib.Core.List.{List, [], _∷_}
 use native.Mathlib.Omega.{arith}
+use Rattle.numerals.specs.Limits.{unit}
 use Rattle.numerals.specs.Suffix.{place}
 use Rattle.numerals.specs.Digits.{value, valueFrom, lowest}
 use Rattle.numerals.specs.Sums.{sumTo, listTo, countTo, allTo, firstTo, argmax, lastmax}
@@ -29,10 +30,10 @@ rule l v b = record { len = l; value = v; backend = b }
 abbrev pub lists : ℕ → List Rule
 lists zero = rule 5 4 1 ∷ rule 3 0 1 ∷ rule 1 0 2 ∷ rule 0 0 3 ∷ []
 lists (suc zero) = rule 2 0 2 ∷ rule 1 0 1 ∷ rule 0 0 3 ∷ []
-lists (suc (suc s)) = listFor sample 20000 (suc (suc s))
+lists (suc (suc s)) = listFor sample 2000000 (suc (suc s))
 
-pub lists-are : (s : ℕ) → listFor sample 20000 s ≡ lists s
-unfolding sumTo countTo allTo firstTo argmax lastmax matches firstMatch gives share backends label weight has wants excess shortfall
+pub lists-are : (s : ℕ) → listFor sample 2000000 s ≡ lists s
+unfolding unit sumTo countTo allTo firstTo argmax lastmax matches firstMatch gives share backends label weight has wants excess shortfall
     giver receiver largestExcess largestShortfall firstRule frame isWithin reduction reductionAt term isNoGain isWhole termLength
     lowestPlace newRule step after listOf place value valueFrom lowest services volume targetsOf ruleBudget frameOf listFor
 lists-are zero = refl
@@ -41,24 +42,24 @@ lists-are (suc (suc s)) = refl
 
 -- grants, table and total, by any lists
 abbrev packs : (ℕ → List Rule) → Problem
-packs ls = problemOf (sample .volumes) (frameOf sample 20000) ls oneEach 5
+packs ls = problemOf (sample .volumes) (frameOf sample 2000000) ls oneEach 5
 
 pub record Packs (ls : ℕ → List Rule) : Type 0 where
   pub first : packed (packs ls) 0 ≡ 2
   pub second : packed (packs ls) 1 ≡ 3
   pub lines : tableOf 2 ls (packed (packs ls)) ≡ p7Lines
-  pub amount : total (packs ls) (packed (packs ls)) ≡ 293333920
+  pub amount : total (packs ls) (packed (packs ls)) ≡ 29333392000
 
 packs-right : Packs lists
-unfolding sumTo countTo argmax matches firstMatch gives share backends label weight has wants excess imbalance frame oldest stair
+unfolding unit sumTo countTo argmax matches firstMatch gives share backends label weight has wants excess imbalance frame oldest stair
     saving next rules total more grantStep grantsAfter packed services volume targetsOf frameOf linesOf tableOf
 packs-right = record { first = refl; second = refl; lines = refl; amount = refl }
 
-pub packs-sample : Packs (listFor sample 20000)
+pub packs-sample : Packs (listFor sample 2000000)
 packs-sample = subst Packs (sym (fun-ext lists-are)) packs-right
 
-counted-right : counted sample p7Lines ≡ 293333920
-unfolding sumTo countTo matches firstMatch gives share backends label weight has wants excess imbalance services volume targetsOf ownRules
+counted-right : counted sample p7Lines ≡ 29333392000
+unfolding unit sumTo countTo matches firstMatch gives share backends label weight has wants excess imbalance services volume targetsOf ownRules
     countedImbalance counted
 counted-right = refl
 
@@ -74,16 +75,16 @@ p7 =
 
 -- the case keeps the premises of demand 3
 pub p7-demand :
-    Demand sample 20000 oneEach 5 (total (problem sample 20000 oneEach 5) (granted sample 20000 oneEach 5))
-    (table sample 20000 (granted sample 20000 oneEach 5))
-unfolding services targetsOf backends label weight sumTo listTo
+    Demand sample 2000000 oneEach 5 (total (problem sample 2000000 oneEach 5) (granted sample 2000000 oneEach 5))
+    (table sample 2000000 (granted sample 2000000 oneEach 5))
+unfolding unit services targetsOf backends label weight sumTo listTo
 p7-demand =
-    demand sample 20000 (record { bits = omega arith; positive = omega arith; weigh = weigh; distinct = distinct; labelled = labelled }) oneEach 5
+    demand sample 2000000 (record { bits = omega arith; positive = omega arith; weigh = weigh; distinct = distinct; labelled = labelled }) oneEach 5
     (λ s l. omega arith) (omega arith)
   where
     weigh :
         (s : ℕ) → s < 2
-        → sumTo (backends (targetsOf sample s)) (weight (targetsOf sample s)) ≡ 1000000
+        → sumTo (backends (targetsOf sample s)) (weight (targetsOf sample s)) ≡ unit
     weigh zero l = refl
     weigh (suc zero) l = refl
     weigh (suc (suc s)) l = absurd (omega arith)

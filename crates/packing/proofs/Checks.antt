@@ -278,7 +278,7 @@ all-passed k tolerance capacity volumes sizes ids ws e =
 -- services whose ids ascend from above 0 and whose weights sum to the unit are such as the demands are about
 pub services-balanced :
     (k : ℕ) (volumes : List ℕ) (ids weights : List (List ℕ)) → 1 ≤ k
-    → ((s : ℕ) → s < length volumes → Weighed (getD ids s []) (getD weights s [])) → Balanced (servicesWith k volumes ids weights)
+    → ((s : ℕ) → s < length volumes → Weighed (getD ids s []) (getD weights s [])) → Balanced (servicesWith unit k volumes ids weights)
 unfolding servicesWith services targetsOf backends label weight unit
 services-balanced k volumes ids weights some W =
     record {

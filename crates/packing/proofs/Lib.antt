@@ -3,6 +3,7 @@ pub mod GrantSteps
 pub mod EqualGrants
 pub mod Best
 pub mod Tables
+pub mod Scaled
 pub mod Convexity
 pub mod Demand
 pub mod Checks

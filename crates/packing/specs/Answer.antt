@@ -27,12 +27,12 @@ unfoldable pub chunks : List ℕ → List ℕ → List (List ℕ)
 chunks [] row = []
 chunks (n ∷ ns) row = take n row ∷ chunks ns (drop n row)
 
--- services whose backends are labelled by their ids
-unfoldable pub servicesWith : ℕ → List ℕ → List (List ℕ) → List (List ℕ) → Services
-servicesWith k volumes ids weights = record { k = k; unit = unit; volumes = volumes; labels = ids; weights = weights }
+-- services whose backends are labelled by their ids, and whose weights sum to `all`
+unfoldable pub servicesWith : ℕ → ℕ → List ℕ → List (List ℕ) → List (List ℕ) → Services
+servicesWith all k volumes ids weights = record { k = k; unit = all; volumes = volumes; labels = ids; weights = weights }
 
 abbrev pub servicesOf : ℕ → List ℕ → List ℕ → List ℕ → List ℕ → Services
-servicesOf k volumes sizes ids ws = servicesWith k volumes (chunks sizes ids) (chunks sizes ws)
+servicesOf k volumes sizes ids ws = servicesWith unit k volumes (chunks sizes ids) (chunks sizes ws)
 
 -- the line of one service, whose ids and weights are the first `size` of their rows: the field count (no weight is 1, a 33rd is 4, and a row that
 -- has not so many is 1), then the volume, the ids and weights, and the weights' sum

@@ -14,8 +14,8 @@ pub record Line : Type 0 where
   pub service : ℕ
   pub rule : Rule
 
--- What the count is fed: k, the unit (1,000,000 in document 01), and the volume and the weights of each service, with the label of each weight's
--- backend. The service at place s has the number s + 1.
+-- What the count is fed: k, the unit (1,000,000 in document 01, 100,000,000 since document 02, Req 07), and the volume and the weights of each service, with
+-- the label of each weight's backend. The service at place s has the number s + 1.
 pub record Services : Type 0 where
   pub k : ℕ
   pub unit : ℕ

@@ -28,10 +28,10 @@ use Rattle.sheets.specs.Inner.SheetReader.{Named}
 
 -- what was read of a percentage: its whole part, then its fraction
 
-not-value : {P : Type 0} (v : ℕ) → Bad ≡ Value v → P
+pub not-value : {P : Type 0} (v : ℕ) → Bad ≡ Value v → P
 not-value v h = absurd (let z : _≡_ {A = ℕ} 0 1 = cc in omega arith)
 
-on-value : (n : Number) (f : ℕ → Number) (v : ℕ) → onValue n f ≡ Value v → (u : ℕ) × (n ≡ Value u) × (f u ≡ Value v)
+pub on-value : (n : Number) (f : ℕ → Number) (v : ℕ) → onValue n f ≡ Value v → (u : ℕ) × (n ≡ Value u) × (f u ≡ Value v)
 unfolding onValue
 on-value (Value u) f v h = (u, refl, h)
 on-value Bad f v h = not-value v h
@@ -121,7 +121,7 @@ percent-free d v bs h = split-free 58 46 bs (λ e. omega arith) (parts-free d v 
 
 -- the field between two positions, by the position e at which the search for its colon ends
 module _ (from to e : ℕ) (s : List ℕ) (k : to ≤ length s) (is : e ≡ from + indexOf 58 (slice from to s)) (before : ℕ) where
-  pub field-none : to ≤ e → (line : ℕ) (fs : List (List ℕ)) → weightFields line before (slice from to s ∷ fs) ≡ refused no2 line
+  pub field-none : to ≤ e → (line : ℕ) (fs : List (List ℕ)) → weightFields decimals line before (slice from to s ∷ fs) ≡ refused no2 line
   unfolding weightFields unless
   field-none h line fs = rw (cut-last 58 from to e s k is h)
 
@@ -132,10 +132,10 @@ module _ (from to e : ℕ) (s : List ℕ) (k : to ≤ length s) (is : e ≡ from
     -- where no other colon stands behind it
     field-two :
         split 58 (slice (e + 1) to s) ≡ slice (e + 1) to s ∷ [] → (line : ℕ) (fs : List (List ℕ))
-        → weightFields line before (slice from to s ∷ fs)
+        → weightFields decimals line before (slice from to s ∷ fs)
         ≡ onField (number (before + 1) mostId (slice from e s)) line (λ id.
         onField (percentage decimals (slice (e + 1) to s)) line (λ w.
-        then (weightFields line id fs) (λ ws. got (backendBefore id w ws))))
+        then (weightFields decimals line id fs) (λ ws. got (backendBefore id w ws))))
     unfolding weightFields unless
     field-two last line fs = rw (parts ∙ ap (λ (ls : List (List ℕ)). slice from e s ∷ ls) last, add-one before)
 
@@ -144,9 +144,9 @@ module _ (from to e : ℕ) (s : List ℕ) (k : to ≤ length s) (is : e ≡ from
         (line : ℕ) (fs : List (List ℕ))
         → (onField (number (before + 1) mostId (slice from e s)) line (λ id.
         onField (percentage decimals (slice (e + 1) to s)) line (λ w.
-        then (weightFields line id fs) (λ ws. got (backendBefore id w ws))))
+        then (weightFields decimals line id fs) (λ ws. got (backendBefore id w ws))))
         ≡ refused no2 line)
-        → weightFields line before (slice from to s ∷ fs) ≡ refused no2 line
+        → weightFields decimals line before (slice from to s ∷ fs) ≡ refused no2 line
     unfolding weightFields unless
     field-bad line fs bad =
         let n : ℕ = e + 1 + indexOf 58 (slice (e + 1) to s) in
@@ -159,13 +159,13 @@ module _ (from to e : ℕ) (s : List ℕ) (k : to ≤ length s) (is : e ≡ from
 
     pub field-no-id :
         number (before + 1) mostId (slice from e s) ≡ Bad → (line : ℕ) (fs : List (List ℕ))
-        → weightFields line before (slice from to s ∷ fs) ≡ refused no2 line
+        → weightFields decimals line before (slice from to s ∷ fs) ≡ refused no2 line
     unfolding onField
     field-no-id bad line fs = field-bad line fs (rw bad)
 
     pub field-no-weight :
         (id : ℕ) → number (before + 1) mostId (slice from e s) ≡ Value id → percentage decimals (slice (e + 1) to s) ≡ Bad
-        → (line : ℕ) (fs : List (List ℕ)) → weightFields line before (slice from to s ∷ fs) ≡ refused no2 line
+        → (line : ℕ) (fs : List (List ℕ)) → weightFields decimals line before (slice from to s ∷ fs) ≡ refused no2 line
     unfolding onField
     field-no-weight id named bad line fs = field-bad line fs (rw (named, bad))
 

@@ -7,12 +7,12 @@ use Rattle.numerals.specs.Percentage.{fraction, atMostAll, percentOf, percentag
 use Rattle.numerals.specs.Limits.{unit, textLimit}
 use Rattle.sheets.specs.Reading.{then, unless, onField, same}
 use Rattle.sheets.specs.PercentageSheet.{weightFields, sum, serviceFields, serviceLines, volumesOf, idsOf, weightsOf, whole, sheetLine}
-use Rattle.sheets.specs.PercentageSheet.{readSheet}
+use Rattle.sheets.specs.PercentageSheet.{readSheet, readSheetAt}
 use Rattle.sheets.specs.FirstLine.{openingFields, openingLines, firstLine}
 use Rattle.sheets.specs.Cases.{bytes, cases, AllRight}
 
 pub right : AllRight cases
-unfolding bytes cases readSheet textLimit sheetLine firstLine openingLines openingFields whole volumesOf idsOf weightsOf serviceLines serviceFields sum
-    weightFields same onField unless then unit percentage percentOf split onto number isNumeral noLeadingZero allDigits isDigit value
-    valueFrom onValue fraction atMostAll
-right = (refl, (refl, (refl, (refl, (refl, (refl, (refl, (refl, (refl, (refl, (refl, (refl, (refl, (refl, (refl, (refl, (refl, (refl, tt))))))))))))))))))
+unfolding bytes cases readSheet readSheetAt textLimit sheetLine firstLine openingLines openingFields whole volumesOf idsOf weightsOf
+    serviceLines serviceFields sum weightFields same onField unless then unit percentage percentOf split onto number isNumeral noLeadingZero
+    allDigits isDigit value valueFrom onValue fraction atMostAll
+right = (refl, (refl, (refl, (refl, (refl, (refl, (refl, (refl, (refl, (refl, (refl, (refl, (refl, (refl, (refl, (refl, (refl, (refl, (refl, (refl, (refl, (refl, (refl, (refl, tt))))))))))))))))))))))))

@@ -3,6 +3,7 @@ pub mod Words
 pub mod FieldParts
 pub mod Following
 pub mod Readings
+pub mod ThenLaws
 pub mod OpeningLine
 pub mod Joins
 pub mod TableTexts
@@ -10,6 +11,9 @@ pub mod TableChecks
 pub mod RoundTrip
 pub mod BackendFields
 pub mod SheetLimits
+pub mod ScaledSheets
+pub mod FewDecimals
+pub mod FourPlaces
 pub mod Ladder
 pub mod ProperTable
 pub mod DemandThree

@@ -19,6 +19,7 @@ use Rattle.sheets.specs.RuleSheet.{Table, tableText}
 use Rattle.sheets.specs.Calls.{refusedAt, answered, valuesOf, afterwards, isValue, isPlan, tableFor, planOf, planAnswer, cellsFor, linesFrom}
 use Rattle.sheets.specs.Calls.{printText, printRead, sheetText}
 use Rattle.sheets.specs.Demand.{Demand3Of}
+use Rattle.sheets.specs.FourPlaces.{FourPlaces}
 use Rattle.sheets.specs.Inner.TableNumbers.{linesIn, tableIn, RuleLines}
 use Rattle.sheets.specs.declared.answer.Plan.{Plan}
 use Rattle.sheets.specs.declared.answer.Refused.{Refused as Why}
@@ -33,6 +34,7 @@ use Rattle.sheets.proofs.TableNumbers.{lines-cells, length-cells}
 use Rattle.sheets.proofs.NumbersText.{rule-lines}
 use Rattle.sheets.proofs.Prints.{PrintedAs}
 use Rattle.sheets.proofs.DemandThree.{demand-three}
+use Rattle.sheets.proofs.FourPlaces.{four-places}
 
 -- what stands at the start of a buffer after it was written
 pub take-sets : (out bytes : List ℕ) → length bytes ≤ length out → take (length bytes) (sets out 0 bytes) ≡ bytes
@@ -176,13 +178,15 @@ printed-demand text S e out after (answer.Value n) p =
     rw same (demand-three text S e)
 printed-demand text S e out after (answer.Refused r) p = tt
 
--- the table of a sheet that was read, printed
+-- the table of a sheet that was read, printed: demand 3 holds of it, and what is promised of four-place percentages
 pub sheet-printed :
     (text : List ℕ) (S : Sheet) (t : Table) → readSheet text ≡ got S → t ≡ tableFor S → (out after : List ℕ) (r : Answer)
     → PrintedAs (tableText t) out r after
     → (r ≡ printRead (readSheet text) sheetText (length out))
-    × ((after ≡ afterwards (isValue r) out (valuesOf (readSheet text) sheetText)) × Demand3Of r text after)
+    × ((after ≡ afterwards (isValue r) out (valuesOf (readSheet text) sheetText)) × (Demand3Of r text after × FourPlaces text r out after))
 unfolding sheetText
 sheet-printed text S t e same out after r p =
     let q : PrintedAs (tableText (tableFor S)) out r after = subst (λ (x : Table). PrintedAs (tableText x) out r after) same p in
-    (rw e (q .0), (rw e (q .1), printed-demand text S e out after r q))
+    let answered : r ≡ printRead (readSheet text) sheetText (length out) = rw e (q .0) in
+    let written : after ≡ afterwards (isValue r) out (valuesOf (readSheet text) sheetText) = rw e (q .1) in
+    (answered, (written, (printed-demand text S e out after r q, four-places text r out after answered written)))

@@ -6,7 +6,7 @@ use native.Mathlib.Nat.{le-trans, mul-le-mul}
 use native.Mathlib.Omega.{arith}
 use lib.ListN.{length, getD}
 use lib.Pow.{pow-mono}
-use Rattle.numerals.specs.Limits.{mostBits, mostId, mostRules, mostCapacity, unit, totalLimit}
+use Rattle.numerals.specs.Limits.{mostBits, mostSuffixes, mostId, mostRules, mostCapacity, mostVolume, unit, totalLimit}
 use Rattle.numerals.specs.Sums.{sumTo}
 use Rattle.expansion.specs.FirstMatch.{nobody}
 use Rattle.expansion.specs.Imbalance.{backends, label, weight, imbalance}
@@ -35,12 +35,12 @@ use Rattle.sheets.proofs.Ladder.{Ladder, ladder, ladder-some, all-label
 use Rattle.sheets.proofs.SheetLimits.{Row, row-rises, row-most, Limits, limits, sum-places}
 use Rattle.sheets.proofs.TableChecks.{InOrder, Proper, checked}
 
--- 1,000,000 × 2^12, and 10,000 times that
+-- what a list leaves at most, and what a service then costs
 abbrev mostImbalance : ℕ
-mostImbalance = 4096000000
+mostImbalance = unit * mostSuffixes
 
 abbrev mostCost : ℕ
-mostCost = 40960000000000
+mostCost = mostVolume * mostImbalance
 
 -- the labels of a service's backends are ids, no two equal
 record Ids (labels ws : List ℕ) : Type 0 where
@@ -167,7 +167,7 @@ module _ (S : Sheet) (L : Limits S) where
       le-trans (mul-le-mul (L .volume s l) least) (omega arith)
 
   total-most : total (problem T (S .tolerance) oneEach (S .capacity)) g ≤ totalLimit
-  unfolding total problem totalLimit
+  unfolding total problem totalLimit unit
   total-most =
       let n = services T in
       omega (arith, sum-most n _ mostCost (λ s l. cost-most s (omega (arith, count))), count, L .few)

@@ -115,6 +115,7 @@ lines-short k few before (l ∷ ls) h =
       lines-short k few (l ∷ before) ls (h .1),
     )
 
+-- twenty digits, those of any number of 64 bits, are enough for the total
 table-short : (t : Table) → Proper t → length (tableText t) ≤ textLimit
 unfolding textLimit totalLimit
 table-short t p =
@@ -123,7 +124,7 @@ table-short t p =
       length-table t,
       width-least 1 (t .k) (omega (arith, p .few-bits)),
       width-least 3 (length (t .lines)) (omega (arith, p .few)),
-      width-least 15 (t .total) (omega (arith, p .small)),
+      width-least 19 (t .total) (omega (arith, p .small)),
       lines-short (t .k) (p .few-bits) [] (t .lines) (p .sorted),
       p .few,
     )

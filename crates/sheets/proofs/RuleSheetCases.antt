@@ -19,7 +19,7 @@ use Rattle.packing.specs.Cases.{line}
 use Rattle.packing.specs.Count.{ownRules}
 use Rattle.expansion.specs.Answer.{inLimits}
 use Rattle.sheets.specs.Reading.{Reading, got, refused, then, unless, onField, same}
-use Rattle.sheets.specs.PercentageSheet.{weightFields, sum, serviceFields, serviceLines, whole, sheetLine, readSheet}
+use Rattle.sheets.specs.PercentageSheet.{weightFields, sum, serviceFields, serviceLines, whole, sheetLine, readSheet, readSheetAt}
 use Rattle.sheets.specs.FirstLine.{openingFields, openingLines, firstLine}
 use Rattle.sheets.specs.RuleSheet.{Table, headText, lineText, linesText, onSuffix, countOf, inOrder, placed, ruleFields, ruleLines, closed}
 use Rattle.sheets.specs.RuleSheet.{wholeTable, tableLine, readTable, isLine, checkLines, checkEnd, checkSheet}
@@ -51,6 +51,9 @@ abbrev cases : List Case
 cases =
     -- gaps between services, an equal suffix twice
     reads "TABLE 2 4 0\n1 * 1\n64 *0 2\n64 *0 3\n64 * 9999\n" (accepted 2 (1 ∷ 0 ∷ 0 ∷ 1 ∷ 64 ∷ 1 ∷ 0 ∷ 2 ∷ 64 ∷ 1 ∷ 0 ∷ 3 ∷ 64 ∷ 0 ∷ 0 ∷ 9999 ∷ []))
+    -- the largest total, and one that was too large in document 01's unit
+    ∷ reads "TABLE 1 1 262144000000000000\n1 * 1\n" (got (record { k = 1; total = 262144000000000000; lines = linesFrom (1 ∷ 0 ∷ 0 ∷ 1 ∷ []) }))
+    ∷ reads "TABLE 1 1 2621440000000001\n1 * 1\n" (got (record { k = 1; total = 2621440000000001; lines = linesFrom (1 ∷ 0 ∷ 0 ∷ 1 ∷ []) }))
     -- 1: nothing, LF missing, keyword, too few and too many fields, a blank line
     ∷ reads "" (refused no1 1)
     ∷ reads "TABLE 1 1 0" (refused no1 1)
@@ -63,7 +66,7 @@ cases =
     ∷ reads "TABLE 13 1 0\n1 * 1\n" (refused no2 1)
     ∷ reads "TABLE 1 0 0\n1 * 1\n" (refused no2 1)
     ∷ reads "TABLE 1 2049 0\n1 * 1\n" (refused no2 1)
-    ∷ reads "TABLE 1 1 2621440000000001\n1 * 1\n" (refused no2 1)
+    ∷ reads "TABLE 1 1 262144000000000001\n1 * 1\n" (refused no2 1)
     ∷ reads "TABLE 1 1 0\r\n1 * 1\n" (refused no2 1)
     ∷ reads "TABLE 1 1 0\n65 * 1\n" (refused no2 2)
     ∷ reads "TABLE 1 1 0\n1 *00 1\n" (refused no2 2)
@@ -93,12 +96,12 @@ pub right : AllRight cases
 unfolding bytes linesFrom readTable textLimit tableLine firstLine openingLines openingFields wholeTable closed ruleLines ruleFields placed
     inOrder countOf ownRules onSuffix totalLimit same onField unless then number isNumeral noLeadingZero allDigits isDigit value valueFrom
     suffix split onto
-right = (refl, (refl, (refl, (refl, (refl, (refl, (refl, (refl, (refl, (refl, (refl, (refl, (refl, (refl, (refl, (refl, (refl, (refl, (refl, (refl, (refl, (refl, (refl, (refl, (refl, (refl, (refl, tt)))))))))))))))))))))))))))
+right = (refl, (refl, (refl, (refl, (refl, (refl, (refl, (refl, (refl, (refl, (refl, (refl, (refl, (refl, (refl, (refl, (refl, (refl, (refl, (refl, (refl, (refl, (refl, (refl, (refl, (refl, (refl, (refl, (refl, tt)))))))))))))))))))))))))))))
 
 -- Lookup on the sample's rule sheet: the first match, the `*` line, an address of 32 bits, and services that aren't there.
 
 abbrev tableBytes : List ℕ
-tableBytes = bytes "TABLE 5 5 293333920\n1 *0 2\n1 * 3\n2 *00 2\n2 *0 1\n2 * 3\n"
+tableBytes = bytes "TABLE 5 5 29333392000\n1 *0 2\n1 * 3\n2 *00 2\n2 *0 1\n2 * 3\n"
 
 pub record Lookups : Type 0 where
   pub matching : lookupAnswer tableBytes 1 0 ≡ Value 2
@@ -106,7 +109,7 @@ pub record Lookups : Type 0 where
   pub second : lookupAnswer tableBytes 2 4294967294 ≡ Value 1
   pub zeroth : lookupAnswer tableBytes 0 0 ≡ Refused (refusedAt no8 0)
   pub unknown : lookupAnswer tableBytes 3 0 ≡ Refused (refusedAt no8 0)
-  pub malformed : lookupAnswer (bytes "TABLE 5 5 293333920") 3 0 ≡ Refused (refusedAt no1 1)
+  pub malformed : lookupAnswer (bytes "TABLE 5 5 29333392000") 3 0 ≡ Refused (refusedAt no1 1)
 
 pub lookups : Lookups
 unfolding lookupAnswer lookupIn hasService firstMatch matches bytes readTable textLimit tableLine firstLine openingLines openingFields wholeTable
@@ -140,7 +143,7 @@ pub record Handed : Type 0 where
   pub accepted : tableHanded 1 0 (1 ∷ 1 ∷ 0 ∷ 2 ∷ 1 ∷ 0 ∷ 0 ∷ 1 ∷ []) ≡ got (record { k = 1; total = 0; lines = line 1 1 0 2 ∷ line 1 0 0 1 ∷ [] })
   pub none : tableHanded 1 0 [] ≡ refused no2 0
   pub bits : tableHanded 13 0 (1 ∷ 0 ∷ 0 ∷ 1 ∷ []) ≡ refused no2 0
-  pub amount : tableHanded 1 2621440000000001 (1 ∷ 0 ∷ 0 ∷ 1 ∷ []) ≡ refused no2 0
+  pub amount : tableHanded 1 262144000000000001 (1 ∷ 0 ∷ 0 ∷ 1 ∷ []) ≡ refused no2 0
   -- a service and a backend by their place from 0, past their limits, and a value of too many bits
   pub no-service : tableHanded 1 0 (0 ∷ 0 ∷ 0 ∷ 1 ∷ []) ≡ refused no2 0
   pub past-service : tableHanded 1 0 (65 ∷ 0 ∷ 0 ∷ 1 ∷ []) ≡ refused no2 0
@@ -191,7 +194,7 @@ unfolding readTable tableLine firstLine unless then
 long-table text h = rw (lt-leb (length text) textLimit h)
 
 pub long-sheet : (text : List ℕ) → textLimit < length text → readSheet text ≡ refused no11 0
-unfolding readSheet sheetLine firstLine unless then
+unfolding readSheet readSheetAt sheetLine firstLine unless then
 long-sheet text h = rw (lt-leb (length text) textLimit h)
 
 -- 4 for percentage sheets: a 33rd weight, before its fields, and a 65th service, after its keyword and before its fields
@@ -201,7 +204,7 @@ pub record TooManies : Type 0 where
   pub keyword : readSheet (bytes "SHEET 1 0 1\n" ++ times 64 (bytes "SERVICE 1 1:100\n") ++ bytes "SERVIC\n") ≡ refused no1 66
 
 pub too-manies : TooManies
-unfolding bytes readSheet textLimit sheetLine firstLine openingLines openingFields whole serviceLines serviceFields sum weightFields same onField
+unfolding bytes readSheet readSheetAt textLimit sheetLine firstLine openingLines openingFields whole serviceLines serviceFields sum weightFields same onField
     unless then unit percentage percentOf split onto number isNumeral noLeadingZero allDigits isDigit value valueFrom onValue fraction
     atMostAll
 too-manies = record { weights = refl; services = refl; keyword = refl }

@@ -8,7 +8,9 @@ use native.Mathlib.Numerals.{one-add}
 use native.Mathlib.Omega.{arith}
 use lib.ListN.{length, getD, drop, length-drop}
 use borrow.Author.Tests.{ltb-true, leb-true, eqb-true, le-leb, eq-eqb}
+use Rattle.numerals.specs.Decimal.{number}
 use Rattle.numerals.specs.Text.{split}
+use Rattle.numerals.specs.declared.digits.Number.the-variants.{Value}
 use Rattle.numerals.proofs.Decimal.{only-text}
 use Rattle.numerals.specs.Limits.{mostBits, mostBackends, mostId, mostServices, mostCapacity, mostVolume, decimals, unit}
 use Rattle.numerals.specs.Sums.{sumTo}
@@ -21,7 +23,7 @@ use Rattle.expansion.proofs.Ids.{Rises}
 use Rattle.sheets.specs.Reading.{got, field}
 use Rattle.sheets.specs.FirstLine.{Opening}
 use Rattle.sheets.specs.PercentageSheet.{Sheet, Service, Weights, weightFields, sum, serviceFields, serviceLines, volumesOf}
-use Rattle.sheets.specs.PercentageSheet.{idsOf, weightsOf, whole, sheetLine, readSheet}
+use Rattle.sheets.specs.PercentageSheet.{idsOf, weightsOf, whole, sheetLine, readSheet, readSheetAt}
 use Rattle.sheets.proofs.Readings.{got-same, unless-got, onField-got, then-got}
 use Rattle.sheets.proofs.OpeningLine.{opened}
 use Rattle.sheets.proofs.BackendFields.{percent-limit}
@@ -104,7 +106,7 @@ pub record HeadLimits (o : Opening) : Type 0 where
   pub tolerant : o .second ≤ unit
   pub small : o .third ≤ mostCapacity
 
-head-limits : (text : List ℕ) (o : Opening) → sheetLine text ≡ got o → HeadLimits o
+head-limits : (text : List ℕ) (o : Opening) → sheetLine decimals text ≡ got o → HeadLimits o
 unfolding sheetLine unit
 head-limits text o e =
     let O = opened _ _ _ text o e in
@@ -128,7 +130,7 @@ record Lined (before : ℕ) (fs : List (List ℕ)) (ws : Weights) : Type 0 where
   ascends : Ascending before (ws .ids)
   small : (b : ℕ) → b < length (ws .weights) → getD (ws .weights) b 0 ≤ unit
 
-weight-limits : (line before : ℕ) (fs : List (List ℕ)) (ws : Weights) → weightFields line before fs ≡ got ws → Lined before fs ws
+weight-limits : (line before : ℕ) (fs : List (List ℕ)) (ws : Weights) → weightFields decimals line before fs ≡ got ws → Lined before fs ws
 unfolding weightFields unit
 weight-limits line before [] ws e =
     rw (← got-same e) (record { named = refl; size = refl; ascends = tt; small = λ b l. absurd (omega arith) })
@@ -148,14 +150,18 @@ weight-limits line before (f ∷ fs) ws e =
       small = each-more (w .0) (rest .0 .weights) unit first (more .small);
     })
 
--- a line of a service
-pub record Served (s : Service) : Type 0 where
-  pub volume : s .volume ≤ mostVolume
-  pub row : Row (s .ids) (s .weights)
+-- what the line of a service has where it was read, with any number of decimals and any sum of its weights
+pub record LineRead (d all i : ℕ) (fs : List (List ℕ)) (s : Service) : Type 0 where
+  pub place : i < mostServices
+  pub some : 3 ≤ length fs
+  pub few : length fs ≤ 2 + mostBackends
+  pub volume : number 0 mostVolume (field fs 1) ≡ Value (s .volume)
+  pub weights : weightFields d (i + 2) 0 (drop 2 fs) ≡ got (record { ids = s .ids; weights = s .weights })
+  pub balanced : sum (s .weights) ≡ all
 
-service-limits : (i : ℕ) (fs : List (List ℕ)) (s : Service) → serviceFields i fs ≡ got s → (i < mostServices) × Served s
+pub line-read : (d all i : ℕ) (fs : List (List ℕ)) (s : Service) → serviceFields d all i fs ≡ got s → LineRead d all i fs s
 unfolding serviceFields
-service-limits i fs s e =
+line-read d all i fs s e =
     let word = unless-got _ _ _ _ e in
     let few = unless-got _ _ _ _ (word .1) in
     let three = unless-got _ _ _ _ (few .1) in
@@ -163,22 +169,39 @@ service-limits i fs s e =
     let v = onField-got _ _ _ (most .1) in
     let ws = then-got _ _ (v .2) in
     let balanced = unless-got _ _ _ _ (ws .2) in
-    let line = weight-limits (i + 2) 0 (drop 2 fs) (ws .0) (ws .1) in
-    let long : length (ws .0 .weights) ≡ length fs - 2 = line .size ∙ length-drop 2 fs in (
-      ltb-true i mostServices (few .0),
-      rw (← got-same (balanced .1))
-          (record {
-            volume = only-text 0 mostVolume (v .0) (field fs 1) (v .1) .high;
-            row =
-                record {
-                  some = omega (arith, long, leb-true 3 (length fs) (three .0));
-                  few = omega (arith, long, leb-true (length fs) (2 + mostBackends) (most .0));
-                  paired = line .named ∙ sym (line .size);
-                  ascends = line .ascends;
-                  small = line .small;
-                  balanced = eqb-true (sum (ws .0 .weights)) unit (balanced .0);
-                };
-          }),
+    rw (← got-same (balanced .1))
+    (record {
+      place = ltb-true i mostServices (few .0);
+      some = leb-true 3 (length fs) (three .0);
+      few = leb-true (length fs) (2 + mostBackends) (most .0);
+      volume = v .1;
+      weights = ws .1;
+      balanced = eqb-true (sum (ws .0 .weights)) all (balanced .0);
+    })
+
+-- a line of a service
+pub record Served (s : Service) : Type 0 where
+  pub volume : s .volume ≤ mostVolume
+  pub row : Row (s .ids) (s .weights)
+
+service-limits : (i : ℕ) (fs : List (List ℕ)) (s : Service) → serviceFields decimals unit i fs ≡ got s → (i < mostServices) × Served s
+service-limits i fs s e =
+    let R = line-read decimals unit i fs s e in
+    let line = weight-limits (i + 2) 0 (drop 2 fs) _ (R .weights) in
+    let long : length (s .weights) ≡ length fs - 2 = line .size ∙ length-drop 2 fs in (
+      R .place,
+      record {
+        volume = only-text 0 mostVolume (s .volume) (field fs 1) (R .volume) .high;
+        row =
+            record {
+              some = omega (arith, long, R .some);
+              few = omega (arith, long, R .few);
+              paired = line .named ∙ sym (line .size);
+              ascends = line .ascends;
+              small = line .small;
+              balanced = R .balanced;
+            };
+      },
     )
 
 -- all lines of services
@@ -187,7 +210,8 @@ AllServed [] = Unit {0}
 AllServed (s ∷ ss) = Served s × AllServed ss
 
 lines-limits :
-    (i : ℕ) (ls : List (List ℕ)) (ss : List Service) → i ≤ mostServices → serviceLines i ls ≡ got ss → (i + length ss ≤ mostServices) × AllServed ss
+    (i : ℕ) (ls : List (List ℕ)) (ss : List Service) → i ≤ mostServices → serviceLines decimals unit i ls ≡ got ss
+    → (i + length ss ≤ mostServices) × AllServed ss
 unfolding serviceLines
 lines-limits i [] ss h e = rw (← got-same e) (omega arith, tt)
 lines-limits i (l ∷ []) ss h e = rw (← got-same (unless-got _ _ _ _ e .1)) (omega arith, tt)
@@ -244,7 +268,7 @@ whole-limits o ss S H few a e =
     })
 
 pub limits : (text : List ℕ) (S : Sheet) → readSheet text ≡ got S → Limits S
-unfolding readSheet
+unfolding readSheet readSheetAt
 limits text S e =
     let line = then-got _ _ e in
     let rest = then-got _ _ (line .2) in

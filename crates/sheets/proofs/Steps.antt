@@ -7,6 +7,7 @@ use native.Mathlib.Omega.{arith}
 use lib.ListN.{length, take, set}
 use lib.Seq.{take-suc-set}
 use borrow.Author.Tests.{ne-eqb}
+use Rattle.numerals.specs.Limits.{decimals, unit}
 use Rattle.numerals.specs.Text.{split}
 use Rattle.numerals.specs.declared.refusal.Refusal.{Refusal}
 use Rattle.numerals.specs.declared.refusal.Refusal.the-variants.{Malformed}
@@ -74,16 +75,17 @@ sum-more (v ∷ ws) w = omega (arith, sum-more ws w)
 module _ (i : ℕ) (l : List ℕ) where
   pub lines-more :
       (ls : List (List ℕ)) → 1 ≤ length ls
-      → serviceLines i (l ∷ ls) ≡ then (serviceFields i (split 32 l)) (λ s. then (serviceLines (i + 1) ls) (λ ss. got (s ∷ ss)))
+      → serviceLines decimals unit i (l ∷ ls)
+      ≡ then (serviceFields decimals unit i (split 32 l)) (λ s. then (serviceLines decimals unit (i + 1) ls) (λ ss. got (s ∷ ss)))
   unfolding serviceLines
   lines-more [] h = absurd (omega arith)
   lines-more (m ∷ ls) h = simp add-one
 
-  pub lines-open : 1 ≤ length l → serviceLines i (l ∷ []) ≡ refused Malformed (i + 2)
+  pub lines-open : 1 ≤ length l → serviceLines decimals unit i (l ∷ []) ≡ refused Malformed (i + 2)
   unfolding serviceLines unless
   lines-open h = rw (ne-eqb (length l) 0 (λ e. omega arith))
 
-pub lines-end : (i : ℕ) → serviceLines i ([] ∷ []) ≡ got []
+pub lines-end : (i : ℕ) → serviceLines decimals unit i ([] ∷ []) ≡ got []
 unfolding serviceLines unless
 lines-end i = refl
 

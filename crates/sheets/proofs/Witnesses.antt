@@ -30,7 +30,7 @@ use Rattle.packing.specs.Cases.{line, sample as packable, p7Lines}
 use Rattle.packing.proofs.Cases.{lists, lists-are, packs-sample}
 use Rattle.sheets.specs.Reading.{Reading, got, refused, then, unless, onField, same}
 use Rattle.sheets.specs.PercentageSheet.{Sheet, weightFields, sum, serviceFields, serviceLines, volumesOf, idsOf}
-use Rattle.sheets.specs.PercentageSheet.{weightsOf as rowsOf, whole, sheetLine, readSheet}
+use Rattle.sheets.specs.PercentageSheet.{weightsOf as rowsOf, whole, sheetLine, readSheet, readSheetAt}
 use Rattle.sheets.specs.FirstLine.{openingFields, openingLines, firstLine}
 use Rattle.sheets.specs.RuleSheet.{Table, headText, lineText, linesText, tableText, onSuffix, countOf, inOrder, placed, ruleFields, ruleLines}
 use Rattle.sheets.specs.RuleSheet.{closed, wholeTable, tableLine, readTable, isLine, checkLines, checkEnd, checkSheet}
@@ -49,28 +49,28 @@ abbrev pub sample : Sheet
 sample =
     record {
       k = 5;
-      tolerance = 20000;
+      tolerance = 2000000;
       capacity = 5;
       volumes = 55 ∷ 45 ∷ [];
       ids = (1 ∷ 2 ∷ 3 ∷ []) ∷ (1 ∷ 2 ∷ 3 ∷ []) ∷ [];
-      weights = (166667 ∷ 333333 ∷ 500000 ∷ []) ∷ (250000 ∷ 250000 ∷ 500000 ∷ []) ∷ [];
+      weights = (16666700 ∷ 33333300 ∷ 50000000 ∷ []) ∷ (25000000 ∷ 25000000 ∷ 50000000 ∷ []) ∷ [];
     }
 
-abbrev sampleTable : Table
-sampleTable = record { k = 5; total = 293333920; lines = p7Lines }
+abbrev pub sampleTable : Table
+sampleTable = record { k = 5; total = 29333392000; lines = p7Lines }
 
 abbrev sheetBytes : List ℕ
 sheetBytes = bytes "SHEET 5 2 5\nSERVICE 55 1:16.6667 2:33.3333 3:50\nSERVICE 45 1:25 2:25 3:50\n"
 
 abbrev tableBytes : List ℕ
-tableBytes = bytes "TABLE 5 5 293333920\n1 *0 2\n1 * 3\n2 *00 2\n2 *0 1\n2 * 3\n"
+tableBytes = bytes "TABLE 5 5 29333392000\n1 *0 2\n1 * 3\n2 *00 2\n2 *0 1\n2 * 3\n"
 
 -- the sample's table, by the definitions
 pub sample-packed : tableFor sample ≡ sampleTable
 unfolding tableFor services volume servicesIn servicesWith unit listTo linesMade table problem granted
 sample-packed = made (packs-sample .amount) (packs-sample .lines)
   where
-    made : {t : ℕ} {ls : List Line} → t ≡ 293333920 → ls ≡ p7Lines → record { k = 5; total = t; lines = ls } ≡ sampleTable
+    made : {t : ℕ} {ls : List Line} → t ≡ 29333392000 → ls ≡ p7Lines → record { k = 5; total = t; lines = ls } ≡ sampleTable
     made e f = rw (e, f)
 
 -- its text, byte for byte
@@ -83,7 +83,7 @@ unfolding sheetText
 sample-printed = rw sample-packed sample-written
 
 -- and the call that prints answers so many bytes
-pub sample-answer : printRead (readSheet sheetBytes) sheetText textLimit ≡ Value 54
+pub sample-answer : printRead (readSheet sheetBytes) sheetText textLimit ≡ Value 56
 unfolding cases printText bytes textLimit
 sample-answer = rw (right .0, sample-printed)
 
@@ -116,7 +116,7 @@ rival-fits = record { enough = one; room = omega arith }
     one (suc zero) h = omega arith
     one (suc (suc s)) h = absurd (omega arith)
 
-pub rival-loses : counted (servicesIn sample) (table (servicesIn sample) 20000 rival) ≡ 738333920
+pub rival-loses : counted (servicesIn sample) (table (servicesIn sample) 2000000 rival) ≡ 73833392000
 unfolding servicesIn unit sumTo listTo countTo allTo firstTo argmax lastmax matches firstMatch gives share backends label weight has wants excess
     shortfall imbalance giver receiver largestExcess largestShortfall firstRule frame isWithin reduction reductionAt term isNoGain isWhole
     termLength lowestPlace newRule step after listOf oldest place value valueFrom lowest services volume targetsOf ruleBudget frameOf
@@ -133,14 +133,14 @@ thirds =
       capacity = 2;
       volumes = 1 ∷ [];
       ids = (1 ∷ 2 ∷ 3 ∷ []) ∷ [];
-      weights = (333334 ∷ 333333 ∷ 333333 ∷ []) ∷ [];
+      weights = (33333400 ∷ 33333300 ∷ 33333300 ∷ []) ∷ [];
     }
 
 abbrev thirdsTable : Table
-thirdsTable = record { k = 1; total = 666666; lines = line 1 1 0 2 ∷ line 1 0 0 1 ∷ [] }
+thirdsTable = record { k = 1; total = 66666600; lines = line 1 1 0 2 ∷ line 1 0 0 1 ∷ [] }
 
 pub thirds-read : readSheet (bytes "SHEET 1 0 2\nSERVICE 1 1:33.3334 2:33.3333 3:33.3333\n") ≡ got thirds
-unfolding bytes readSheet textLimit sheetLine firstLine openingLines openingFields whole volumesOf idsOf rowsOf serviceLines serviceFields sum
+unfolding bytes readSheet readSheetAt textLimit sheetLine firstLine openingLines openingFields whole volumesOf idsOf rowsOf serviceLines serviceFields sum
     weightFields same onField unless then unit percentage percentOf split onto number isNumeral noLeadingZero allDigits isDigit value
     valueFrom onValue fraction atMostAll
 thirds-read = refl
@@ -149,8 +149,8 @@ pub record Tight : Type 0 where
   pub made : tableFor thirds ≡ thirdsTable
   pub entire : length (ownRules 1 (thirdsTable .lines)) ≡ length (listFor (servicesIn thirds) 0 0)
   pub ended : endOf (frameOf (servicesIn thirds) 0 0) (listFor (servicesIn thirds) 0 0) ≡ NoGain
-  pub above : countedLargestExcess (servicesIn thirds) (thirdsTable .lines) 0 ≡ 333334
-  pub below : countedLargestShortfall (servicesIn thirds) (thirdsTable .lines) 0 ≡ 666666
+  pub above : countedLargestExcess (servicesIn thirds) (thirdsTable .lines) 0 ≡ 33333400
+  pub below : countedLargestShortfall (servicesIn thirds) (thirdsTable .lines) 0 ≡ 66666600
 
 pub thirds-tight : Tight
 unfolding tableFor servicesIn unit sumTo listTo countTo allTo firstTo argmax lastmax matches firstMatch gives share backends label weight has
@@ -168,10 +168,10 @@ sampleFigures = 2 ∷ 4 ∷ 0 ∷ 3 ∷ 3 ∷ 0 ∷ []
 -- by the grants and the lists of both services
 abbrev figures : ℕ → ℕ → List Rule → List Rule → List ℕ
 figures g h own other =
-    g ∷ length own ∷ endNumber (endOf (frameOf packable 20000 0) own) ∷ h ∷ length other ∷ endNumber (endOf (frameOf packable 20000 1) other) ∷ []
+    g ∷ length own ∷ endNumber (endOf (frameOf packable 2000000 0) own) ∷ h ∷ length other ∷ endNumber (endOf (frameOf packable 2000000 1) other) ∷ []
 
 figures-right : figures 2 3 (lists 0) (lists 1) ≡ sampleFigures
-unfolding sumTo countTo allTo argmax lastmax matches firstMatch gives share backends label weight has wants excess shortfall giver receiver
+unfolding unit sumTo countTo allTo argmax lastmax matches firstMatch gives share backends label weight has wants excess shortfall giver receiver
     largestExcess largestShortfall frame isWithin reduction reductionAt term isNoGain endOf targetsOf frameOf
 figures-right = refl
 
@@ -183,7 +183,7 @@ sample-figures = made (packs-sample .first) (packs-sample .second) (lists-are 0)
     made a b c d = rw (a, b, c, d) figures-right
 
 pub record OneCall : Type 0 where
-  pub made : planAnswer sheetBytes 6 20 ≡ planned.Made (record { k = 5; services = 2; rules = 5; total = 293333920 })
+  pub made : planAnswer sheetBytes 6 20 ≡ planned.Made (record { k = 5; services = 2; rules = 5; total = 29333392000 })
   pub table-short : planAnswer sheetBytes 6 19 ≡ planned.Refused (about tableBuffer no7 0)
   pub figures-short : planAnswer sheetBytes 5 20 ≡ planned.Refused (about figuresBuffer no7 0)
   pub both-short : planAnswer sheetBytes 5 19 ≡ planned.Refused (about figuresBuffer no7 0)

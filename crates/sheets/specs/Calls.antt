@@ -7,7 +7,7 @@ use lib.ListN.{length}
 use Rattle.numerals.specs.Buffer.{filled}
 use Rattle.numerals.specs.Pick.{pick}
 use Rattle.numerals.specs.Decimal.{decimal}
-use Rattle.numerals.specs.Limits.{textLimit}
+use Rattle.numerals.specs.Limits.{textLimit, unit}
 use Rattle.numerals.specs.declared.refusal.Refusal.{Refusal}
 use Rattle.numerals.specs.Refusals.{no7, no8, no11, no12}
 use Rattle.expansion.specs.FirstMatch.{firstMatch, differing}
@@ -59,18 +59,26 @@ abbrev pub isTable : TableRead → Bool
 isTable (table-read.Made r) = true
 isTable (table-read.Refused r) = false
 
--- the services of a sheet, as the count is fed them; backends are labelled by their ids
+-- the services of a sheet whose weights sum to `all`, as the count is fed them; backends are labelled by their ids
+abbrev pub servicesAt : ℕ → Sheet → Services
+servicesAt all S = servicesWith all (S .k) (S .volumes) (S .ids) (S .weights)
+
+-- the services of a sheet
 unfoldable pub servicesIn : Sheet → Services
-servicesIn S = servicesWith (S .k) (S .volumes) (S .ids) (S .weights)
+servicesIn S = servicesAt unit S
+
+-- the table of a sheet with these services
+abbrev pub tableWith : Services → Sheet → Table
+tableWith T S =
+    record {
+      k = S .k;
+      total = total (problem T (S .tolerance) oneEach (S .capacity)) (granted T (S .tolerance) oneEach (S .capacity));
+      lines = linesMade T (S .tolerance) (S .capacity);
+    }
 
 -- the table of a sheet
 unfoldable pub tableFor : Sheet → Table
-tableFor S =
-    record {
-      k = S .k;
-      total = total (problem (servicesIn S) (S .tolerance) oneEach (S .capacity)) (granted (servicesIn S) (S .tolerance) oneEach (S .capacity));
-      lines = linesMade (servicesIn S) (S .tolerance) (S .capacity);
-    }
+tableFor S = tableWith (servicesIn S) S
 
 -- the one call: the table and the figures of a percentage sheet's text; 7 is about the lent buffer that is too short
 unfoldable pub planOf : Sheet → ℕ → ℕ → Planned

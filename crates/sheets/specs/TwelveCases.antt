@@ -1,4 +1,4 @@
--- The twelve P cases of document 01 ("Figures to try") in one listing.
+-- The twelve P cases of document 01 ("Figures to try") in one listing, with stairs and totals in the unit of document 02, Req 07; and that request's own.
 use Prim.Native.Nat.{ℕ, _<_}
 use Prim.Native.String as string
 use mathlib.Core.Path.{_≡_}
@@ -11,10 +11,12 @@ use Rattle.expansion.specs.Imbalance.{largestExcess, largestShortfall}
 use Rattle.numerals.specs.Limits.{mostBits, decimals}
 use Rattle.numerals.specs.Refusals.{no2}
 use Rattle.packing.specs.Table.{granted, oneEach}
+use Rattle.packing.specs.Cases.{p7Lines}
 use Rattle.sheets.specs.Reading.{Reading, got, refused, onField}
 use Rattle.sheets.specs.RuleSheet.{onSuffix}
 use Rattle.sheets.specs.PercentageSheet.{Sheet, readSheet}
 use Rattle.sheets.specs.Calls.{servicesIn, sheetText}
+use Rattle.sheets.specs.FourPlaces.{formerDecimals, formerUnit, tableAt}
 use Rattle.sheets.specs.Cases.{bytes}
 
 -- a list of rules with its end and stairs; such a list and what excess and shortfall it leaves; a percentage sheet, the grants of its services and
@@ -52,12 +54,27 @@ twelve =
     ∷ makes p3
     ∷ makes p4
     ∷ makes p5
-    ∷ leaves p6 333334 666666
+    ∷ leaves p6 33333400 66666600
     ∷ packs "SHEET 5 2 5\nSERVICE 55 1:16.6667 2:33.3333 3:50\nSERVICE 45 1:25 2:25 3:50\n" (2 ∷ 3 ∷ [])
-    "TABLE 5 5 293333920\n1 *0 2\n1 * 3\n2 *00 2\n2 *0 1\n2 * 3\n"
+    "TABLE 5 5 29333392000\n1 *0 2\n1 * 3\n2 *00 2\n2 *0 1\n2 * 3\n"
     ∷ stands "*00100" 4
     ∷ reads "18.4.2" (refused no2 1)
-    ∷ reads "100.0000" (got 1000000)
+    ∷ reads "100.0000" (got 100000000)
     ∷ reads "100.0001" (refused no2 1)
     ∷ reads "018.4" (refused no2 1)
     ∷ []
+
+-- document 02, Req 07: up to six decimals, and at most 100
+abbrev pub sixDecimals : List Figure
+sixDecimals =
+    reads "18.40000" (got 18400000)
+    ∷ reads "18.4000000" (refused no2 1)
+    ∷ reads "100.000000" (got 100000000)
+    ∷ reads "100.000001" (refused no2 1)
+    ∷ []
+
+-- P7 in document 01's own unit: four decimals, and weights that sum to 1,000,000
+pub record Formerly : Type 0 where
+  pub sample :
+      tableAt formerDecimals formerUnit (bytes "SHEET 5 2 5\nSERVICE 55 1:16.6667 2:33.3333 3:50\nSERVICE 45 1:25 2:25 3:50\n")
+      ≡ got (record { k = 5; total = 293333920; lines = p7Lines })

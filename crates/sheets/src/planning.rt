@@ -11,6 +11,7 @@ ghost use lib.ListN.{length};
 ghost use Rattle.sheets.specs.PercentageSheet.{readSheet};
 ghost use Rattle.sheets.specs.Calls as calls;
 ghost use Rattle.sheets.specs.Demand.{Demand3Of};
+ghost use Rattle.sheets.specs.FourPlaces.{FourPlaces};
 ghost use Rattle.sheets.specs.Inner.Planning.{planFrom};
 
 // The backends of all services: as many ids, and as many weights.
@@ -89,6 +90,7 @@ pub fn split_sheet(text: &[u8], out: &mut [u8]) -> Answer
     ensures buffer { λ r. ⌜ now (out .exit) ≡ calls.afterwards (calls.isValue r) (now (out .entry))
         (calls.valuesOf (readSheet (now (text .entry))) calls.sheetText) ⌝ }
     ensures demand { λ r. ⌜ Demand3Of r (now (text .entry)) (now (out .exit)) ⌝ }
+    ensures four_places { λ r. ⌜ FourPlaces (now (text .entry)) r (now (out .entry)) (now (out .exit)) ⌝ }
 {
     let mut figures = [0usize; FIGURES];
     let mut table = [1usize; CELLS];

@@ -37,9 +37,9 @@ three = 1 ∷ 2 ∷ 3 ∷ []
 abbrev pub unchanged : Case
 unchanged =
     record {
-      tolerance = 20000;
+      tolerance = 2000000;
       ids = three;
-      weights = 166667 ∷ 333333 ∷ 500000 ∷ [];
+      weights = 16666700 ∷ 33333300 ∷ 50000000 ∷ [];
       update = record { k = 5; kept = 4; rules = 4; churn = 0 };
       new = thirds;
     }
@@ -48,9 +48,9 @@ unchanged =
 abbrev pub quarter : Case
 quarter =
     record {
-      tolerance = 20000;
+      tolerance = 2000000;
       ids = three;
-      weights = 250000 ∷ 250000 ∷ 500000 ∷ [];
+      weights = 25000000 ∷ 25000000 ∷ 50000000 ∷ [];
       update = record { k = 5; kept = 3; rules = 4; churn = 3 };
       new = 3 ∷ 4 ∷ 1 ∷ 3 ∷ 0 ∷ 1 ∷ 1 ∷ 0 ∷ 2 ∷ 0 ∷ 0 ∷ 3 ∷ [];
     }
@@ -59,9 +59,9 @@ quarter =
 abbrev pub afresh : Case
 afresh =
     record {
-      tolerance = 20000;
+      tolerance = 2000000;
       ids = three;
-      weights = 500000 ∷ 300000 ∷ 200000 ∷ [];
+      weights = 50000000 ∷ 30000000 ∷ 20000000 ∷ [];
       update = record { k = 5; kept = 1; rules = 4; churn = 21 };
       new = 4 ∷ 3 ∷ 2 ∷ 2 ∷ 1 ∷ 2 ∷ 1 ∷ 0 ∷ 1 ∷ 0 ∷ 0 ∷ 3 ∷ [];
     }
@@ -72,7 +72,7 @@ hidden =
     record {
       tolerance = 0;
       ids = three;
-      weights = 0 ∷ 0 ∷ 1000000 ∷ [];
+      weights = 0 ∷ 0 ∷ 100000000 ∷ [];
       update = record { k = 5; kept = 2; rules = 3; churn = 16 };
       new = 1 ∷ 0 ∷ 3 ∷ 1 ∷ 0 ∷ 2 ∷ 0 ∷ 0 ∷ 3 ∷ [];
     }
@@ -81,9 +81,9 @@ hidden =
 abbrev pub retired : Case
 retired =
     record {
-      tolerance = 20000;
+      tolerance = 2000000;
       ids = 2 ∷ 3 ∷ [];
-      weights = 500000 ∷ 500000 ∷ [];
+      weights = 50000000 ∷ 50000000 ∷ [];
       update = record { k = 5; kept = 3; rules = 4; churn = 5 };
       new = 3 ∷ 0 ∷ 2 ∷ 3 ∷ 0 ∷ 1 ∷ 1 ∷ 0 ∷ 2 ∷ 0 ∷ 0 ∷ 3 ∷ [];
     }
@@ -92,16 +92,16 @@ retired =
 abbrev pub replaced : Case
 replaced =
     record {
-      tolerance = 20000;
+      tolerance = 2000000;
       ids = 2 ∷ 3 ∷ 40 ∷ [];
-      weights = 333333 ∷ 500000 ∷ 166667 ∷ [];
+      weights = 33333300 ∷ 50000000 ∷ 16666700 ∷ [];
       update = record { k = 5; kept = 2; rules = 4; churn = 5 };
       new = 5 ∷ 4 ∷ 40 ∷ 3 ∷ 0 ∷ 40 ∷ 1 ∷ 0 ∷ 2 ∷ 0 ∷ 0 ∷ 3 ∷ [];
     }
 
 -- `*` alone to 1, k 1, new weights 1:50 2:50: one rule can't halve the tree
 abbrev pub Halted : Type 0
-Halted = updateAnswer 1 0 (1 ∷ 2 ∷ []) (500000 ∷ 500000 ∷ []) (0 ∷ 0 ∷ 1 ∷ []) 3 ≡ Refused no13
+Halted = updateAnswer 1 0 (1 ∷ 2 ∷ []) (50000000 ∷ 50000000 ∷ []) (0 ∷ 0 ∷ 1 ∷ []) 3 ≡ Refused no13
 
 -- k 2, `*11` twice and `*1` to 1, `*` to 3
 abbrev pub tiedOld : List ℕ
@@ -109,9 +109,9 @@ tiedOld = 2 ∷ 3 ∷ 1 ∷ 2 ∷ 3 ∷ 1 ∷ 1 ∷ 1 ∷ 1 ∷ 0 ∷ 0 ∷ 3 �
 
 -- new weights 2:100 3:0: after two kept rules 1, which is missing, and 3 have the same excess, and the lower id gives first
 pub record Tied : Type 0 where
-  pub answer : updateAnswer 2 0 (2 ∷ 3 ∷ []) (1000000 ∷ 0 ∷ []) tiedOld 12 ≡ Made (record { k = 2; kept = 2; rules = 4; churn = 4 })
+  pub answer : updateAnswer 2 0 (2 ∷ 3 ∷ []) (100000000 ∷ 0 ∷ []) tiedOld 12 ≡ Made (record { k = 2; kept = 2; rules = 4; churn = 4 })
   pub new :
-      numbersResumed 2 0 (2 ∷ 3 ∷ []) (1000000 ∷ 0 ∷ []) tiedOld
+      numbersResumed 2 0 (2 ∷ 3 ∷ []) (100000000 ∷ 0 ∷ []) tiedOld
       ≡ 1 ∷ 0 ∷ 2 ∷ 1 ∷ 1 ∷ 2 ∷ 1 ∷ 1 ∷ 1 ∷ 0 ∷ 0 ∷ 3 ∷ []
 
 -- k 2: for each r from 1 to all a 1 where it ends within, and its churn; what is answered, and the new list
@@ -139,9 +139,9 @@ pub record Chooses (c : Choice) : Type 0 where
 abbrev pub lowestAtOne : Choice
 lowestAtOne =
     record {
-      tolerance = 250000;
+      tolerance = 25000000;
       ids = three;
-      weights = 200000 ∷ 300000 ∷ 500000 ∷ [];
+      weights = 20000000 ∷ 30000000 ∷ 50000000 ∷ [];
       old = 2 ∷ 0 ∷ 3 ∷ 1 ∷ 0 ∷ 2 ∷ 0 ∷ 0 ∷ 1 ∷ [];
       within = 1 ∷ 1 ∷ 0 ∷ [];
       churns = 2 ∷ 3 ∷ 0 ∷ [];
@@ -153,9 +153,9 @@ lowestAtOne =
 abbrev pub lowestBetween : Choice
 lowestBetween =
     record {
-      tolerance = 200000;
+      tolerance = 20000000;
       ids = three;
-      weights = 300000 ∷ 300000 ∷ 400000 ∷ [];
+      weights = 30000000 ∷ 30000000 ∷ 40000000 ∷ [];
       old = 2 ∷ 1 ∷ 3 ∷ 2 ∷ 0 ∷ 4 ∷ 1 ∷ 0 ∷ 2 ∷ 0 ∷ 0 ∷ 1 ∷ [];
       within = 1 ∷ 1 ∷ 1 ∷ 0 ∷ [];
       churns = 3 ∷ 1 ∷ 2 ∷ 0 ∷ [];
@@ -169,7 +169,7 @@ equalChurn =
     record {
       tolerance = 0;
       ids = 1 ∷ 2 ∷ [];
-      weights = 500000 ∷ 500000 ∷ [];
+      weights = 50000000 ∷ 50000000 ∷ [];
       old = 2 ∷ 1 ∷ 1 ∷ 1 ∷ 1 ∷ 2 ∷ 1 ∷ 0 ∷ 2 ∷ 0 ∷ 0 ∷ 1 ∷ [];
       within = 1 ∷ 1 ∷ 1 ∷ 0 ∷ [];
       churns = 1 ∷ 1 ∷ 3 ∷ 0 ∷ [];
@@ -183,7 +183,7 @@ longerList =
     record {
       tolerance = 0;
       ids = 1 ∷ 2 ∷ [];
-      weights = 250000 ∷ 750000 ∷ [];
+      weights = 25000000 ∷ 75000000 ∷ [];
       old = 2 ∷ 1 ∷ 4 ∷ 2 ∷ 0 ∷ 1 ∷ 1 ∷ 0 ∷ 3 ∷ 0 ∷ 0 ∷ 2 ∷ [];
       within = 1 ∷ 1 ∷ 1 ∷ 0 ∷ [];
       churns = 2 ∷ 3 ∷ 2 ∷ 0 ∷ [];

@@ -3,11 +3,13 @@
 use super::choices::Choice;
 use super::expansion::rows_text;
 use super::loaded::{any_list, changed, loaded, near_shares, spoil_list, Loaded};
-use super::shapes::{first_ids, ids, named, spoil_ids};
+use super::shapes::{
+    first_ids, ids, named, spoil_ids, FINE_SIXTHS, FORMER_WHOLE, FOURTH, QUARTERS, SIXTHS,
+};
 use crate::expansion::{Ending, Rule};
 use crate::limits::MOST_ID;
 use crate::lists::{list_of, numbers_of};
-use crate::numerals::WHOLE;
+use crate::numerals::{PERCENT, WHOLE};
 use crate::random::Random;
 use crate::update::{checked, run, Known};
 
@@ -58,8 +60,6 @@ pub fn ask_of(case: &Loaded) -> Ask {
 
 /// P1's list, newest rule first.
 pub(super) const P1: [u64; 12] = [5, 4, 1, 3, 0, 1, 1, 0, 2, 0, 0, 3];
-const SIXTHS: [u64; 3] = [166_667, 333_333, 500_000];
-const QUARTERS: [u64; 3] = [250_000, 250_000, 500_000];
 
 /// With the ids 1, 2, ..
 fn ask(k: u64, tolerance: u64, old: &[u64], weights: &[u64]) -> Ask {
@@ -78,12 +78,29 @@ pub fn p1_cases() -> Vec<Ask> {
     for weights in [
         SIXTHS,
         QUARTERS,
-        [333_333, 166_667, 500_000],
+        [33_333_300, 16_666_700, WHOLE / 2],
         [0, 0, WHOLE],
         [WHOLE, 0, 0],
-        [0, 500_000, 500_000],
+        [0, WHOLE / 2, WHOLE / 2],
     ] {
-        for tolerance in [0, 10_416, 10_417, 20_000, WHOLE] {
+        for tolerance in [0, 1_041_699, 1_041_700, 2 * PERCENT, WHOLE] {
+            asks.push(ask(5, tolerance, &P1, &weights));
+        }
+    }
+    asks
+}
+
+/// P1's list with sixths of six decimals, whose greatest error is 1.041667, and
+/// with weights that are a little away from what it holds.
+pub fn p1_fine() -> Vec<Ask> {
+    let mut asks = Vec::new();
+    for tolerance in [1_041_600, 1_041_666, 1_041_667, 1_041_668, 1_041_700] {
+        asks.push(ask(5, tolerance, &P1, &FINE_SIXTHS));
+    }
+    let held = [5, 11, 16].map(|share| share * WHOLE / 32);
+    for apart in [1, FOURTH - 1, FOURTH] {
+        let weights = [held[0] + apart, held[1] - apart, held[2]];
+        for tolerance in [0, apart - 1, apart, apart + 1] {
             asks.push(ask(5, tolerance, &P1, &weights));
         }
     }
@@ -110,8 +127,8 @@ pub fn shaped() -> Vec<Ask> {
     for (number, old) in SHAPES.iter().enumerate() {
         for (turn, weights) in [
             QUARTERS,
-            [500_000, 500_000, 0],
-            [125_000, 0, 875_000],
+            [WHOLE / 2, WHOLE / 2, 0],
+            [WHOLE / 8, 0, 7 * WHOLE / 8],
             [0, WHOLE, 0],
         ]
         .iter()
@@ -119,7 +136,7 @@ pub fn shaped() -> Vec<Ask> {
         {
             let least = old.iter().step_by(3).max().map_or(1, |&most| most.max(1));
             let k = (least + (3 * turn + number) as u64 % 6).min(12);
-            for tolerance in [0, 62_500] {
+            for tolerance in [0, WHOLE / 16] {
                 asks.push(ask(k, tolerance, old, weights));
             }
         }
@@ -142,7 +159,7 @@ pub fn every_keep(random: &mut Random) -> Vec<Ask> {
             let new = near_shares(k, &old[more as usize..], &ids);
             let case = Loaded {
                 k,
-                tolerance: 100,
+                tolerance: PERCENT / 100,
                 old,
                 new,
             };
@@ -165,7 +182,7 @@ pub fn longest(random: &mut Random, count: u64) -> Vec<Ask> {
         let new = changed(random, &near);
         let case = Loaded {
             k,
-            tolerance: *random.pick(&[100, 2_000, 20_000]),
+            tolerance: *random.pick(&[PERCENT / 100, PERCENT / 5, 2 * PERCENT]),
             old,
             new,
         };
@@ -254,7 +271,7 @@ pub fn spoilt(random: &mut Random, count: u64) -> Vec<Ask> {
             1 => ask.tolerance = random.any_size(),
             2 => ask.weights[at] = random.any_size(),
             3 => ask.weights.truncate(at),
-            4 => ask.weights[at] += 1,
+            4 => ask.weights[at] += *random.pick(&[1, FOURTH]),
             5 | 6 => spoil_ids(random, &mut ask.ids),
             _ => spoil_list(random, &mut ask.old),
         }
@@ -294,7 +311,7 @@ fn set(numbers: &mut [u64], at: usize, number: u64) {
 pub fn faulty(stuck: bool, next: usize) -> Vec<Ask> {
     let good = match stuck {
         true => ask(5, 0, &P1, &SIXTHS),
-        false => ask(5, 20_000, &P1, &QUARTERS),
+        false => ask(5, 2 * PERCENT, &P1, &QUARTERS),
     };
     let mut asks = Vec::new();
     for (number, first) in FAULTS.iter().enumerate() {
@@ -358,7 +375,9 @@ pub fn lists() -> Vec<Ask> {
             lists.push(many(rules, last));
         }
     }
-    let asks = lists.iter().map(|list| ask(5, 20_000, list, &QUARTERS));
+    let asks = lists
+        .iter()
+        .map(|list| ask(5, 2 * PERCENT, list, &QUARTERS));
     asks.collect()
 }
 
@@ -366,13 +385,23 @@ pub fn lists() -> Vec<Ask> {
 pub fn weight_counts() -> Vec<Ask> {
     let mut asks = Vec::new();
     for count in [0, 1, 2, 31, 32, 33, 34, 40] {
-        for weight in [0, 31_250, WHOLE, WHOLE + 1, u64::MAX] {
+        for weight in [0, WHOLE / 32, WHOLE, WHOLE + 1, u64::MAX] {
             asks.push(ask(5, WHOLE, &[1, 0, 1, 0, 0, 1], &vec![weight; count]));
         }
     }
+    for last in [
+        WHOLE / 2 - FOURTH,
+        WHOLE / 2 - 1,
+        WHOLE / 2 + 1,
+        WHOLE / 2 + FOURTH,
+    ] {
+        asks.push(ask(5, WHOLE, &[1, 0, 1, 0, 0, 1], &[WHOLE / 2, last]));
+    }
+    let former = [FORMER_WHOLE / 2; 2];
+    asks.push(ask(5, WHOLE, &[1, 0, 1, 0, 0, 1], &former));
     for backend in [1, 2, 3, 33, MOST_ID] {
-        asks.push(ask(5, WHOLE, &[1, 0, 1, 0, 0, backend], &[31_250; 32]));
-        asks.push(ask(5, WHOLE, &[1, 0, backend, 0, 0, 1], &[500_000; 2]));
+        asks.push(ask(5, WHOLE, &[1, 0, 1, 0, 0, backend], &[WHOLE / 32; 32]));
+        asks.push(ask(5, WHOLE, &[1, 0, backend, 0, 0, 1], &[WHOLE / 2; 2]));
     }
     asks
 }
@@ -384,7 +413,7 @@ pub fn heads() -> Vec<Ask> {
         asks.push(ask(k, WHOLE, &[1, 0, 1, 0, 0, 1], &[WHOLE]));
     }
     for tolerance in [0, WHOLE, WHOLE + 1, 1 << 32, u64::MAX] {
-        asks.push(ask(1, tolerance, &[1, 0, 2, 0, 0, 1], &[500_000; 2]));
+        asks.push(ask(1, tolerance, &[1, 0, 2, 0, 0, 1], &[WHOLE / 2; 2]));
     }
     asks
 }

@@ -150,13 +150,14 @@ pub const WAYS: [Way; 15] = [
 #[cfg(test)]
 mod tests {
     use super::super::asks::Ask;
+    use super::super::each_answered;
     use super::super::expansion::rows;
     use super::super::loaded::of_sheets;
     use super::super::plans::{row_text, BEHIND, MARK};
-    use super::super::records::{take_record, Record};
-    use super::super::{answer, records};
+    use super::super::records::Record;
     use super::*;
     use crate::lists::numbers_of;
+    use crate::numerals::WHOLE;
     use crate::plain::{all_runs, least_churn};
     use std::collections::BTreeSet;
 
@@ -192,22 +193,18 @@ mod tests {
     }
 
     fn written() -> Vec<Written> {
-        let records = records();
-        let answers = answer(records.bytes()).unwrap();
-        let mut file = records.bytes();
         let mut found = Vec::new();
-        for line in answers.lines() {
-            let record = take_record(&mut file).unwrap();
+        each_answered(|record, line| {
             if record.layer != "update" {
-                continue;
+                return;
             }
-            found.extend(case_of(&record).map(|case| Written {
+            found.extend(case_of(record).map(|case| Written {
                 kind: record.kind.to_string(),
                 case,
                 room: *record.numbers.last().unwrap() as usize,
                 answer: line.to_string(),
             }));
-        }
+        });
         found
     }
 
@@ -225,7 +222,7 @@ mod tests {
             false => format!("REFUSED {number} 0 0"),
         };
         let mut buffer = vec![MARK; vector.room + BEHIND];
-        let words = match least_churn(&all_runs(*k, *tolerance, old, new)) {
+        let words = match least_churn(&all_runs(WHOLE, *k, *tolerance, old, new)) {
             None => refused(13),
             Some(run) if 3 * run.list.len() > vector.room => refused(7),
             Some(run) => {

@@ -5,7 +5,7 @@ use super::records::Records;
 use super::rule_sheets::{some_service, table, LINES, SAMPLE};
 use super::shapes::rule_table;
 use super::spoil::spoil;
-use crate::limits::MOST_ID;
+use crate::limits::{MOST_ID, MOST_TOTAL};
 use crate::random::Random;
 use crate::rule_sheet::text_of;
 use crate::table::Table;
@@ -94,7 +94,7 @@ fn at_limits(records: &mut Records) {
             rule.repeat(31) + &format!("{service} * {}\n", service % 32 + 1)
         })
         .collect();
-    let sheet = format!("TABLE 12 2048 2621440000000000\n{full}");
+    let sheet = format!("TABLE 12 2048 {MOST_TOTAL}\n{full}");
     for (service, backend) in [(1, 9_999), (31, 32), (64, 1)] {
         add(records, service, backend, sheet.as_bytes());
     }

@@ -1,10 +1,13 @@
 //! Vectors for the expansion of one service.
 
 use super::records::{Record, Records};
-use super::shapes::{first_ids, ids, spoil_ids, tolerance, weights};
+use super::shapes::{
+    first_ids, ids, spoil_ids, tolerance, weights, FINE_SIXTHS, FINE_THIRDS, FORMER_WHOLE, FOURTH,
+    LOW_FIRST, QUARTERS, SIXTHS, THIRDS,
+};
 use crate::count;
 use crate::expansion::{expand, Ending, Expansion};
-use crate::numerals::WHOLE;
+use crate::numerals::{PERCENT, WHOLE};
 use crate::random::Random;
 use crate::refusal::Refusal;
 use crate::suffix::Suffix;
@@ -71,6 +74,7 @@ fn list_text(list: &Expansion) -> String {
 pub fn add_all(records: &mut Records) {
     let mut random = Random::new(2);
     listed(records);
+    one_apart(records);
     at_random(records, &mut random);
     at_limits(records, &mut random);
     named(records);
@@ -89,27 +93,72 @@ fn add_named(records: &mut Records, numbers: [u64; 3], ids: &[u64], weights: &[u
     records.add(&header, rows_text(&[ids, weights]).as_bytes());
 }
 
-/// P1 to P6, and P1 and P3 with every budget, depth and some tolerances.
+/// P1 to P6; P1 and P3, and P1 with six decimals, with every budget and depth and
+/// some tolerances.
 fn listed(records: &mut Records) {
-    let sixths = [166_667, 333_333, 500_000];
-    let quarters = [250_000, 250_000, 500_000];
-    add_list(records, [5, 20_000, 32], &sixths);
-    add_list(records, [5, 0, 32], &sixths);
-    add_list(records, [5, 0, 32], &quarters);
+    add_list(records, [5, 2 * PERCENT, 32], &SIXTHS);
+    add_list(records, [5, 0, 32], &SIXTHS);
+    add_list(records, [5, 0, 32], &QUARTERS);
     add_list(records, [1, 0, 32], &[WHOLE]);
-    add_list(records, [1, 0, 32], &[500_000, 500_000]);
-    add_list(records, [1, 0, 32], &[333_334, 333_333, 333_333]);
-    for weights in [sixths, quarters] {
+    add_list(records, [1, 0, 32], &[WHOLE / 2, WHOLE / 2]);
+    add_list(records, [1, 0, 32], &THIRDS);
+    for weights in [SIXTHS, QUARTERS, FINE_SIXTHS] {
         for k in 1..=12 {
             add_list(records, [k, 0, 32], &weights);
         }
         for budget in 1..=6 {
             add_list(records, [5, 0, budget], &weights);
         }
-        for tolerance in [
-            1, 10_416, 10_417, 10_418, 41_666, 41_667, 500_000, 499_999, WHOLE,
-        ] {
+        for tolerance in TOLERANCES {
             add_list(records, [5, tolerance, 32], &weights);
+        }
+    }
+}
+
+/// At, above and below the greatest errors of a list for sixths, which are 1.0417
+/// and 4.1667, or 1.041667 and 4.166667 with six decimals; and of a `*` alone.
+const TOLERANCES: [u64; 14] = [
+    1,
+    FOURTH,
+    1_041_666,
+    1_041_667,
+    1_041_668,
+    1_041_699,
+    1_041_700,
+    4_166_666,
+    4_166_667,
+    4_166_699,
+    4_166_700,
+    WHOLE / 2 - 1,
+    WHOLE / 2,
+    WHOLE,
+];
+
+/// Weights that lie a unit or two apart, so that four decimals would make ties of
+/// them, and the last of four decimals apart.
+fn one_apart(records: &mut Records) {
+    let (below, above) = (WHOLE / 4 - 1, WHOLE / 4 + 1);
+    for weights in [
+        [WHOLE / 4; 4],
+        [below, above, WHOLE / 4, WHOLE / 4],
+        [WHOLE / 4, below, WHOLE / 4, above],
+        [above, WHOLE / 4, WHOLE / 4, below],
+        [below, below, above, above],
+        [below - FOURTH, above, WHOLE / 4, WHOLE / 4 + FOURTH],
+        [0, 1, WHOLE - 1, 0],
+        [0, FOURTH, WHOLE - FOURTH, 0],
+        [WHOLE / 2 - 1, 1, WHOLE / 2, 0],
+    ] {
+        for k in [1, 2, 3, 12] {
+            add_list(records, [k, 0, 32], &weights);
+        }
+    }
+    for mut weights in [THIRDS, FINE_THIRDS, LOW_FIRST] {
+        for _ in 0..weights.len() {
+            weights.rotate_left(1);
+            for k in [1, 2, 12] {
+                add_list(records, [k, 0, 32], &weights);
+            }
         }
     }
 }
@@ -122,16 +171,16 @@ fn named(records: &mut Records) {
         [255, 256, 257],
         [10, 200, 3_000],
     ] {
-        for weights in [[166_667, 333_333, 500_000], [250_000, 250_000, 500_000]] {
+        for weights in [SIXTHS, QUARTERS, FINE_SIXTHS] {
             add_named(records, [5, 0, 32], &ids, &weights);
         }
-        add_named(records, [1, 0, 32], &ids, &[333_334, 333_333, 333_333]);
+        add_named(records, [1, 0, 32], &ids, &THIRDS);
         add_named(records, [12, 0, 32], &ids, &[0, WHOLE, 0]);
     }
     for (from, apart) in [(1, 1), (9_968, 1), (312, 312), (30, 321)] {
         let ids: Vec<u64> = (0..32).map(|place| from + apart * place).collect();
         for k in [1, 5, 12] {
-            add_named(records, [k, 0, 32], &ids, &[31_250; 32]);
+            add_named(records, [k, 0, 32], &ids, &[WHOLE / 32; 32]);
         }
     }
     add_named(records, [7, 0, 32], &[1], &[WHOLE]);
@@ -160,7 +209,7 @@ const IDS: [&[u64]; 14] = [
 /// with weights that are good, too large, unbalanced and too many.
 fn refused_ids(records: &mut Records) {
     let unlike: [&[u64]; 6] = [
-        &[500_000; 2],
+        &[WHOLE / 2; 2],
         &[WHOLE + 1, 0],
         &[1; 2],
         &[],
@@ -171,8 +220,8 @@ fn refused_ids(records: &mut Records) {
         for weights in unlike {
             add_named(records, [5, 0, 32], ids, weights);
         }
-        add_named(records, [13, 0, 32], ids, &[500_000; 2]);
-        add_named(records, [5, 0, 33], ids, &[500_000; 2]);
+        add_named(records, [13, 0, 32], ids, &[WHOLE / 2; 2]);
+        add_named(records, [5, 0, 33], ids, &[WHOLE / 2; 2]);
     }
     for (ids, weights) in [
         (31, 32),
@@ -183,20 +232,25 @@ fn refused_ids(records: &mut Records) {
         (40, 1),
         (0, 32),
     ] {
-        add_named(records, [5, 0, 32], &first_ids(ids), &vec![31_250; weights]);
+        add_named(
+            records,
+            [5, 0, 32],
+            &first_ids(ids),
+            &vec![WHOLE / 32; weights],
+        );
     }
     for at in [0, 1, 15, 30, 31] {
         for id in [0, 16, 33, 9_999, 10_000] {
             let mut ids = first_ids(32);
             ids[at] = id;
-            add_named(records, [5, 0, 32], &ids, &[31_250; 32]);
+            add_named(records, [5, 0, 32], &ids, &[WHOLE / 32; 32]);
         }
     }
 }
 
 /// Weights of every shape, with every k, tolerance and budget.
 fn at_random(records: &mut Records, random: &mut Random) {
-    for turn in 0..840 {
+    for turn in 0..650 {
         let most = *random.pick(&[4, 8, 32]);
         let count = random.within(1, most) as usize;
         let (ids, weights) = (ids(random, count), weights(random, count));
@@ -230,7 +284,7 @@ fn at_limits(records: &mut Records, random: &mut Random) {
 
 /// Each refusal alone, and each before the ones that come after it.
 fn refused(records: &mut Records) {
-    let half = [500_000, 500_000];
+    let half = [WHOLE / 2, WHOLE / 2];
     for k in [0, 13, 64, u64::MAX] {
         add_list(records, [k, 0, 32], &half);
     }
@@ -242,7 +296,18 @@ fn refused(records: &mut Records) {
     }
     let high = [WHOLE + 1; 40];
     for count in [0, 1, 2, 31, 32, 33, 34, 40] {
-        for weight in [0, 1, 30_303, 31_250, 500_000, WHOLE, WHOLE + 1, u64::MAX] {
+        for weight in [
+            0,
+            1,
+            WHOLE / 33,
+            FORMER_WHOLE / 32,
+            WHOLE / 32,
+            WHOLE / 2,
+            FORMER_WHOLE,
+            WHOLE,
+            WHOLE + 1,
+            u64::MAX,
+        ] {
             add_list(records, [5, 0, 32], &vec![weight; count]);
         }
         add_list(records, [0, 0, 32], &high[..count]);
@@ -251,16 +316,19 @@ fn refused(records: &mut Records) {
         add_list(records, [5, 0, 33], &high[..count]);
     }
     for last in [
-        499_999,
-        500_001,
+        WHOLE / 2 - FOURTH,
+        WHOLE / 2 - 1,
+        WHOLE / 2 + 1,
+        WHOLE / 2 + FOURTH,
+        FORMER_WHOLE / 2,
         WHOLE,
         WHOLE + 1,
         u64::MAX,
-        u64::MAX - 499_999,
+        u64::MAX - (WHOLE / 2 - 1),
         1 << 32,
     ] {
-        add_list(records, [12, 0, 32], &[500_000, last]);
-        add_list(records, [12, 0, 32], &[last, 500_000]);
+        add_list(records, [12, 0, 32], &[WHOLE / 2, last]);
+        add_list(records, [12, 0, 32], &[last, WHOLE / 2]);
     }
 }
 
@@ -279,8 +347,8 @@ fn refused_at_random(records: &mut Records, random: &mut Random) {
             match random.below(6) {
                 0 => numbers[random.below(3) as usize] = random.any_size(),
                 1 => weights[at] = random.any_size(),
-                2 => weights[at] += random.within(1, 2),
-                3 => weights[at] = weights[at].saturating_sub(1),
+                2 => weights[at] += *random.pick(&[1, 2, FOURTH]),
+                3 => weights[at] = weights[at].saturating_sub(*random.pick(&[1, FOURTH])),
                 4 => spoil_ids(random, &mut ids),
                 _ => weights.truncate(at.max(1)),
             }

@@ -7,7 +7,7 @@ use super::sheets::shown;
 use super::spoil::spoil;
 use crate::expansion::Rule;
 use crate::gauges::{gauges, reading, Gauge, Reading};
-use crate::limits::{MOST_ID, MOST_VOLUME};
+use crate::limits::{MOST_ID, MOST_TOTAL, MOST_VOLUME};
 use crate::packing::pack_checked;
 use crate::random::Random;
 use crate::rule_sheet::text_of;
@@ -324,7 +324,7 @@ fn services(records: &mut Records) {
             rule.repeat(31) + &format!("{service} * {}\n", service % 32 + 1)
         })
         .collect();
-    let sheet = format!("TABLE 12 2048 2621440000000000\n{full}");
+    let sheet = format!("TABLE 12 2048 {MOST_TOTAL}\n{full}");
     of(64, 9_999, 1).ask(records, sheet.as_bytes(), Both);
 }
 

@@ -7,7 +7,7 @@ use super::shapes::{first_ids, ids, named, weights};
 use crate::expansion::make_list;
 use crate::limits::MOST_ID;
 use crate::lists::numbers_of;
-use crate::numerals::WHOLE;
+use crate::numerals::{PERCENT, WHOLE};
 use crate::random::Random;
 
 fn ask(k: u64, tolerance: u64, old: &[u64], ids: &[u64], weights: &[u64]) -> Ask {
@@ -45,7 +45,7 @@ pub fn p1_named() -> Vec<Ask> {
         &[2, 9_998, 9_999],
     ];
     for ids in rows {
-        for tolerance in [0, 20_000, 200_000] {
+        for tolerance in [0, 2 * PERCENT, 20 * PERCENT] {
             asks.push(ask(5, tolerance, &P1, ids, &like(ids.len())));
         }
     }
@@ -69,7 +69,7 @@ pub fn of_other_backends(random: &mut Random, count: u64) -> Vec<Ask> {
             }
         }
         let old = numbers_of(list.rules.iter().rev());
-        let tolerance = *random.pick(&[0, 1_000, 20_000, 60_000, 300_000]);
+        let tolerance = *random.pick(&[0, PERCENT / 10, 2 * PERCENT, 6 * PERCENT, 30 * PERCENT]);
         asks.push(ask(k.into(), tolerance, &old, &new.ids, &new.weights));
     }
     asks
@@ -100,7 +100,7 @@ pub fn all_known(random: &mut Random) -> Vec<Ask> {
         let mut old: Vec<u64> = (1..32).flat_map(rule).collect();
         old.extend([0, 0, before[0]]);
         asks.push(ask(12, WHOLE, &old, after, &like(32)));
-        asks.push(ask(12, 40_000, &old, after, &like(32)));
+        asks.push(ask(12, 4 * PERCENT, &old, after, &like(32)));
         let few = weights(random, 3 + turn);
         let few = ask(12, 0, &old, after, &[few, vec![0; 29 - turn]].concat());
         asks.extend(tight(&few).into_iter().rev().take(6));
@@ -192,17 +192,23 @@ pub fn refused_ids() -> Vec<Ask> {
         &[1, u64::MAX],
         &[1, 9_999],
     ];
-    let unlike: [&[u64]; 5] = [&[500_000; 2], &[0, WHOLE + 1], &[1; 2], &[], &[0; 33]];
+    let unlike: [&[u64]; 5] = [&[WHOLE / 2; 2], &[0, WHOLE + 1], &[1; 2], &[], &[0; 33]];
     for ids in rows {
         for weights in unlike {
             asks.push(ask(5, WHOLE, &P1, ids, weights));
         }
-        asks.push(ask(5, WHOLE, &P1[..9], ids, &[500_000; 2]));
-        asks.push(ask(5, WHOLE, &[0, 0, 10_000], ids, &[500_000; 2]));
-        asks.push(ask(5, WHOLE + 1, &P1, ids, &[500_000; 2]));
+        asks.push(ask(5, WHOLE, &P1[..9], ids, &[WHOLE / 2; 2]));
+        asks.push(ask(5, WHOLE, &[0, 0, 10_000], ids, &[WHOLE / 2; 2]));
+        asks.push(ask(5, WHOLE + 1, &P1, ids, &[WHOLE / 2; 2]));
     }
     for (ids, weights) in [(31, 32), (33, 32), (32, 33), (33, 33), (64, 32), (0, 32)] {
-        asks.push(ask(5, WHOLE, &P1, &first_ids(ids), &vec![31_250; weights]));
+        asks.push(ask(
+            5,
+            WHOLE,
+            &P1,
+            &first_ids(ids),
+            &vec![WHOLE / 32; weights],
+        ));
     }
     asks
 }

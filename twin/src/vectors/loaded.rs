@@ -1,9 +1,9 @@
 //! Old lists of every shape with new weights, made at random.
 
-use super::shapes::{ids, named, order, rule_table, weights, OrderShape};
+use super::shapes::{ids, named, order, rule_table, some_places, weights, OrderShape};
 use crate::expansion::{make_list, Rule};
 use crate::limits::MOST_ID;
-use crate::numerals::WHOLE;
+use crate::numerals::{PERCENT, WHOLE};
 use crate::packing::{pack_checked, Order, Service};
 use crate::random::Random;
 use crate::services::{rules_of, service_of};
@@ -42,10 +42,10 @@ fn tolerance(random: &mut Random, k: u8) -> u64 {
     match random.below(12) {
         0 | 1 => 0,
         2 => WHOLE,
-        3 => random.below(WHOLE + 1),
-        4..=6 => suffix / 2 + random.below(suffix / 2 + 1),
+        3 => some_places(random, WHOLE + 1),
+        4..=6 => suffix / 2 + some_places(random, suffix / 2 + 1),
         7 => suffix,
-        _ => random.below(30_000),
+        _ => some_places(random, 3 * PERCENT),
     }
 }
 
@@ -120,8 +120,8 @@ fn move_weights(random: &mut Random, after: &mut [u64]) {
         let moved = match random.below(6) {
             0 => after[from],
             1 => after[from] / 2,
-            2 => 10_000 * random.below(30),
-            _ => random.below(40_000),
+            2 => PERCENT * random.below(30),
+            _ => some_places(random, 4 * PERCENT),
         };
         let moved = moved.min(after[from]);
         after[from] -= moved;
@@ -149,7 +149,7 @@ fn by_hand(random: &mut Random, k: u8) -> (Vec<Rule>, Service) {
 }
 
 /// The weights that the shares of these ids in a list make, cut to whole
-/// millionths; the first has the rest.
+/// units; the first has the rest.
 pub fn near_shares(k: u8, rules: &[Rule], ids: &[u64]) -> Service {
     let shares = crate::count::shares(k, ids, rules.iter());
     let mut weights: Vec<u64> = shares.iter().map(|share| (share * WHOLE) >> k).collect();

@@ -1,6 +1,8 @@
 //! Vectors for numerals, suffixes, tree places, lines and fields.
 
 use super::records::{Record, Records};
+use super::shapes::FORMER_TOTAL;
+use crate::limits::MOST_TOTAL;
 use crate::lines::{field_ends, find_lf};
 use crate::numerals::{read_number, read_percentage, write_number};
 use crate::random::Random;
@@ -93,14 +95,15 @@ pub fn add_all(records: &mut Records) {
 }
 
 /// The limits of document 01, of signed and of unsigned 64-bit numbers.
-const LIMITS: [(u64, u64); 14] = [
+const LIMITS: [(u64, u64); 15] = [
     (1, 12),
     (1, 32),
     (1, 64),
     (1, 2_048),
     (0, 10_000),
     (0, 65_536),
-    (0, 2_621_440_000_000_000),
+    (0, FORMER_TOTAL),
+    (0, MOST_TOTAL),
     (0, 0),
     (0, 1),
     (10, 99),
@@ -170,13 +173,17 @@ fn numbers_at_random(records: &mut Records, random: &mut Random) {
     }
 }
 
-/// Percentages named in document 01, and each part at its limits.
+/// Percentages named in document 01 and request 07, and each part at its limits.
 fn percentages_listed(records: &mut Records) {
     let listed = "18.4.2 100.0000 100.0001 018.4 18. .4 18.40000 18.4 0 0.0 00 100 100.0 100.00000 \
         99.9999 99.99999 999 1000 000 0.0000 0.0001 0.00001 00.5 01 1.2.3 1..2 ..1 . .. 0. +1 -1 +0 -0.5 \
         1,5 101 101.0 100.1 100.9999 200 110 10 1 9 99 100.000 100.00 1e1 1.e1 0x1 1.5% 1.4/ 1.4: /1 :1 \
         1/ 1: 5./ 5.: 5.-1 5.+1 16.6667 33.3333 33.3334 50 25 12.5 3.125 18446744073709551616 \
-        18446744073709551717.0 0.18446744073709551616 4294967297 429496730.0 100.65536";
+        18446744073709551717.0 0.18446744073709551616 4294967297 429496730.0 100.65536 18.400000 18.4000000 \
+        18.40000000 100.000000 100.000001 100.00001 100.0000000 100.0000001 100.999999 99.999999 99.9999999 \
+        0.000001 0.0000001 0.000000 0.0000000 16.666667 33.333333 33.333334 16.66667 33.333 3.1250 3.125000 \
+        3.1250000 0.390625 0.78125 18.4.200 18.40000.2 018.400000 7.000100 7.0001000 7.000010 7.0000100 \
+        0.00000 00.000001 1.00000/ 1.00000: 1.000000x";
     for text in listed.split(' ').filter(|text| !text.is_empty()) {
         records.add("P", text.as_bytes());
     }
@@ -188,7 +195,7 @@ fn percentages_listed(records: &mut Records) {
     for whole in [
         "", "0", "00", "7", "07", "10", "42", "042", "99", "100", "101", "0100", "1234",
     ] {
-        for decimals in 0..=6 {
+        for decimals in 0..=8 {
             for digit in ["0", "9"] {
                 let text = format!("{whole}.{}", digit.repeat(decimals));
                 records.add("P", text.as_bytes());
@@ -199,13 +206,19 @@ fn percentages_listed(records: &mut Records) {
     records.add("P", format!("1.{}", "0".repeat(2_000)).as_bytes());
 }
 
-/// Percentages of every number of decimals, a third of them damaged.
+/// Percentages of 0 to 8 decimals, often with zeros at the end, a third of them
+/// damaged.
 fn percentages_at_random(records: &mut Records, random: &mut Random) {
     for turn in 0..400 {
         let bound = *random.pick(&[1_200, 101, 101, 101, 101, 101]);
         let whole = random.below(bound);
-        let digits = random.below(7) as usize;
-        let decimals = String::from_utf8_lossy(&random.text(b"0123456789", digits)).into_owned();
+        let digits = random.below(9) as usize;
+        let zeros = match random.below(3) {
+            0 => random.below(digits as u64 + 1) as usize,
+            _ => 0,
+        };
+        let decimals = random.text(b"0123456789", digits - zeros);
+        let decimals = String::from_utf8_lossy(&decimals).into_owned() + &"0".repeat(zeros);
         let text = match digits {
             0 => whole.to_string(),
             _ => format!("{whole}.{decimals}"),

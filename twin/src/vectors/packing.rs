@@ -3,9 +3,11 @@
 use super::expansion::suffix_text;
 use super::records::{Record, Records};
 use super::rows::{self, add_order as add};
-use super::shapes::{self, order, service, spoil_ids, OrderShape};
+use super::shapes::{
+    self, order, service, spoil_ids, OrderShape, FINE_SIXTHS, FINE_THIRDS, FOURTH, QUARTERS, SIXTHS,
+};
 use crate::limits::MOST_ID;
-use crate::numerals::WHOLE;
+use crate::numerals::{PERCENT, WHOLE};
 use crate::packing::{Order, Packing, Service};
 use crate::random::Random;
 use crate::refusal::Refusal;
@@ -53,11 +55,11 @@ pub fn add_all(records: &mut Records) {
     rows::add_all(records);
 }
 
-/// The sample sheet with every capacity, the traps, and volumes of zero.
+/// The sample sheet with every capacity, the traps, volumes of zero, and products
+/// that are the largest and nearly equal.
 fn listed(records: &mut Records) {
-    let sixths = [166_667, 333_333, 500_000];
-    let quarters = [250_000, 250_000, 500_000];
-    let sample = [service(55, &sixths), service(45, &quarters)];
+    let sample = [service(55, &SIXTHS), service(45, &QUARTERS)];
+    let fine = [service(55, &FINE_SIXTHS), service(45, &FINE_THIRDS)];
     let mut try_all = |k, tolerance, services: &[Service]| {
         for capacity in (1..=9).chain([2_047, 2_048]) {
             let services = services.to_vec();
@@ -72,19 +74,23 @@ fn listed(records: &mut Records) {
             );
         }
     };
-    try_all(5, 20_000, &sample);
-    try_all(5, 0, &[service(0, &sixths), service(0, &quarters)]);
-    try_all(5, 0, &[service(0, &sixths), service(1, &quarters)]);
-    try_all(5, 0, &[service(10_000, &[WHOLE]), service(1, &quarters)]);
-    try_all(1, 0, &vec![service(7, &[500_000, 500_000]); 3]);
-    try_all(5, 0, &vec![service(7, &sixths); 4]);
-    try_all(4, 0, &[service(2, &quarters), service(4, &quarters)]);
+    try_all(5, 2 * PERCENT, &sample);
+    try_all(5, 1_041_667, &fine);
+    try_all(5, 0, &[service(0, &SIXTHS), service(0, &QUARTERS)]);
+    try_all(5, 0, &[service(0, &SIXTHS), service(1, &QUARTERS)]);
+    try_all(5, 0, &[service(10_000, &[WHOLE]), service(1, &QUARTERS)]);
+    try_all(1, 0, &vec![service(7, &[WHOLE / 2, WHOLE / 2]); 3]);
+    try_all(5, 0, &vec![service(7, &SIXTHS); 4]);
+    try_all(4, 0, &[service(2, &QUARTERS), service(4, &QUARTERS)]);
     try_all(12, 0, &[service(10_000, &[0, 0, WHOLE, 0])]);
+    let (below, half, above) = (WHOLE / 2 - 1, WHOLE / 2, WHOLE / 2 + 1);
+    let near = [[above, below], [half, half], [below, above]];
+    try_all(12, 0, &near.map(|weights| service(10_000, &weights)));
 }
 
 /// Orders of a few services.
 fn at_random(records: &mut Records, random: &mut Random) {
-    for _ in 0..390 {
+    for _ in 0..290 {
         let shape = OrderShape {
             services: random.within(1, 8),
             backends: *random.pick(&[2, 3, 5, 8, 32]),
@@ -114,7 +120,7 @@ fn large(records: &mut Records, random: &mut Random) {
         (order.k, order.tolerance, order.capacity) = (12, 0, capacity);
         add(records, &order);
     }
-    let services = (0..64).map(|i| service(10_000 - i, &[31_250; 32]));
+    let services = (0..64).map(|i| service(10_000 - i, &[WHOLE / 32; 32]));
     let order = Order {
         k: 12,
         tolerance: 0,
@@ -122,6 +128,7 @@ fn large(records: &mut Records, random: &mut Random) {
         services: services.collect(),
     };
     add(records, &order);
+    add(records, &shapes::largest_total());
 }
 
 /// Each refusal, and each before the ones that come after it.
@@ -169,9 +176,10 @@ fn refused_services(records: &mut Records, good: &Service) {
         service(u64::MAX, &[0]),
         service(10_000, &[WHOLE + 1]),
         service(10_000, &[WHOLE, 1]),
-        service(10_001, &[31_250; 33]),
-        service(0, &[999_999]),
-        service(0, &[u64::MAX, 1_000_001]),
+        service(10_001, &[WHOLE / 32; 33]),
+        service(0, &[WHOLE - 1]),
+        service(0, &[WHOLE - FOURTH]),
+        service(0, &[u64::MAX, WHOLE + 1]),
     ] {
         add_order(5, 1, &[&bad]);
         add_order(5, 1, &[good, &bad]);
@@ -196,7 +204,7 @@ fn refused_at_random(records: &mut Records, random: &mut Random) {
             1 => service.weights[0] = random.any_size(),
             2 => {
                 service.ids.push(MOST_ID);
-                service.weights.push(1);
+                service.weights.push(*random.pick(&[1, FOURTH]));
             }
             3 => order.k = random.within(12, 14),
             4 => order.capacity = shape.services - 1,

@@ -1,7 +1,7 @@
 //! Vectors `R`: texts of percentage sheets.
 
 use super::records::Records;
-use super::shapes::{order, percentage_text, sheet_text, OrderShape};
+use super::shapes::{largest_total, order, percentage_text, sheet_text, OrderShape, FOURTH};
 use super::spoil::spoil;
 use crate::packing::Order;
 use crate::random::Random;
@@ -23,6 +23,9 @@ pub fn add_all(records: &mut Records) {
 fn buffers(records: &mut Records, random: &mut Random) {
     for room in 0..=SAMPLE.len() {
         records.add(&format!("B {room}"), SAMPLE.as_bytes());
+    }
+    for text in fine_cases() {
+        records.add("B 70", text.as_bytes());
     }
     for _ in 0..200 {
         let order = small(random);
@@ -55,7 +58,7 @@ fn listed(records: &mut Records) {
             &SAMPLE.replacen("2 5\n", &format!("2 {capacity}\n"), 1),
         );
     }
-    for text in cases() {
+    for text in cases().into_iter().chain(fine_cases()) {
         add(records, &text);
     }
     wrong_forms(records);
@@ -78,6 +81,41 @@ const CASES: [(&str, &str); 10] = [
 /// The sheets of the P cases.
 pub(super) fn cases() -> [String; 10] {
     CASES.map(|(head, weights)| format!("SHEET {head} 32\nSERVICE 1 {weights}\n"))
+}
+
+/// Percentages of five decimals and more: the cases of request 07, sums that miss
+/// the whole by a unit and by the last of four decimals, and weights whose rules
+/// aren't those of the nearest ones of four decimals.
+const FINE_CASES: [(&str, &str); 24] = [
+    ("1 0", "1:18.40000 2:81.6"),
+    ("1 0", "1:18.4000000 2:81.6"),
+    ("1 18.40000", "1:50 2:50"),
+    ("1 18.4000000", "1:50 2:50"),
+    ("1 0", "1:100.000000"),
+    ("1 0", "1:100.0000000"),
+    ("1 0", "1:100.000001"),
+    ("1 100.000000", "1:50 2:50"),
+    ("1 100.000001", "1:50 2:50"),
+    ("5 1.041667", "1:16.666667 2:33.333333 3:50"),
+    ("5 1.041666", "1:16.666667 2:33.333333 3:50"),
+    ("5 1.0417", "1:16.666667 2:33.333333 3:50"),
+    ("12 0", "1:16.66667 2:33.33333 3:50.00000"),
+    ("1 0", "1:33.333333 2:33.333334 3:33.333333"),
+    ("2 0", "1:24.999999 2:25.000001 3:25 4:25"),
+    ("2 0", "1:25 2:25 3:25 4:25"),
+    ("2 0.000001", "1:24.999999 2:25.000001 3:25 4:25"),
+    ("12 0", "1:0.000001 2:99.999999"),
+    ("1 0", "1:50 2:49.999999"),
+    ("1 0", "1:50 2:49.9999"),
+    ("1 0", "1:50 2:50.000001"),
+    ("1 0", "1:50.0001 2:50"),
+    ("1 0", "1:50.0000001 2:50"),
+    ("1 0", "1:0.5 2:0.5"),
+];
+
+/// Their sheets.
+pub(super) fn fine_cases() -> [String; 24] {
+    FINE_CASES.map(|(head, weights)| format!("SHEET {head} 32\nSERVICE 9 {weights}\n"))
 }
 
 /// Lines with a wrong keyword, LF or number of fields.
@@ -115,7 +153,8 @@ fn wrong_forms(records: &mut Records) {
 fn fields(records: &mut Records) {
     let numbers = "0 1 2 11 12 13 32 33 64 65 2047 2048 2049 9999 10000 10001 65536 00 01 012 -1 +1 1. 1.0 \
         .5 0.5 x 1x 18446744073709551616 18446744073709551617 4294967297 100 100.0 100.0000 100.0001 101 \
-        99.9999 0.0001 0.00001 18. 18.4.2 018.4 18.40000";
+        99.9999 0.0001 0.00001 18. 18.4.2 018.4 18.40000 18.4000000 100.000000 100.0000000 100.000001 \
+        99.999999 0.000001 0.0000001";
     for number in numbers.split(' ').chain([""]) {
         add(records, &format!("SHEET {number} 2 5\nSERVICE 1 1:100\n"));
         add(
@@ -149,7 +188,7 @@ fn fields(records: &mut Records) {
 }
 
 /// Backends of a service that are right.
-const GOOD: [&str; 8] = [
+const GOOD: [&str; 11] = [
     "1:100",
     "9999:100",
     "1:50 9999:50",
@@ -157,11 +196,14 @@ const GOOD: [&str; 8] = [
     "12:25 345:25 6789:50",
     "1000:0 1001:0 2000:100",
     "3:33.3333 70:33.3334 800:33.3333",
+    "3:33.33333 70:33.33334 800:33.33333",
+    "3:33.333333 70:33.333334 800:33.333333",
+    "3:16.666667 70:33.333333 9999:50.000000",
     "9:10 10:20 99:30 100:0 999:30 1000:10",
 ];
 
 /// Backends of a service that are wrong in some way.
-const BAD: [&str; 36] = [
+const BAD: [&str; 40] = [
     "0:100",
     "10000:100",
     "0:50 1:50",
@@ -192,6 +234,10 @@ const BAD: [&str; 36] = [
     "2:50 1:49",
     "1:50 2:49",
     "9999:99.9999",
+    "9999:99.999999",
+    "1:50 2:50.000001",
+    "1:50.0000000 2:50",
+    "1:33.3333333 2:33.3333333 3:33.3333334",
     "1.0:100",
     "+1:100",
     "x:100",
@@ -300,7 +346,19 @@ fn large(records: &mut Records, random: &mut Random) {
         records,
         &format!("SHEET 12 0.0000 2048\n{}", widest.repeat(64)),
     );
+    records.add("R", &sheet_text(random, &largest_total()));
+    for services in FORMER_TOTALS {
+        add(records, &format!("SHEET 12 0 3\n{services}"));
+    }
 }
+
+/// Services of which the first three rules make the greatest total before request
+/// 07, as little more as k 12 allows, and as little less.
+const FORMER_TOTALS: [&str; 3] = [
+    "SERVICE 10000 1:50 2:50\nSERVICE 2799 1:50 2:50\nSERVICE 1 1:50 2:50\n",
+    "SERVICE 10000 1:50 2:50\nSERVICE 2800 1:50 2:50\nSERVICE 1 1:0.000001 2:99.999999\n",
+    "SERVICE 10000 1:50 2:50\nSERVICE 2799 1:50 2:50\nSERVICE 1 1:50.000001 2:49.999999\n",
+];
 
 /// Texts of 65,535 to 65,537 bytes.
 fn long(records: &mut Records) {
@@ -333,7 +391,7 @@ pub(super) fn small(random: &mut Random) -> Order {
 
 /// Sheets that keep the rules.
 fn good(records: &mut Records, random: &mut Random) {
-    for _ in 0..1_170 {
+    for _ in 0..1_010 {
         let order = small(random);
         records.add("R", &sheet_text(random, &order));
     }
@@ -373,13 +431,18 @@ fn unbalanced(records: &mut Records, random: &mut Random) {
             _ => {
                 let service = &mut order.services[random.below(count) as usize];
                 let weight = &mut service.weights[0];
-                *weight = if *weight == 0 { 1 } else { *weight - 1 };
+                let apart = *random.pick(&[1, FOURTH]);
+                *weight = match *weight < apart {
+                    true => *weight + apart,
+                    false => *weight - apart,
+                };
             }
         }
         let mut text = sheet_text(random, &order);
         if random.once_in(4) {
             text.pop();
-            text.extend(format!(" 9999:{}\n", percentage_text(random, 1)).bytes());
+            let apart = *random.pick(&[1, FOURTH]);
+            text.extend(format!(" 9999:{}\n", percentage_text(random, apart)).bytes());
         }
         records.add("R", &text);
     }

@@ -1,10 +1,11 @@
 //! Vectors `P`: the one call with lent buffers of so many numbers.
 
-use super::percentage_sheets::{cases, small, SAMPLE};
+use super::percentage_sheets::{cases, fine_cases, small, SAMPLE};
 use super::records::Records;
-use super::shapes::{percentage_text, sheet_text};
+use super::shapes::{largest_total, percentage_text, sheet_text};
 use super::spoil::spoil;
 use crate::calls::split;
+use crate::numerals::{PERCENT, WHOLE};
 use crate::packing::Packing;
 use crate::plan::plan;
 use crate::random::Random;
@@ -75,7 +76,7 @@ fn listed(records: &mut Records) {
         let text = SAMPLE.replacen("2 5\n", &format!("2 {capacity}\n"), 1);
         add(records, (7, 29), text.as_bytes());
     }
-    for text in cases() {
+    for text in cases().into_iter().chain(fine_cases()) {
         let rooms = needed(text.as_bytes()).unwrap_or((3, 4));
         add(records, rooms, text.as_bytes());
     }
@@ -92,7 +93,10 @@ fn refused(records: &mut Records) {
         "SHEET 5 2 5\nSERVICE 1 1:100\nSERVIC 1 100\n",
         "SHEET 13 2 5\nSERVICE 1 1:100\n",
         "SHEET 5 2 5\nSERVICE 1 1:100\nSERVICE 1 1:100.0001\n",
+        "SHEET 5 2 5\nSERVICE 1 1:100\nSERVICE 1 1:100.000001\n",
+        "SHEET 5 18.4000000 5\nSERVICE 1 1:100\n",
         "SHEET 5 2 5\nSERVICE 1 1:50 2:49.9999\n",
+        "SHEET 5 2 5\nSERVICE 1 1:50 2:49.999999\n",
         &many_weights,
         &many_services,
         "SHEET 5 2 5\n",
@@ -120,14 +124,15 @@ fn at_limits(records: &mut Records, random: &mut Random) {
     for rooms in [(192, 8_192), (192, 8_191)] {
         add(records, rooms, full.as_bytes());
     }
+    add(records, (192, 256), &sheet_text(random, &largest_total()));
 }
 
 /// A service of 32 weights that 32 rules can't make.
 fn uneven(random: &mut Random) -> String {
-    let mut rest = 1_000_000;
+    let mut rest = WHOLE;
     let mut line = "SERVICE 10000".to_string();
     for id in 1..32 {
-        let weight = random.within(20_001, 31_999);
+        let weight = random.within(2 * PERCENT + 1, 16 * PERCENT / 5 - 1);
         rest -= weight;
         line += &format!(" {id}:{}", percentage_text(random, weight));
     }

@@ -4,8 +4,10 @@
 use super::expansion::{rows, rows_text};
 use super::packing::shown;
 use super::records::Records;
-use super::shapes::{order, service, spoil_ids, OrderShape};
-use crate::numerals::WHOLE;
+use super::shapes::{
+    order, service, spoil_ids, OrderShape, FORMER_WHOLE, FOURTH, QUARTERS, SIXTHS,
+};
+use crate::numerals::{PERCENT, WHOLE};
 use crate::packing::Order;
 use crate::random::Random;
 use crate::rows::{pack_rows, rows_of, Rows};
@@ -64,16 +66,13 @@ fn ids_of(sizes: &[u64], count: usize) -> Vec<u64> {
 }
 
 fn sample() -> Rows {
-    rows_of(&[
-        service(55, &[166_667, 333_333, 500_000]),
-        service(45, &[250_000, 250_000, 500_000]),
-    ])
+    rows_of(&[service(55, &SIXTHS), service(45, &QUARTERS)])
 }
 
 /// The sample with every capacity.
 fn listed(records: &mut Records) {
     for capacity in (0..=8).chain([2_048, 2_049]) {
-        add(records, [5, 20_000, capacity], &sample());
+        add(records, [5, 2 * PERCENT, capacity], &sample());
     }
 }
 
@@ -95,7 +94,7 @@ fn good(records: &mut Records, random: &mut Random) {
         bits: 12,
     };
     add_order(records, &order(random, &many));
-    let full = rows_of(&vec![service(10_000, &[31_250; 32]); 64]);
+    let full = rows_of(&vec![service(10_000, &[WHOLE / 32; 32]); 64]);
     add(records, [4, 0, 2_048], &full);
     add(records, [4, 0, 63], &full);
 }
@@ -134,18 +133,18 @@ fn unlike_rows(records: &mut Records) {
         }
     }
     for size in [0, 1, 2, 3, 31, 32, 33, 1 << 32, (1 << 32) + 2, u64::MAX] {
-        add_rows(records, one, &[size], &[500_000; 2]);
-        add_rows(records, &[1, 1], &[size, 2], &[500_000; 4]);
+        add_rows(records, one, &[size], &[WHOLE / 2; 2]);
+        add_rows(records, &[1, 1], &[size, 2], &[WHOLE / 2; 4]);
     }
     for (size, count) in [(31, 32), (32, 31), (32, 32), (32, 33), (33, 32), (33, 33)] {
-        add_rows(records, one, &[size], &vec![31_250; count]);
+        add_rows(records, one, &[size], &vec![WHOLE / 32; count]);
     }
 }
 
 /// One refusal before another, in a service and from service to service.
 fn before_others(records: &mut Records) {
     let (bad, high) = (10_001, WHOLE + 1);
-    let cases: [(&[u64], &[u64], &[u64]); 24] = [
+    let cases: [(&[u64], &[u64], &[u64]); 29] = [
         (&[1], &[40], &[0; 35]),
         (&[bad], &[33], &[high; 32]),
         (&[bad], &[0], &[]),
@@ -160,6 +159,11 @@ fn before_others(records: &mut Records) {
         (&[1], &[2], &[0, high]),
         (&[1], &[2], &[u64::MAX, high]),
         (&[1], &[2], &[WHOLE, WHOLE]),
+        (&[1], &[2], &[WHOLE, 1]),
+        (&[1], &[2], &[WHOLE - 1, 0]),
+        (&[1], &[2], &[FOURTH, WHOLE]),
+        (&[1], &[2], &[FOURTH, WHOLE - 2 * FOURTH]),
+        (&[1], &[2], &[FORMER_WHOLE / 2; 2]),
         (&[1], &[2], &[0, WHOLE - 1, 1]),
         (&[bad, 1], &[1], &[WHOLE]),
         (&[10_000, 1], &[1], &[WHOLE]),
@@ -210,7 +214,7 @@ const SIZED: [(&[u64], &[u64]); 20] = [
 /// Ids that are too few or too many for their sizes, out of their limits, equal
 /// or out of line, in one service and from service to service.
 fn unlike_ids(records: &mut Records) {
-    let half = [500_000; 2];
+    let half = [WHOLE / 2; 2];
     for (sizes, ids) in SIZED {
         for (volume, weights) in [(1, half), (1, [1; 2]), (10_001, half), (1, [WHOLE + 1; 2])] {
             let rows = Rows {
@@ -227,7 +231,7 @@ fn unlike_ids(records: &mut Records) {
             volumes: vec![1],
             sizes: vec![32],
             ids: (1..=ids).collect(),
-            weights: vec![31_250; 32],
+            weights: vec![WHOLE / 32; 32],
         };
         add(records, [5, 0, 64], &rows);
     }
@@ -250,7 +254,7 @@ fn at_limits(records: &mut Records) {
     }
     let wide = row(64, 32);
     for weights in [2_047, 2_048, 2_049, 2_300] {
-        add_rows(records, &row(64, 0), &wide, &row(weights, 31_250));
+        add_rows(records, &row(64, 0), &wide, &row(weights, WHOLE / 32));
     }
 }
 
@@ -278,7 +282,19 @@ fn spoilt(records: &mut Records, random: &mut Random) {
 }
 
 fn spoil_row(random: &mut Random, row: &mut Vec<u64>) {
-    let number = *random.pick(&[0, 1, 2, 32, 33, 10_000, 10_001, WHOLE, WHOLE + 1, u64::MAX]);
+    let number = *random.pick(&[
+        0,
+        1,
+        2,
+        32,
+        33,
+        10_000,
+        10_001,
+        FORMER_WHOLE,
+        WHOLE,
+        WHOLE + 1,
+        u64::MAX,
+    ]);
     let at = random.below(row.len() as u64 + 1) as usize;
     match random.below(5) {
         0 | 1 if at < row.len() => row[at] = number,

@@ -2,8 +2,9 @@
 
 use super::loaded::{come_in, retire};
 use super::records::Records;
-use super::shapes::{order, renamed, rule_table, OrderShape};
+use super::shapes::{order, renamed, rule_table, OrderShape, FORMER_TOTAL};
 use super::spoil::spoil;
+use crate::limits::MOST_TOTAL;
 use crate::packing::pack_checked;
 use crate::random::Random;
 use crate::rule_sheet::text_of;
@@ -27,16 +28,21 @@ fn add(records: &mut Records, text: &str) {
     records.add("U", text.as_bytes());
 }
 
-pub(super) const SAMPLE: &str = "TABLE 5 5 293333920\n1 *0 2\n1 * 3\n2 *00 2\n2 *0 1\n2 * 3\n";
+pub(super) const SAMPLE: &str = "TABLE 5 5 29333392000\n1 *0 2\n1 * 3\n2 *00 2\n2 *0 1\n2 * 3\n";
 
 /// The sample cut after every byte, and each field of a sheet in turn.
 fn listed(records: &mut Records) {
     for length in 0..=SAMPLE.len() {
         add(records, &SAMPLE[..length]);
     }
-    let numbers = "0 1 2 3 12 13 32 33 64 65 2048 2049 00 01 -1 +1 1.0 x 18446744073709551617 4294967297 \
-        9999 10000 10001 65537 1:1 :1 2621439999999999 2621440000000000 2621440000000001 * *0 *1 *01 *000 *2 ** 0* *00000 *000000";
-    for number in numbers.split(' ').chain([""]) {
+    let numbers =
+        "0 1 2 3 12 13 32 33 64 65 2048 2049 00 01 -1 +1 1.0 x 18446744073709551617 4294967297 \
+        9999 10000 10001 65537 1:1 :1 * *0 *1 *01 *000 *2 ** 0* *00000 *000000";
+    let totals = [FORMER_TOTAL, MOST_TOTAL]
+        .map(|total| format!("{} {total} {}", total - 1, total + 1))
+        .join(" ");
+    let numbers = numbers.split(' ').chain(totals.split(' '));
+    for number in numbers.chain([""]) {
         add(records, &format!("TABLE {number} 1 0\n1 * 1\n"));
         add(records, &format!("TABLE 5 {number} 0\n1 * 1\n"));
         add(records, &format!("TABLE 5 1 {number}\n1 * 1\n"));
@@ -113,8 +119,10 @@ fn at_limits(records: &mut Records) {
         lines += &format!("{service} *101010101010 9999\n").repeat(31);
         lines += &format!("{service} * 9999\n");
     }
-    add(records, &format!("TABLE 12 2048 2621440000000000\n{lines}"));
-    add(records, &format!("TABLE 12 2047 2621440000000000\n{lines}"));
+    add(records, &format!("TABLE 12 2048 {MOST_TOTAL}\n{lines}"));
+    add(records, &format!("TABLE 12 2047 {MOST_TOTAL}\n{lines}"));
+    let over = MOST_TOTAL + 1;
+    add(records, &format!("TABLE 12 2048 {over}\n{lines}"));
     add(records, &format!("TABLE 12 2048 0\n{lines}65 * 1\n"));
     add(records, &format!("TABLE 12 2048 0\n{lines}64 * 1\n"));
     let head = "TABLE 5 1 0\n1 * 1\n";

@@ -5,7 +5,7 @@ use super::choices::{Choice, Way, LARGER, WAYS};
 use super::loaded::{any_list, changed, near_shares, of_sheets, Loaded};
 use super::shapes::{ids, named, weights};
 use crate::expansion::{make_list, Rule};
-use crate::numerals::WHOLE;
+use crate::numerals::{PERCENT, WHOLE};
 use crate::packing::Order;
 use crate::random::Random;
 use crate::suffix::Suffix;
@@ -94,7 +94,7 @@ fn tolerance(random: &mut Random, k: u8) -> u64 {
         0 => 0,
         1 => WHOLE >> k,
         2 => WHOLE >> k.min(4),
-        _ => 10_000 * random.within(1, 25),
+        _ => PERCENT * random.within(1, 25),
     }
 }
 
@@ -237,7 +237,7 @@ mod tests {
             Ending::Within => run.churn.to_string(),
             _ => "-".to_string(),
         };
-        let runs = all_runs(case.k, case.tolerance, &case.old, &case.new);
+        let runs = all_runs(WHOLE, case.k, case.tolerance, &case.old, &case.new);
         let churns: Vec<String> = runs.iter().rev().map(churn).collect();
         churns.join(" ")
     }

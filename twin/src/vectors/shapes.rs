@@ -1,12 +1,35 @@
 //! Weights, orders and tables of every shape, made at random.
 
 use crate::expansion::Rule;
-use crate::limits::MOST_ID;
-use crate::numerals::WHOLE;
+use crate::limits::{MOST_BITS, MOST_ID, MOST_SERVICES, MOST_TOTAL, MOST_VOLUME};
+use crate::numerals::{DECIMALS, PERCENT, WHOLE};
 use crate::packing::{Order, Service};
 use crate::random::Random;
 use crate::suffix::Suffix;
 use crate::table::{RuleLine, Table};
+
+/// All of a weight, and the greatest total, in document 01, before request 07.
+pub const FORMER_WHOLE: u64 = 1_000_000;
+pub const FORMER_TOTAL: u64 = 2_621_440_000_000_000;
+
+/// How many units the last of four decimals is worth.
+pub const FOURTH: u64 = WHOLE / FORMER_WHOLE;
+
+/// The weights of P1, P3 and P6.
+pub const SIXTHS: [u64; 3] = [16_666_700, 33_333_300, WHOLE / 2];
+pub const QUARTERS: [u64; 3] = [WHOLE / 4, WHOLE / 4, WHOLE / 2];
+pub const THIRDS: [u64; 3] = [33_333_400, 33_333_300, 33_333_300];
+
+/// Sixths and thirds as near as six decimals come, and thirds of which the first is
+/// two units below the others.
+pub const FINE_SIXTHS: [u64; 3] = [16_666_667, 33_333_333, WHOLE / 2];
+pub const FINE_THIRDS: [u64; 3] = [33_333_334, 33_333_333, 33_333_333];
+pub const LOW_FIRST: [u64; 3] = [33_333_332, 33_333_334, 33_333_334];
+
+/// The step from one weight to the next where there are six, five or four decimals.
+fn grain(random: &mut Random) -> u64 {
+    *random.pick(&[1, 1, FOURTH / 10, FOURTH, FOURTH])
+}
 
 /// A service from its volume, ids and weights.
 pub fn named(volume: u64, ids: &[u64], weights: &[u64]) -> Service {
@@ -44,16 +67,23 @@ pub fn ids(random: &mut Random, count: usize) -> Vec<u64> {
         .collect()
 }
 
-/// Weights of a number of backends, which sum to 1,000,000.
+/// Weights of a number of backends, which sum to the whole, of six, five or four
+/// decimals.
 pub fn weights(random: &mut Random, count: usize) -> Vec<u64> {
+    let grain = grain(random);
+    weights_of(random, count, grain)
+}
+
+/// The same with one step from weight to weight.
+pub fn weights_of(random: &mut Random, count: usize, grain: u64) -> Vec<u64> {
     let mut weights = match random.below(9) {
-        0 => equal(count),
-        1 => near_ties(random, count),
-        2 => halves(count),
-        3 => dominated(random, count),
-        4 => eighths(random, count),
-        5 => cut_at_random(random, count.div_ceil(2)),
-        _ => cut_at_random(random, count),
+        0 => equal(count, grain),
+        1 => near_ties(random, count, grain),
+        2 => halves(count, grain),
+        3 => dominated(random, count, grain),
+        4 => eighths(random, count, grain),
+        5 => cut_at_random(random, count.div_ceil(2), grain),
+        _ => cut_at_random(random, count, grain),
     };
     weights.resize(count, 0);
     if random.once_in(2) {
@@ -63,30 +93,31 @@ pub fn weights(random: &mut Random, count: usize) -> Vec<u64> {
 }
 
 /// Like weights; what doesn't divide goes to the first ones.
-fn equal(count: usize) -> Vec<u64> {
-    let (each, rest) = (WHOLE / count as u64, WHOLE % count as u64);
+fn equal(count: usize, grain: u64) -> Vec<u64> {
+    let steps = WHOLE / grain;
+    let (each, rest) = (steps / count as u64, steps % count as u64);
     (0..count as u64)
-        .map(|i| each + u64::from(i < rest))
+        .map(|i| grain * (each + u64::from(i < rest)))
         .collect()
 }
 
-/// Like weights with a few millionths moved.
-fn near_ties(random: &mut Random, count: usize) -> Vec<u64> {
-    let mut weights = equal(count);
+/// Like weights with a few steps moved.
+fn near_ties(random: &mut Random, count: usize, grain: u64) -> Vec<u64> {
+    let mut weights = equal(count, grain);
     for _ in 0..random.below(6) {
         let (from, to) = (random.below(count as u64), random.below(count as u64));
-        let moved = random.within(1, 3);
-        weights[from as usize] -= moved.min(weights[from as usize]).min(3);
+        let moved = grain * random.within(1, 3);
+        weights[from as usize] -= moved.min(weights[from as usize]);
         weights[to as usize] += WHOLE - weights.iter().sum::<u64>();
     }
     weights
 }
 
-/// 50, 25, 12.5 and so on, down to what a millionth allows.
-fn halves(count: usize) -> Vec<u64> {
+/// 50, 25, 12.5 and so on, down to what a step allows.
+fn halves(count: usize, grain: u64) -> Vec<u64> {
     let mut weights = Vec::new();
     let mut rest = WHOLE;
-    while weights.len() + 1 < count && rest.is_multiple_of(2) {
+    while weights.len() + 1 < count && rest.is_multiple_of(2 * grain) {
         rest /= 2;
         weights.push(rest);
     }
@@ -95,16 +126,22 @@ fn halves(count: usize) -> Vec<u64> {
 }
 
 /// One weight of almost everything, and small ones.
-fn dominated(random: &mut Random, count: usize) -> Vec<u64> {
+fn dominated(random: &mut Random, count: usize, grain: u64) -> Vec<u64> {
     let small = *random.pick(&[2, 50, 2_000, 20_000]);
-    let mut weights: Vec<u64> = (1..count).map(|_| random.below(small)).collect();
+    let mut weights: Vec<u64> = (1..count).map(|_| grain * random.below(small)).collect();
     weights.push(WHOLE - weights.iter().sum::<u64>());
     weights
 }
 
-/// Multiples of an eighth, or of another part of the whole.
-fn eighths(random: &mut Random, count: usize) -> Vec<u64> {
-    let parts = *random.pick(&[4, 8, 16, 64, 100, 10]);
+/// Multiples of an eighth, or of another part of the whole, down to what a step
+/// allows.
+fn eighths(random: &mut Random, count: usize, grain: u64) -> Vec<u64> {
+    let parts = [4, 8, 16, 64, 100, 10, 128, 256];
+    let whole: Vec<u64> = parts
+        .into_iter()
+        .filter(|parts| WHOLE.is_multiple_of(parts * grain))
+        .collect();
+    let parts = *random.pick(&whole);
     let mut weights = vec![0; count];
     for _ in 0..parts {
         weights[random.below(count as u64) as usize] += WHOLE / parts;
@@ -113,8 +150,8 @@ fn eighths(random: &mut Random, count: usize) -> Vec<u64> {
 }
 
 /// The whole cut at random places.
-fn cut_at_random(random: &mut Random, count: usize) -> Vec<u64> {
-    let grain = *random.pick(&[1, 1, 100, 10_000]);
+fn cut_at_random(random: &mut Random, count: usize, grain: u64) -> Vec<u64> {
+    let grain = *random.pick(&[grain, grain, grain, PERCENT / 100, PERCENT]);
     let mut cuts: Vec<u64> = (1..count)
         .map(|_| grain * random.below(WHOLE / grain + 1))
         .collect();
@@ -133,10 +170,16 @@ fn shuffle(random: &mut Random, weights: &mut [u64]) {
 pub fn tolerance(random: &mut Random) -> u64 {
     match random.below(10) {
         0..=4 => 0,
-        5 | 6 => random.below(1_000),
-        7 | 8 => random.below(20_000),
-        _ => random.below(WHOLE + 1),
+        5 | 6 => some_places(random, PERCENT / 10),
+        7 | 8 => some_places(random, 2 * PERCENT),
+        _ => some_places(random, WHOLE + 1),
     }
+}
+
+/// A number below a bound, of six, five or four decimals.
+pub fn some_places(random: &mut Random, bound: u64) -> u64 {
+    let number = random.below(bound);
+    number - number % grain(random)
 }
 
 /// How large an order may become.
@@ -172,17 +215,28 @@ pub fn order(random: &mut Random, shape: &OrderShape) -> Order {
     }
 }
 
+/// The order of the largest total: each service has one rule, and as small a
+/// largest weight as 32 can have.
+pub fn largest_total() -> Order {
+    Order {
+        k: MOST_BITS,
+        tolerance: 0,
+        capacity: MOST_SERVICES,
+        services: vec![service(MOST_VOLUME, &[WHOLE / 32; 32]); MOST_SERVICES as usize],
+    }
+}
+
 /// A percentage as text, with some zeros more than it needs.
 pub fn percentage_text(random: &mut Random, value: u64) -> String {
-    let decimals = format!("{:04}", value % 10_000);
+    let decimals = format!("{:0DECIMALS$}", value % PERCENT);
     let needed = decimals.trim_end_matches('0').len() as u64;
     let shown = match random.below(4) {
-        0 => random.within(needed, 4),
+        0 => random.within(needed, DECIMALS as u64),
         _ => needed,
     };
     match shown {
-        0 => (value / 10_000).to_string(),
-        _ => format!("{}.{}", value / 10_000, &decimals[..shown as usize]),
+        0 => (value / PERCENT).to_string(),
+        _ => format!("{}.{}", value / PERCENT, &decimals[..shown as usize]),
     }
 }
 
@@ -215,7 +269,7 @@ pub fn rule_table(random: &mut Random, k: u64, services: u64) -> Table {
         let most = *random.pick(&[2, 5, 5, 9, 32]);
         add_rules(random, k, service as u8, most, &mut lines);
     }
-    let total = random.any_size() % (crate::limits::MOST_TOTAL + 1);
+    let total = random.any_size() % (MOST_TOTAL + 1);
     Table {
         k: k as u8,
         total,

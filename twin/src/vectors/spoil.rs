@@ -1,12 +1,13 @@
 //! Sheets that are spoilt at random: bytes, fields or lines.
 
+use crate::numerals::DECIMALS;
 use crate::random::Random;
 
 /// Bytes that stand in sheets or next to those that do.
 const BYTES: &[u8] = b"0123456789 .\n:::*SERVICHTABL/;+-\r\t\0\xff\x0b";
 
 /// Fields that are at some limit, or of no form.
-const FIELDS: [&str; 77] = [
+const FIELDS: [&str; 93] = [
     "",
     "0",
     "1",
@@ -31,8 +32,11 @@ const FIELDS: [&str; 77] = [
     "10001",
     "65536",
     "1000000",
+    "100000000",
     "2621440000000000",
     "2621440000000001",
+    "262144000000000000",
+    "262144000000000001",
     "18446744073709551616",
     "18446744073709551617",
     "4294967297",
@@ -41,15 +45,24 @@ const FIELDS: [&str; 77] = [
     "100.0000",
     "100.0001",
     "100.00000",
+    "100.000000",
+    "100.0000000",
+    "100.000001",
     "18.4.2",
     "018.4",
     "18.",
     ".4",
     "18.40000",
+    "18.400000",
+    "18.4000000",
     "18.4",
     "0.0001",
+    "0.00001",
+    "0.000001",
+    "0.0000001",
     "0.0",
     "99.9999",
+    "99.999999",
     "50",
     "-1",
     "+1",
@@ -81,6 +94,10 @@ const FIELDS: [&str; 77] = [
     "1:2:3",
     "2:18.4.2",
     "2:100.0001",
+    "2:100.000001",
+    "2:18.40000",
+    "2:18.4000000",
+    "2:33.333333",
     "+1:50",
     "1.0:50",
     "65537:50",
@@ -111,11 +128,12 @@ const IDS: [&str; 17] = [
 pub fn spoil(random: &mut Random, text: &[u8]) -> Vec<u8> {
     let mut text = text.to_vec();
     for _ in 0..*random.pick(&[1, 1, 1, 2, 3]) {
-        text = match random.below(7) {
+        text = match random.below(8) {
             0..=2 => random.damage(&text, BYTES),
             3 => spoil_field(random, &text),
             4 => spoil_backend(random, &text),
             5 => spoil_line(random, &text),
+            6 => spoil_decimals(random, &text),
             _ => spoil_colon(random, &text),
         };
     }
@@ -154,6 +172,40 @@ fn spoil_backend(random: &mut Random, text: &[u8]) -> Vec<u8> {
     }
     lines[line] = fields.join(&b' ');
     lines.join(&b'\n')
+}
+
+/// Gives a percentage more decimals, up to two more than it may have, most often
+/// zeros; a text without percentages gets another field.
+fn spoil_decimals(random: &mut Random, text: &[u8]) -> Vec<u8> {
+    let ends: Vec<usize> = (0..text.len())
+        .filter(|&at| matches!(text[at], b' ' | b'\n') && is_percentage(field_before(text, at)))
+        .collect();
+    if ends.is_empty() {
+        return spoil_field(random, text);
+    }
+    let end = *random.pick(&ends);
+    let field = field_before(text, end);
+    let dot = field.iter().position(|&byte| byte == b'.');
+    let decimals = dot.map_or(0, |dot| field.len() - dot - 1);
+    let most = (DECIMALS + 2).saturating_sub(decimals).max(1);
+    let more = random.within(1, most as u64) as usize;
+    let digits = match random.below(3) {
+        0 => random.text(b"0123456789", more),
+        _ => vec![b'0'; more],
+    };
+    let point: &[u8] = if dot.is_none() { b"." } else { b"" };
+    [&text[..end], point, &digits, &text[end..]].concat()
+}
+
+/// The field that ends there.
+fn field_before(text: &[u8], end: usize) -> &[u8] {
+    let before = text[..end].iter().rposition(|byte| b" \n".contains(byte));
+    &text[before.map_or(0, |at| at + 1)..end]
+}
+
+/// Whether a field has a percentage: it has a colon or a dot.
+fn is_percentage(field: &[u8]) -> bool {
+    field.iter().any(|byte| b":.".contains(byte))
 }
 
 /// Leaves a colon out, doubles it or makes it a space; a text without one gets

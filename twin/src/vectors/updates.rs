@@ -56,6 +56,7 @@ pub fn add_all(records: &mut Records) {
     sheets_at_limits(records);
     sheets_with_rooms(records);
     sheets_of_ids(records);
+    sheets_of_decimals(records);
     sheets_at_random(records, &mut random);
     several_numbers(records);
     several_sheets(records);
@@ -91,13 +92,14 @@ fn some_room(turn: usize, needed: usize) -> usize {
 
 /// Lists and weights within their limits.
 fn in_numbers(records: &mut Records, random: &mut Random) {
-    for ask in [asks::p1_cases(), asks::every_keep(random)].concat() {
+    let listed = [asks::p1_cases(), asks::p1_fine(), asks::every_keep(random)];
+    for ask in listed.concat() {
         add_largest(records, &ask);
     }
     let others = [
         asks::shaped(),
         asks::longest(random, 28),
-        asks::at_random(random, 180),
+        asks::at_random(random, 150),
     ];
     for (turn, ask) in others.concat().iter().enumerate() {
         let room = some_room(turn, largest_room(ask.case()));
@@ -131,7 +133,7 @@ fn tight_numbers(records: &mut Records) {
     let mut random = Random::new(11);
     let mut loose: Vec<Ask> = asks::shaped().into_iter().step_by(2).collect();
     loose.extend(asks::longest(&mut random, 5));
-    loose.extend(asks::at_random(&mut random, 36));
+    loose.extend(asks::at_random(&mut random, 28));
     let tight: Vec<Ask> = loose.iter().flat_map(asks::tight).collect();
     for ask in &tight {
         add_largest(records, ask);
@@ -146,7 +148,7 @@ fn named_numbers(records: &mut Records) {
     let mut random = Random::new(13);
     let asks = [
         known::p1_named(),
-        known::of_other_backends(&mut random, 84),
+        known::of_other_backends(&mut random, 72),
         known::all_known(&mut random),
         known::tied(),
         known::tied_givers(),
@@ -323,12 +325,46 @@ fn sheets_of_ids(records: &mut Records) {
         .collect();
     let old = format!("TABLE 12 32 0\n{rules}3 * 9999\n");
     let weights: String = (0..32).map(|i| format!(" {}:3.125", 2 * i + 1)).collect();
-    for tolerance in ["100", "99.2431", "99.2432", "3.125", "3", "0"] {
+    for tolerance in [
+        "100",
+        "99.2431",
+        "99.243164",
+        "99.243165",
+        "99.2432",
+        "3.125",
+        "3",
+        "0",
+    ] {
         let sheet = format!(
             "SHEET 12 {tolerance} 9\n{0}{0}SERVICE 1{weights}\n",
             "SERVICE 1 8:100\n"
         );
         add_sheets(records, 3, old.as_bytes(), sheet.as_bytes(), 96);
+    }
+}
+
+/// Rules of tables whose k some fine cases have.
+const FINE_OLD: [(u64, &str); 6] = [
+    (1, "1 *0 2,1 * 1"),
+    (2, "1 *00 4,1 *01 3,1 *0 2,1 * 1"),
+    (2, "1 *00 3,1 *01 4,1 *0 1,1 * 2"),
+    (5, "1 *00100 1,1 *000 1,1 *0 2,1 * 3"),
+    (12, "1 *000 1,1 *0 2,1 * 3"),
+    (12, "1 *0 1,1 * 2"),
+];
+
+/// Each of these with each of the fine cases.
+fn sheets_of_decimals(records: &mut Records) {
+    for (k, lines) in FINE_OLD {
+        let (n, text) = (lines.split(',').count(), lines.replace(',', "\n"));
+        let old = format!("TABLE {k} {n} 0\n{text}\n");
+        let like = |sheet: &String| sheet.starts_with(&format!("SHEET {k} "));
+        for sheet in percentage_sheets::fine_cases()
+            .iter()
+            .filter(|&sheet| like(sheet))
+        {
+            add_sheets(records, 1, old.as_bytes(), sheet.as_bytes(), 3 * n);
+        }
     }
 }
 

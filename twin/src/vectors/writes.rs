@@ -3,7 +3,7 @@
 use super::expansion::numbers;
 use super::records::Records;
 use super::rule_sheets::{LINES, SAMPLE};
-use super::shapes::rule_table;
+use super::shapes::{rule_table, FORMER_TOTAL};
 use super::spoil::spoil_numbers;
 use crate::handed::{numbers_of, table_of, write};
 use crate::limits::MOST_TOTAL;
@@ -64,8 +64,9 @@ fn sample() -> Vec<u64> {
 /// of which some don't make whole lines, with good and bad numbers beside them.
 fn listed(records: &mut Records) {
     let mut sample = sample();
-    for room in [0, 1, 5, 20, 53, 54, 55, 70] {
-        add(records, 5, 293_333_920, room, &sample);
+    let (total, length) = (29_333_392_000, SAMPLE.len());
+    for room in [0, 1, 5, 20, length - 1, length, length + 1, 70] {
+        add(records, 5, total, room, &sample);
     }
     for length in 0..=sample.len() {
         add(records, 5, 1, 60, &sample[..length]);
@@ -90,9 +91,14 @@ fn heads(records: &mut Records) {
         0,
         9,
         10,
+        FORMER_TOTAL - 1,
+        FORMER_TOTAL,
+        FORMER_TOTAL + 1,
+        MOST_TOTAL / 3,
         MOST_TOTAL - 1,
         MOST_TOTAL,
         MOST_TOTAL + 1,
+        1 << 58,
         1 << 63,
         u64::MAX,
     ] {

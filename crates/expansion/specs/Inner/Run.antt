@@ -22,7 +22,7 @@ use Rattle.expansion.specs.declared.run.Run.{Run}
 use Rattle.expansion.specs.declared.run.Next.{Next}
 use Rattle.expansion.specs.declared.run.Next.the-variants.{Stop, Go}
 
--- backends with these labels and weights in millionths
+-- backends with these labels and weights in parts of the unit
 abbrev pub labelledBy : ℕ → List ℕ → List ℕ → Targets
 labelledBy k labels ws = record { k = k; unit = unit; labels = labels; weights = ws }
 
@@ -45,7 +45,7 @@ pub record Valid (k tolerance : ℕ) (labels ws : List ℕ) : Type 0 where
 
 -- a frame that the program can run: within the limits, and one that the theorems hold for
 pub record Fits (F : Frame) : Type 0 where
-  pub millionths : F .targets .unit ≡ unit
+  pub in-unit : F .targets .unit ≡ unit
   pub few-bits : F .targets .k ≤ mostBits
   pub tolerable : F .tolerance ≤ unit
   pub few : backends (F .targets) ≤ mostKnown

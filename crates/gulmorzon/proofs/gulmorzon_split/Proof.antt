@@ -24,7 +24,10 @@ returns c =
       c .of-answer .ensures ∙ ap ofAnswer (e .0),
       (
         lent _ _ (ap isValue (e .0)) (e .1 .0),
-        promised (c .before .before .before .split-sheet .result) _ _ _ (c .of-answer .ensures) (e .1 .1),
+        (
+          promised (c .before .before .before .split-sheet .result) _ _ _ (c .of-answer .ensures) (e .1 .1 .0),
+          rw (← e .0) (e .1 .1 .1),
+        ),
       ),
     )
 

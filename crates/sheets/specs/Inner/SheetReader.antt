@@ -6,7 +6,7 @@ use mathlib.Core.List.{List, [], _∷_, _++_}
 use lib.Dec.{leb, ltb, eqb}
 use lib.ListN.{length, take, drop}
 use Rattle.numerals.specs.Pick.{pick}
-use Rattle.numerals.specs.Limits.{mostBackends, mostId, mostServices, unit}
+use Rattle.numerals.specs.Limits.{mostBackends, mostId, mostServices, unit, decimals}
 use Rattle.numerals.specs.Refusals.{no2, no3, no5, no6}
 use Rattle.sheets.specs.Reading.{Reading, got, refused, then, unless}
 use Rattle.sheets.specs.PercentageSheet.{Sheet, Service, Weights, backendBefore, weightFields, serviceFields, serviceLines, sum, whole}
@@ -32,16 +32,16 @@ pub record Named (before : ℕ) (f : List ℕ) (id w : ℕ) : Type 0 where
   pub known : id ≤ mostId
   pub small : w ≤ unit
   pub next :
-      (line : ℕ) (fs : List (List ℕ)) → weightFields line before (f ∷ fs) ≡ then (weightFields line id fs) (λ ws. got (backendBefore id w ws))
+      (line : ℕ) (fs : List (List ℕ)) → weightFields decimals line before (f ∷ fs) ≡ then (weightFields decimals line id fs) (λ ws. got (backendBefore id w ws))
 
 abbrev pub BackendOf : backend-read.BackendRead → ℕ → List ℕ → Type 0
 BackendOf (backend-variants.Backend id w) before f = Named before f id w
-BackendOf backend-variants.Bad before f = (line : ℕ) (fs : List (List ℕ)) → weightFields line before (f ∷ fs) ≡ refused no2 line
+BackendOf backend-variants.Bad before f = (line : ℕ) (fs : List (List ℕ)) → weightFields decimals line before (f ∷ fs) ≡ refused no2 line
 
 -- the backends of a line, read behind the first `at` places of both rows
 pub record Weighed (ids ids′ ws ws′ : List ℕ) (at : ℕ) (fs : List (List ℕ)) (count amount : ℕ) : Type 0 where
   pub found : Weights
-  pub read : (line : ℕ) → weightFields line 0 fs ≡ got found
+  pub read : (line : ℕ) → weightFields decimals line 0 fs ≡ got found
   pub named : length (found .ids) ≡ count
   pub size : length (found .weights) ≡ count
   pub few : count ≤ mostBackends
@@ -51,7 +51,7 @@ pub record Weighed (ids ids′ ws ws′ : List ℕ) (at : ℕ) (fs : List (List 
 
 abbrev pub WeightsOf : weights-read.WeightsRead → List ℕ → List ℕ → List ℕ → List ℕ → ℕ → List (List ℕ) → Type 0
 WeightsOf (weights-variants.Weights count amount) ids ids′ ws ws′ at fs = Weighed ids ids′ ws ws′ at fs count amount
-WeightsOf (weights-variants.Refused why) ids ids′ ws ws′ at fs = (line : ℕ) → weightFields line 0 fs ≡ refused why line
+WeightsOf (weights-variants.Refused why) ids ids′ ws ws′ at fs = (line : ℕ) → weightFields decimals line 0 fs ≡ refused why line
 
 -- the line of service i up to its weights: its word, the number of its fields and its volume were found right
 pub record Opened (i : ℕ) (fs : List (List ℕ)) (v : ℕ) : Type 0 where
@@ -59,13 +59,13 @@ pub record Opened (i : ℕ) (fs : List (List ℕ)) (v : ℕ) : Type 0 where
   pub some : 3 ≤ length fs
   pub few : length fs ≤ 2 + mostBackends
   pub rest :
-      serviceFields i fs
-      ≡ then (weightFields (i + 2) 0 (drop 2 fs)) (λ ws.
+      serviceFields decimals unit i fs
+      ≡ then (weightFields decimals (i + 2) 0 (drop 2 fs)) (λ ws.
       unless (eqb (sum (ws .weights)) unit) no3 (i + 2) (got (record { volume = v; ids = ws .ids; weights = ws .weights })))
 
 abbrev pub VolumeOf : volume-read.VolumeRead → ℕ → List (List ℕ) → Type 0
 VolumeOf (volume-variants.Volume v) i fs = Opened i fs v
-VolumeOf (volume-variants.Refused why) i fs = serviceFields i fs ≡ refused why (i + 2)
+VolumeOf (volume-variants.Refused why) i fs = serviceFields decimals unit i fs ≡ refused why (i + 2)
 
 -- service i, with n backends, stands behind the first i volumes and the first `at` places of both rows
 pub record Stored (service : Service) (vs vs′ ids ids′ ws ws′ : List ℕ) (at i n : ℕ) : Type 0 where
@@ -80,26 +80,26 @@ pub record Stored (service : Service) (vs vs′ ids ids′ ws ws′ : List ℕ) 
 -- the line of service i was read and stored
 pub record Served (vs vs′ ids ids′ ws ws′ : List ℕ) (at i : ℕ) (fs : List (List ℕ)) (n : ℕ) : Type 0 where
   pub service : Service
-  pub read : serviceFields i fs ≡ got service
+  pub read : serviceFields decimals unit i fs ≡ got service
   pub stored : Stored service vs vs′ ids ids′ ws ws′ at i n
 
 abbrev pub ServiceOf : service-read.ServiceRead → List ℕ → List ℕ → List ℕ → List ℕ → List ℕ → List ℕ → ℕ → ℕ → List (List ℕ) → Type 0
 ServiceOf (service-variants.Weights n) vs vs′ ids ids′ ws ws′ at i fs = Served vs vs′ ids ids′ ws ws′ at i fs n
-ServiceOf (service-variants.Refused why) vs vs′ ids ids′ ws ws′ at i fs = serviceFields i fs ≡ refused why (i + 2)
+ServiceOf (service-variants.Refused why) vs vs′ ids ids′ ws ws′ at i fs = serviceFields decimals unit i fs ≡ refused why (i + 2)
 
 -- the line of service i, the one at position `start`, was read and stored; the next one begins at `next`
 pub record Followed (text vs vs′ ids ids′ ws ws′ : List ℕ) (at i start count next : ℕ) : Type 0 where
   pub service : Service
   pub read :
-      serviceLines i (linesAt text start)
-      ≡ then (serviceLines (i + 1) (linesAt text next)) (λ ss. got (service ∷ ss))
+      serviceLines decimals unit i (linesAt text start)
+      ≡ then (serviceLines decimals unit (i + 1) (linesAt text next)) (λ ss. got (service ∷ ss))
   pub after : start < next
   pub within : next ≤ length text
   pub stored : Stored service vs vs′ ids ids′ ws ws′ at i count
 
 abbrev pub LineOf : line-read.LineRead → List ℕ → List ℕ → List ℕ → List ℕ → List ℕ → List ℕ → List ℕ → ℕ → ℕ → ℕ → Type 0
 LineOf (line-variants.Service count next) text vs vs′ ids ids′ ws ws′ at i start = Followed text vs vs′ ids ids′ ws ws′ at i start count next
-LineOf (line-variants.Refused why) text vs vs′ ids ids′ ws ws′ at i start = serviceLines i (linesAt text start) ≡ refused why (i + 2)
+LineOf (line-variants.Refused why) text vs vs′ ids ids′ ws ws′ at i start = serviceLines decimals unit i (linesAt text start) ≡ refused why (i + 2)
 
 -- how many numbers each service has, and all of them in one row
 unfoldable pub sizesOf : List (List ℕ) → List ℕ
@@ -140,7 +140,7 @@ sheetOf head ss = whole (head .k) (head .tolerance) (head .capacity) ss
 
 -- the sheet of the services on these lines
 unfoldable pub sheetFrom : Head → List (List ℕ) → Reading Sheet
-sheetFrom head ls = then (serviceLines 0 ls) (sheetOf head)
+sheetFrom head ls = then (serviceLines decimals unit 0 ls) (sheetOf head)
 
 -- what is answered after the lines: no service, then a capacity below their number
 unfoldable pub finished : Head → ℕ → ℕ → sheet-read.SheetRead

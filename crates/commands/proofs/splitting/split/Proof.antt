@@ -7,7 +7,7 @@ use Rattle.numerals.specs.Limits.{textLimit}
 use Rattle.sheets.specs.PercentageSheet.{readSheet}
 use Rattle.sheets.specs.Calls.{printRead, sheetText}
 use Rattle.commands.proofs.Texts.{whole}
-use Rattle.commands.proofs.Sheets.{ended, not-printed}
+use Rattle.commands.proofs.Sheets.{ended, not-printed, printed-four}
 use Rattle.commands.proofs.splitting.split.Statement.{statement}
 use Rattle.commands.proofs.splitting.split.Tie as tie
 
@@ -39,7 +39,7 @@ returns c =
     let is = c .before .printed .given .1 in
     let e = s .split-sheet .ensures in
     let end = ended _ _ (sym is ∙ answered s) in
-    (end .0, ((rw is at (e .1 .0)) ∙ ap (sets _ 0) (end .1), λ S h. rw is at (e .1 .1)))
+    (end .0, ((rw is at (e .1 .0)) ∙ ap (sets _ 0) (end .1), ((λ S h. rw is at (e .1 .1 .0)), printed-four _)))
 
 returns-2 : tie.Need-returns-2
 returns-2 c =
@@ -48,7 +48,7 @@ returns-2 c =
     let e = s .split-sheet .ensures in
     let not = not-printed _ _ (sym is ∙ answered s) in
     let w = whole (c .put-refused .ensures) in
-    (rw (not .0) (w .0), (rw (not .0) (w .1 ∙ rw (rw is at (e .1 .0))), λ S h. absurd (not .1 S h)))
+    (rw (not .0) (w .0), (rw (not .0) (w .1 ∙ rw (rw is at (e .1 .0))), ((λ S h. absurd (not .1 S h)), printed-four _)))
 
 pub split-spec : {M : Type 1} → statement M
 split-spec =

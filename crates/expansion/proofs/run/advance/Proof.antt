@@ -64,7 +64,7 @@ module _ (s : tie.Start) where
   takes : (b : ℕ) → b < length (s .args .weights .now) → Changeable (entryAt (s .args .state .ledger) b) 0 (2 ^ (s .args .m .index))
   unfolding backends
   takes b l =
-      kept-change F (after F x) (s .args .state .ledger) (S .keeps) (fits .sound) (fits .millionths) (fits .few-bits) b l 0 (2 ^ (s .args .m .index))
+      kept-change F (after F x) (s .args .state .ledger) (S .keeps) (fits .sound) (fits .in-unit) (fits .few-bits) b l 0 (2 ^ (s .args .m .index))
       (omega arith) (pow-few (s .args .m .index) low)
 
 mul-label : tie.Need-mul-label

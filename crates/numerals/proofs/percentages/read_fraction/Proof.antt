@@ -1,4 +1,4 @@
--- `percentages::read_fraction` meets its contract: one to four digits, times the worth of the last of them.
+-- `percentages::read_fraction` meets its contract: one digit to `decimals`, times the worth of the last of them.
 -- Assumes nothing.
 use Prim.Native.Nat.{_-_, _*_, _^_, _≤_}
 use native.Mathlib.Nat.{le-trans, le-of-eq, pow-le-pow-right, mul-le-mul}

@@ -6,6 +6,7 @@ use native.Mathlib.Omega.{arith}
 use lib.ListN.{length}
 use lib.Seq.{slice}
 use borrow.Author.Needs.{needs}
+use Rattle.numerals.specs.Limits.{decimals, unit}
 use Rattle.numerals.specs.Text.{split}
 use Rattle.numerals.proofs.Fields.{cut, cut-last, split-some}
 use Rattle.numerals.proofs.Slice.{slice-length}
@@ -23,7 +24,7 @@ returns c =
     let a = c .before .before .before .before .before .before .args in
     let text = a .text .now in
     let end = length text in
-    ap (serviceLines (a .i)) (cut-last 10 (a .start) end (c .before .find .result) text (omega arith) (c .before .find .ensures) (c .if1 .taken))
+    ap (serviceLines decimals unit (a .i)) (cut-last 10 (a .start) end (c .before .find .result) text (omega arith) (c .before .find .ensures) (c .if1 .taken))
     ∙ lines-open (a .i) (slice (a .start) end text) (omega (arith, slice-length (a .start) end text))
 
 -- the line and those behind it
@@ -31,15 +32,15 @@ line :
     (c : tie.Else1)
     → let a = c .before .before .before .before .before .before .args in
     let e = c .before .find .result in
-    serviceLines (a .i) (split 10 (slice (a .start) (length (a .text .now)) (a .text .now)))
-    ≡ then (serviceFields (a .i) (split 32 (slice (a .start) e (a .text .now)))) (λ s.
-    then (serviceLines (a .i + 1) (split 10 (slice (e + 1) (length (a .text .now)) (a .text .now)))) (λ ss. got (s ∷ ss)))
+    serviceLines decimals unit (a .i) (split 10 (slice (a .start) (length (a .text .now)) (a .text .now)))
+    ≡ then (serviceFields decimals unit (a .i) (split 32 (slice (a .start) e (a .text .now)))) (λ s.
+    then (serviceLines decimals unit (a .i + 1) (split 10 (slice (e + 1) (length (a .text .now)) (a .text .now)))) (λ ss. got (s ∷ ss)))
 line c =
     let a = c .before .before .before .before .before .before .args in
     let text = a .text .now in
     let end = length text in
     let e = c .before .find .result in
-    ap (serviceLines (a .i)) (cut 10 (a .start) end e text (omega arith) (c .before .find .ensures) (c .if1 .left))
+    ap (serviceLines decimals unit (a .i)) (cut 10 (a .start) end e text (omega arith) (c .before .find .ensures) (c .if1 .left))
     ∙ lines-more (a .i) (slice (a .start) e text) (split 10 (slice (e + 1) end text)) (split-some 10 (slice (e + 1) end text))
 
 read-service-requires : tie.Need-read-service-requires

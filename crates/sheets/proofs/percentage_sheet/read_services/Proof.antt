@@ -7,6 +7,7 @@ use native.Mathlib.Omega.{arith}
 use lib.ListN.{length, length-set, length-append}
 use lib.Seq.{slice, slice-empty}
 use borrow.Author.Needs.{needs}
+use Rattle.numerals.specs.Limits.{decimals, unit}
 use Rattle.numerals.specs.Text.{split}
 use Rattle.sheets.specs.Reading.{got, then}
 use Rattle.sheets.specs.PercentageSheet.{Service, serviceLines, volumesOf, idsOf, weightsOf}
@@ -29,7 +30,7 @@ record Serving (text : List ℕ) (from : ℕ) (volumes₀ sizes₀ ids₀ weight
   long-ids : length ids ≡ length ids₀
   long-weights : length weights ≡ length weights₀
   holds : Holds (volumesOf done) (idsOf done) (weightsOf done) volumes sizes ids weights i at
-  read : serviceLines 0 (lines text from) ≡ behind done (serviceLines i (lines text start))
+  read : serviceLines decimals unit 0 (lines text from) ≡ behind done (serviceLines decimals unit i (lines text start))
 
 abbrev Inv-loop : tie.InvT-loop
 Inv-loop text head from volumes₀ sizes₀ ids₀ weights₀ start₀ i₀ at₀ volumes sizes ids weights start i at =
@@ -51,7 +52,7 @@ loop-holds c =
       long-ids = refl;
       long-weights = refl;
       holds = holds-none (a .volumes .now) (a .sizes .now) (a .ids .now) (a .weights .now);
-      read = sym (behind-none (serviceLines 0 (lines (a .text .now) (a .from))));
+      read = sym (behind-none (serviceLines decimals unit 0 (lines (a .text .now) (a .from))));
     }
 
 read-line-requires : tie.Need-read-line-requires Inv-loop μ-loop
@@ -170,7 +171,7 @@ returns-2 c =
     let l = c .before .before .loop in
     let ends : l .start ≡ length (a .text .now) = omega (arith, l .inv .inside) in
     let none : lines (a .text .now) (l .start) ≡ [] ∷ [] = rw (ends, slice-empty (length (a .text .now)) (a .text .now)) in
-    let all : serviceLines 0 (lines (a .text .now) (a .from)) ≡ got (l .inv .done) =
+    let all : serviceLines decimals unit 0 (lines (a .text .now) (a .from)) ≡ got (l .inv .done) =
     l .inv .read ∙ rw (none, lines-end (l .i)) (behind-all (l .inv .done)) in
     rw (c .finish .ensures, all) (holds-whole (a .head) (l .inv .done) (l .inv .count) (l .inv .holds))
 

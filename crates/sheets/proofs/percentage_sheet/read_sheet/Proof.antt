@@ -2,7 +2,7 @@
 use mathlib.Core.Path.{_≡_}
 use borrow.Author.Needs.{needs}
 use Rattle.sheets.specs.Reading.{then}
-use Rattle.sheets.specs.PercentageSheet.{sheetLine, readSheet}
+use Rattle.sheets.specs.PercentageSheet.{sheetLine, readSheet, readSheetAt}
 use Rattle.sheets.specs.Inner.FirstLine.{readAs}
 use Rattle.sheets.specs.Inner.SheetReader.{sheetFrom}
 use Rattle.sheets.proofs.percentage_sheet.read_sheet.Statement.{statement}
@@ -27,7 +27,7 @@ read-services-requires c κs =
     (line .1, r .before .before .before .before .before .before .before .pre)
 
 returns : tie.Need-returns
-unfolding readSheet sheetLine readAs then
+unfolding readSheet readSheetAt sheetLine readAs then
 returns c =
     let line = rw (c .before .read .given .1) at (c .before .before .before .read-first-line .ensures) in
     (rw (line .0), line .1)
@@ -45,7 +45,7 @@ same-length-4 : tie.Need-same-length-4
 same-length-4 c = search needs
 
 returns-2 : tie.Need-returns-2
-unfolding readSheet sheetLine sheetFrom readAs then
+unfolding readSheet readSheetAt sheetLine sheetFrom readAs then
 returns-2 c =
     let k = c .before .before .before .before .before .before .before .before .before .before .before .before .before in
     let line = rw (k .before .read2 .given .1) at (k .before .before .before .read-first-line .ensures) in

@@ -10,7 +10,7 @@ use borrow.Author.Needs.{needs}
 use borrow.Author.Tests.{lt-ltb, le-ltb, lt-leb, le-leb, not-true, not-false}
 use Rattle.numerals.specs.Decimal.{number}
 use Rattle.numerals.specs.Text.{split}
-use Rattle.numerals.specs.Limits.{mostBackends, mostServices, mostVolume, unit}
+use Rattle.numerals.specs.Limits.{mostBackends, mostServices, mostVolume, unit, decimals}
 use Rattle.numerals.specs.declared.refusal.Refusal.the-variants.{Unbalanced}
 use Rattle.sheets.specs.Reading.{got, then, same, field, unless, onField}
 use Rattle.sheets.specs.PercentageSheet.{serviceWord, weightFields, sum, serviceFields}
@@ -73,9 +73,9 @@ line :
     → let s = c .before .before .before .before .before .before .before .before .before in
     let fs = fields s in
     let i = s .args .i in
-    serviceFields i fs
+    serviceFields decimals unit i fs
     ≡ onField (number 0 mostVolume (field fs 1)) (i + 2) (λ v.
-    then (weightFields (i + 2) 0 (drop 2 fs)) (λ ws.
+    then (weightFields decimals (i + 2) 0 (drop 2 fs)) (λ ws.
     unless (eqb (sum (ws .weights)) unit) Unbalanced (i + 2)
     (got (record { volume = v; ids = ws .ids; weights = ws .weights }))))
 unfolding serviceFields unless

@@ -6,7 +6,7 @@ use native.Mathlib.Omega.{arith}
 use lib.ListN.{length, take, length-set, length-append}
 use lib.Seq.{slice}
 use borrow.Author.Needs.{needs}
-use Rattle.numerals.specs.Limits.{mostBackends, mostId, unit}
+use Rattle.numerals.specs.Limits.{mostBackends, mostId, unit, decimals}
 use Rattle.numerals.specs.Text.{split}
 use Rattle.numerals.proofs.Fields.{cut-le}
 use Rattle.sheets.specs.PercentageSheet.{Weights, weightFields}
@@ -23,13 +23,15 @@ record Weighing (text : List ℕ) (from to : ℕ) (ids₀ weights₀ : List ℕ)
   size : length (done .weights) ≡ count
   total : sheet.sum (done .weights) ≡ sum
   known : before ≤ mostId
-  small : sum ≤ count * 1000000
+  small : sum ≤ count * unit
   long-ids : length ids ≡ length ids₀
   long : length weights ≡ length weights₀
   ids-row : take (at + count) ids ≡ take at ids₀ ++ done .ids
   row : take (at + count) weights ≡ take at weights₀ ++ done .weights
   few : count + length (fieldsLeft 32 start to text) ≤ mostBackends
-  whole : (line : ℕ) → weightFields line 0 (split 32 (slice from to text)) ≡ joined done (weightFields line before (fieldsLeft 32 start to text))
+  whole :
+      (line : ℕ) → weightFields decimals line 0 (split 32 (slice from to text))
+      ≡ joined done (weightFields decimals line before (fieldsLeft 32 start to text))
 
 abbrev Inv-loop : tie.InvT-loop
 Inv-loop text from to ids₀ weights₀ at start₀ before₀ count₀ sum₀ ids weights start before count sum =
@@ -56,7 +58,7 @@ loop-holds c =
       ids-row = rw z (sym (append-nil _));
       row = rw z (sym (append-nil _));
       few = omega (arith, ap length all);
-      whole = λ line. rw (all, joined-none (weightFields line 0 (split 32 (slice (a .from) (a .to) (a .text .now)))));
+      whole = λ line. rw (all, joined-none (weightFields decimals line 0 (split 32 (slice (a .from) (a .to) (a .text .now)))));
     }
 
 find-requires : tie.Need-find-requires Inv-loop μ-loop

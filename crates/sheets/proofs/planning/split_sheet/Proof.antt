@@ -1,6 +1,8 @@
--- `planning::split_sheet` meets its contract: the plan's table is printed; its buffers are long enough; and demand 3 holds of what is printed.
+-- `planning::split_sheet` meets its contract: the plan's table is printed; its buffers are long enough; demand 3 holds of what is printed, and what is
+-- promised of four-place percentages.
 use mathlib.Core.Path.{refl, sym, _∙_}
 use borrow.Author.Needs.{needs}
+use Rattle.sheets.proofs.FourPlaces.{four-places}
 use Rattle.sheets.proofs.OneCall.{Left, plan-left, plan-refused, sheet-printed}
 use Rattle.sheets.proofs.planning.split_sheet.Statement.{statement}
 use Rattle.sheets.proofs.planning.split_sheet.Tie as tie
@@ -46,7 +48,8 @@ returns c =
 
 returns-2 : tie.Need-returns-2
 returns-2 c =
-    (plan-refused _ _ (sym (c .before .before .before .before .before .plan .ensures .0) ∙ c .before .planned2 .given .1) _, (refl, tt))
+    let answered = plan-refused _ _ (sym (c .before .before .before .before .before .plan .ensures .0) ∙ c .before .planned2 .given .1) _ in
+    (answered, (refl, (tt, four-places _ _ _ _ answered refl)))
 
 pub split-sheet-spec : {M : Type 1} → statement M
 split-sheet-spec =

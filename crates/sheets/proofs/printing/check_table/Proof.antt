@@ -73,7 +73,7 @@ returns-6 c =
     (c .before .before .before .before .if3 .left)
     (omega (arith, c .before .before .if4 .left, c .before .before .before .line-count .ensures))
     (omega (arith, c .before .if5 .left, c .before .before .before .line-count .ensures))
-    (lt-leb (s .args .total) totalLimit (c .if6 .taken))
+    (lt-leb (s .args .total) totalLimit (omega (arith, c .if6 .taken)))
 
 check-lines-requires : tie.Need-check-lines-requires
 check-lines-requires c κs = (c .before .before .before .before .if3 .left, omega (arith, c .before .if5 .left, c .before .before .before .line-count .ensures))
@@ -86,7 +86,7 @@ returns-7 c =
     (c .before .before .before .before .before .if3 .left)
     (omega (arith, c .before .before .before .if4 .left, c .before .before .before .before .line-count .ensures))
     (omega (arith, c .before .before .if5 .left, c .before .before .before .before .line-count .ensures))
-    (c .before .if6 .left) (c .check-lines .result) (c .check-lines .ensures)
+    (omega (arith, c .before .if6 .left)) (c .check-lines .result) (c .check-lines .ensures)
 
 pub check-table-spec : {M : Type 1} → statement M
 check-table-spec =
