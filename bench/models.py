@@ -1,8 +1,8 @@
 """The weight models of the Niagara paper's section 7.1, its traffic volumes, and two plain random draws; weights in parts, of four decimals."""
-from sheets import finest, unit, weights
+from sheets import drawn_decimals, finest, unit, weights
 
 
-def rounded(drawn, decimals=4):
+def rounded(drawn, decimals=drawn_decimals):
     """Drawn weights scaled to a sum of 100 percent, with so many decimals: rounded down, then one more to the largest remainders."""
     part = finest(decimals)
     all_parts = unit // part

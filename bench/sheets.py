@@ -4,6 +4,8 @@ import random
 # The most decimals of a percentage, and 100 percent in the parts that it counts.
 most_decimals = 6
 unit = 100 * 10 ** most_decimals
+# The decimals of a drawn weight, if nothing else is said: as before percentages had six, so that figures of then and now are of the same sheets.
+drawn_decimals = 4
 
 
 def percent(parts):
@@ -17,7 +19,7 @@ def finest(decimals):
     return 10 ** (most_decimals - decimals)
 
 
-def weights(rng, backends, decimals=4):
+def weights(rng, backends, decimals=drawn_decimals):
     """Backends' weights in parts, of at most so many decimals: the gaps between random cuts."""
     part = finest(decimals)
     cuts = sorted(rng.randrange(unit // part + 1) for _ in range(backends - 1))
@@ -35,7 +37,7 @@ def service(volume, ids, parts):
     return "SERVICE %d %s" % (volume, " ".join("%d:%s" % (i, percent(w)) for i, w in zip(ids, parts)))
 
 
-def sheet(services, backends, k, capacity, tolerance="0", seed=1, ids=None, decimals=4):
+def sheet(services, backends, k, capacity, tolerance="0", seed=1, ids=None, decimals=drawn_decimals):
     """Every service has these ids; sparse ones, if none are given. Percentages have at most so many decimals."""
     rng = random.Random(seed)
     ids = ids or [sparse(place) for place in range(1, backends + 1)]

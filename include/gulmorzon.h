@@ -46,7 +46,7 @@ extern "C" {
 #define GULMORZON_ID 9999
 #define GULMORZON_BACKENDS 32
 
-/* 100 percent: the parts that a percentage of six decimals counts, and what the total is counted in; and the largest total. */
+/* 100 percent in the parts that a percentage counts, and the largest total. */
 #define GULMORZON_UNIT 100000000
 #define GULMORZON_TOTAL 262144000000000000
 

@@ -9,7 +9,7 @@ pub enum Reason {
     Malformed = 1,
     /// A field not of its form or limits, or a suffix longer than k.
     BadField = 2,
-    /// Weights don't sum to 1,000,000.
+    /// Weights don't sum to 100 percent.
     Unbalanced = 3,
     /// 65th service, 33rd backend or 33rd rule of a service.
     TooMany = 4,

@@ -4,6 +4,7 @@ use mathlib.Core.Path.{_≡_, refl, ap, _∙_}
 use mathlib.Core.List.{List}
 use native.Mathlib.Omega.{arith}
 use lib.ListN.{length}
+use lib.Seq.{sets}
 use borrow.Author.Tests.{le-leb, leb-true}
 use Rattle.sheets.specs.Reading.{Reading, got, refused, then}
 use Rattle.sheets.specs.PercentageSheet.{Sheet, readSheet, readSheetAt}
@@ -19,7 +20,7 @@ use Rattle.commands.specs.Refused.{refusedText}
 use Rattle.sheets.specs.Calls.{servicesAt, servicesIn, tableWith, tableFor}
 use Rattle.sheets.specs.FourPlaces.{tableAt}
 use Rattle.sheets.proofs.FourPlaces as four
-use Rattle.commands.specs.Split.{splitOf, splitPrints, tablePrints, FourPlaces}
+use Rattle.commands.specs.Split.{splitOf, splitPrints, tablePrints, Printed, FourPlacesPrinted}
 
 sheet-fits : (text : List ℕ) (S : Sheet) → readSheet text ≡ got S → length (sheetText S) ≤ textLimit
 unfolding readTable tableLine firstLine
@@ -67,10 +68,15 @@ module _ (text : List ℕ) where
       go (got S) = refl
       go (refused why line) = refl
 
-  pub printed-four : FourPlaces text (splitPrints text)
+  -- what was printed of four-place percentages
+  pub printed-four :
+      {n : ℕ} {out out′ : List ℕ} → n ≡ length (splitPrints text) → out′ ≡ sets out 0 (splitPrints text) → FourPlacesPrinted text n out out′
   unfolding tablePrints
-  printed-four =
+  printed-four {n} {out} {out′} long holds =
       record {
-        valid = λ t e. as-table ∙ ap tablePrints (four.valid text t e);
-        alike = λ h. as-table ∙ ap tablePrints (four.alike text h);
+        valid = λ t e. print (as-table ∙ ap tablePrints (four.valid text t e));
+        alike = λ h. print (as-table ∙ ap tablePrints (four.alike text h));
       }
+    where
+      print : {bytes : List ℕ} → splitPrints text ≡ bytes → Printed bytes n out out′
+      print e = (long ∙ ap length e, holds ∙ ap (sets out 0) e)

@@ -3,11 +3,13 @@ use Prim.Native.Nat.{ℕ}
 use mathlib.Core.Bool.{true}
 use mathlib.Core.List.{List}
 use mathlib.Core.Path.{_≡_}
+use lib.ListN.{length}
+use lib.Seq.{sets}
 use Rattle.sheets.specs.Reading.{Reading, got, refused, then}
 use Rattle.sheets.specs.PercentageSheet.{Sheet, readSheet}
 use Rattle.sheets.specs.RuleSheet.{Table, tableText}
 use Rattle.sheets.specs.Calls.{refusedAt, sheetText}
-use Rattle.sheets.specs.FourPlaces.{formerDecimals, formerUnit, tableAt, hundredfold, fewInSheet}
+use Rattle.sheets.specs.FourPlaces.{formerDecimals, formerTable, hundredfold, fewInSheet}
 use Rattle.commands.specs.Refused.{refusedText}
 
 unfoldable pub splitOf : Reading Sheet → List ℕ
@@ -22,9 +24,13 @@ unfoldable pub tablePrints : Reading Table → List ℕ
 tablePrints (got t) = tableText t
 tablePrints (refused why line) = refusedText (refusedAt why line)
 
--- what is printed of four-place percentages: the lines of document 01 and a hundred times its total, or its refusal
-pub record FourPlaces (text printed : List ℕ) : Type 0 where
-  -- of what document 01 accepts
-  pub valid : (t : Table) → tableAt formerDecimals formerUnit text ≡ got t → printed ≡ tableText (hundredfold t)
+-- these bytes were printed, from the start of the buffer on
+abbrev pub Printed : List ℕ → ℕ → List ℕ → List ℕ → Type 0
+Printed bytes n out out′ = (n ≡ length bytes) × (out′ ≡ sets out 0 bytes)
+
+-- what is printed of four-place percentages: the lines and a hundred times the total of the table at document 01's decimals and unit, or its refusal
+pub record FourPlacesPrinted (text : List ℕ) (n : ℕ) (out out′ : List ℕ) : Type 0 where
+  -- of what is accepted there
+  pub valid : (t : Table) → formerTable text ≡ got t → Printed (tableText (hundredfold t)) n out out′
   -- of every sheet in which no percentage has more than four decimals
-  pub alike : fewInSheet formerDecimals text ≡ true → printed ≡ tablePrints (then (tableAt formerDecimals formerUnit text) (λ t. got (hundredfold t)))
+  pub alike : fewInSheet formerDecimals text ≡ true → Printed (tablePrints (then (formerTable text) (λ t. got (hundredfold t)))) n out out′

@@ -1,5 +1,5 @@
--- Worked cases of the expansion: P1 to P6 of document 01 ("Figures to try") in the unit of document 02, Req 07, figure 3(b) of the paper, and P1's ledger after
--- each rule (document 02, request 02).
+-- Worked cases of the expansion: P1 to P6 of document 01 ("Figures to try") in the unit of document 02, Req 07, figure 3(b) of the paper, and P1's ledger
+-- after each rule (document 02, request 02).
 use Prim.Native.Nat.{ℕ, suc, _-_}
 use mathlib.Core.List.{List, [], _∷_}
 use mathlib.Core.Path.{_≡_}

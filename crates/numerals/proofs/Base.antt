@@ -15,7 +15,7 @@ use borrow.Author.Tests.{le-leb, lt-leb, lt-ltb, le-ltb, leb-true, ltb-true}
 use Rattle.numerals.proofs.Choice.{both-left, both-right, both-false}
 use Rattle.numerals.proofs.Lists.{sets-snoc}
 use Rattle.numerals.specs.Pick.{pick, both}
-use Rattle.numerals.specs.Digits.{isDigit, allDigits, valueFrom, value, lowest}
+use Rattle.numerals.specs.Digits.{isDigit, allDigits, valueFrom, value, lowest, onValue}
 use Rattle.numerals.specs.Inner.Digits.{readDigits}
 use Rattle.numerals.specs.declared.digits.Number.{Number}
 use Rattle.numerals.specs.declared.digits.Number.the-variants.{Value, Bad}
@@ -24,6 +24,15 @@ use Rattle.numerals.specs.declared.digits.Number.the-variants.{Value, Ba
 pub picked : (t : Bool) (x v : ℕ) → pick t (Value x) Bad ≡ Value v → (t ≡ true) × (x ≡ v)
 picked true x v h = (refl, cc)
 picked false x v h = (cc, cc)
+
+-- what was read of a number, and of what follows it
+pub not-value : {P : Type 0} (v : ℕ) → Bad ≡ Value v → P
+not-value v h = absurd (let z : _≡_ {A = ℕ} 0 1 = cc in omega arith)
+
+pub on-value : (n : Number) (f : ℕ → Number) (v : ℕ) → onValue n f ≡ Value v → (u : ℕ) × (n ≡ Value u) × (f u ≡ Value v)
+unfolding onValue
+on-value (Value u) f v h = (u, refl, h)
+on-value Bad f v h = not-value v h
 
 -- what digits are read as, once v was read before them
 unfoldable pub readFrom : ℕ → ℕ → ℕ → List ℕ → Number

@@ -1,4 +1,5 @@
--- More decimals (document 02, Req 07): where j more may be written, a percentage that has no more than before stands for 10 ^ j times as many parts.
+-- More decimals (document 02, Req 07): where j more may be written, a percentage that has no more than before stands for 10 ^ j times as many parts. And
+-- what is read has no more decimals than it may have.
 use Prim.Native.Nat.{ℕ, _+_, _-_, _*_, _^_, _≤_, _<_}
 use native.Mathlib.Nat.{one-le-pow, mul-assoc, mul-comm, mul-add}
 use native.Mathlib.Omega.{arith}
@@ -16,6 +17,8 @@ use Rattle.numerals.specs.Text.{split}
 use Rattle.numerals.specs.Percentage.{fraction, atMostAll, percentOf, percentage, fewDecimals}
 use Rattle.numerals.specs.declared.digits.Number.{Number}
 use Rattle.numerals.specs.declared.digits.Number.the-variants.{Value, Bad}
+use Rattle.numerals.proofs.Base.{picked, not-value, on-value}
+use Rattle.numerals.proofs.Choice.{both-left, both-right}
 use Rattle.numerals.proofs.Scaled.{leb-scaled}
 
 -- what was read, m times as large
@@ -73,3 +76,26 @@ module _ (d j : ℕ) where
   pub percent-scaled : (bs : List ℕ) → fewDecimals d bs ≡ true → percentage (d + j) bs ≡ scaledNumber (10 ^ j) (percentage d bs)
   unfolding percentage fewDecimals
   percent-scaled bs h = parts-scaled (split 46 bs) (leb-true _ d h)
+
+-- what is read with up to d decimals has no more
+module _ (d : ℕ) where
+  fraction-few : (u : ℕ) (bs : List ℕ) → fraction d bs ≡ Value u → leb (length bs) d ≡ true
+  unfolding fraction
+  fraction-few u bs h =
+      let n : ℕ = length bs in
+      let p = picked (both (ltb 0 n) (both (leb n d) (allDigits 10 bs))) (value 10 bs * 10 ^ (d - n)) u h in
+      both-left (leb n d) (allDigits 10 bs) (both-right (ltb 0 n) (both (leb n d) (allDigits 10 bs)) (p .0))
+
+  parts-few : (v : ℕ) (ps : List (List ℕ)) → percentOf d ps ≡ Value v → leb (length (getD ps 1 [])) d ≡ true
+  unfolding percentOf
+  parts-few v [] h = le-leb 0 d (omega arith)
+  parts-few v (w ∷ []) h = le-leb 0 d (omega arith)
+  parts-few v (w ∷ f ∷ []) h =
+      let n = on-value _ _ v h in
+      let u = on-value _ _ v (n .2) in
+      fraction-few (u .0) f (u .1)
+  parts-few v (w ∷ f ∷ g ∷ gs) h = not-value v h
+
+  pub percent-few : (v : ℕ) (bs : List ℕ) → percentage d bs ≡ Value v → fewDecimals d bs ≡ true
+  unfolding percentage fewDecimals
+  percent-few v bs h = parts-few v (split 46 bs) h

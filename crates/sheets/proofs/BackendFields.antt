@@ -18,23 +18,13 @@ use Rattle.numerals.specs.Refusals.{no2}
 use Rattle.numerals.specs.Text.{onto, split, indexOf}
 use Rattle.numerals.specs.declared.digits.Number.{Number}
 use Rattle.numerals.specs.declared.digits.Number.the-variants.{Value, Bad}
-use Rattle.numerals.proofs.Base.{digit-high, picked}
+use Rattle.numerals.proofs.Base.{digit-high, picked, not-value, on-value}
 use Rattle.numerals.proofs.Choice.{by-less, both-left, both-right}
 use Rattle.numerals.proofs.Decimal.{only-text}
 use Rattle.numerals.proofs.Fields.{Free, split-here, split-later, split-some, free-whole, cut, cut-last}
 use Rattle.sheets.specs.Reading.{got, refused, then, unless, onField}
 use Rattle.sheets.specs.PercentageSheet.{backendBefore, weightFields}
 use Rattle.sheets.specs.Inner.SheetReader.{Named}
-
--- what was read of a percentage: its whole part, then its fraction
-
-pub not-value : {P : Type 0} (v : ℕ) → Bad ≡ Value v → P
-not-value v h = absurd (let z : _≡_ {A = ℕ} 0 1 = cc in omega arith)
-
-pub on-value : (n : Number) (f : ℕ → Number) (v : ℕ) → onValue n f ≡ Value v → (u : ℕ) × (n ≡ Value u) × (f u ≡ Value v)
-unfolding onValue
-on-value (Value u) f v h = (u, refl, h)
-on-value Bad f v h = not-value v h
 
 -- a percentage is at most 100
 

@@ -15,7 +15,7 @@ use Rattle.sheets.specs.Reading.{Reading, got, refused, then}
 use Rattle.sheets.specs.PercentageSheet.{Sheet, readSheetAt, readSheet}
 use Rattle.sheets.specs.RuleSheet.{Table, tableText}
 use Rattle.sheets.specs.Calls.{servicesAt, servicesIn, tableWith, tableFor, sheetText, printRead, afterwards, isValue, valuesOf}
-use Rattle.sheets.specs.FourPlaces.{formerDecimals, formerUnit, tableAt, hundredfold, fewInSheet, FourPlaces}
+use Rattle.sheets.specs.FourPlaces.{formerDecimals, formerUnit, tableAt, formerTable, hundredfold, fewInSheet, FourPlaces}
 use Rattle.sheets.specs.declared.answer.Answer.{Answer}
 use Rattle.sheets.proofs.FewDecimals.{sheet-few}
 use Rattle.sheets.proofs.Readings.{then-got}
@@ -50,12 +50,11 @@ module _ (d j all : ℕ) where
 
 -- document 01's decimals and unit
 module _ (text : List ℕ) where
-  pub alike :
-      fewInSheet formerDecimals text ≡ true → tableAt decimals unit text ≡ then (tableAt formerDecimals formerUnit text) (λ t. got (hundredfold t))
+  pub alike : fewInSheet formerDecimals text ≡ true → tableAt decimals unit text ≡ then (formerTable text) (λ t. got (hundredfold t))
   unfolding unit
   alike h = tables-scaled formerDecimals 2 formerUnit text h
 
-  pub valid : (t : Table) → tableAt formerDecimals formerUnit text ≡ got t → tableAt decimals unit text ≡ got (hundredfold t)
+  pub valid : (t : Table) → formerTable text ≡ got t → tableAt decimals unit text ≡ got (hundredfold t)
   unfolding tableAt then
   valid t e =
       let s = then-got _ _ e in

@@ -13,6 +13,8 @@ use Rattle.numerals.specs.Limits.{mostBits, mostBackends, mostId, mostServices,
 use Rattle.numerals.specs.Percentage.{percentage, fewDecimals}
 use Rattle.numerals.specs.Refusals.{no1, no2, no3, no4, no5, no6, no11}
 use Rattle.numerals.specs.Text.{split}
+use Rattle.numerals.specs.declared.digits.Number.{Number}
+use Rattle.numerals.specs.declared.digits.Number.the-variants.{Value, Bad}
 use Rattle.numerals.proofs.Choice.{both-left, both-right}
 use Rattle.numerals.proofs.MoreDecimals.{scaledNumber, percent-scaled}
 use Rattle.numerals.proofs.Scaled.{eqb-scaled}
@@ -22,7 +24,7 @@ use Rattle.sheets.specs.PercentageSheet.{Sheet, Service, Weights, backen
 use Rattle.sheets.specs.PercentageSheet.{volumesOf, idsOf, weightsOf, whole, sheetLine, readSheetAt}
 use Rattle.sheets.specs.FourPlaces.{fewInFields, fewInServices, fewInLines, fewInSheet}
 use Rattle.sheets.proofs.OpeningLine.{opened}
-use Rattle.sheets.proofs.ThenLaws.{unless-under, field-under, then-under, then-changed, field-scaled}
+use Rattle.sheets.proofs.ThenLaws.{unless-under, field-under, then-under, then-changed}
 
 -- weights in parts that are m times as small
 module _ (m : ℕ) where
@@ -73,6 +75,12 @@ module _ (m : ℕ) where
   whole-scaled k tolerance capacity ss =
       rw (length-map ss (λ s. scaledService s), volumes-kept ss, ids-kept ss, weights-kept ss)
       (unless-under _ _ no5 1 _ _ (unless-under _ _ no6 1 _ _ refl))
+
+-- a number that was read m times as large
+field-scaled : {A : Type 0} (m : ℕ) (n : Number) (line : ℕ) (f : ℕ → Reading A) → onField (scaledNumber m n) line f ≡ onField n line (λ v. f (m * v))
+unfolding onField
+field-scaled m (Value v) line f = refl
+field-scaled m Bad line f = refl
 
 module _ (d j all : ℕ) where
   abbrev m : ℕ

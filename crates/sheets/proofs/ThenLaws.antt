@@ -1,11 +1,10 @@
 -- What follows a reading, taken into each of its steps.
-use Prim.Native.Nat.{ℕ, _*_}
+use Prim.Native.Nat.{ℕ}
 use mathlib.Core.Path.{_≡_, refl, ap}
 use mathlib.Core.Bool.{Bool, true, false}
 use Rattle.numerals.specs.declared.digits.Number.{Number}
 use Rattle.numerals.specs.declared.digits.Number.the-variants.{Value, Bad}
 use Rattle.numerals.specs.declared.refusal.Refusal.{Refusal}
-use Rattle.numerals.proofs.MoreDecimals.{scaledNumber}
 use Rattle.sheets.specs.Reading.{Reading, got, refused, then, unless, onField}
 
 -- two readings of the same steps, of which one is followed by g: they are the same if what the last step leaves is
@@ -32,8 +31,3 @@ pub then-changed : {A B C : Type 0} (change : A → B) (r : Reading A) (f : B �
 unfolding then
 then-changed change (got a) f = refl
 then-changed change (refused why line) f = refl
-
-pub field-scaled : {A : Type 0} (m : ℕ) (n : Number) (line : ℕ) (f : ℕ → Reading A) → onField (scaledNumber m n) line f ≡ onField n line (λ v. f (m * v))
-unfolding onField
-field-scaled m (Value v) line f = refl
-field-scaled m Bad line f = refl

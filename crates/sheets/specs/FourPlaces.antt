@@ -26,6 +26,10 @@ formerUnit = 1000000
 unfoldable pub tableAt : ℕ → ℕ → List ℕ → Reading Table
 tableAt d all text = then (readSheetAt d all text) (λ S. got (tableWith (servicesAt all S) S))
 
+-- that at document 01's decimals and unit
+abbrev pub formerTable : List ℕ → Reading Table
+formerTable text = tableAt formerDecimals formerUnit text
+
 -- the same lines, and a hundred times the total
 abbrev pub hundredfold : Table → Table
 hundredfold t = record { k = t .k; total = 100 * t .total; lines = t .lines }
@@ -50,11 +54,10 @@ fewInSheet d text = fewInLines d (split 10 text)
 
 -- what is promised of a text and of what the call that prints answers and leaves in the lent buffer
 pub record FourPlaces (text : List ℕ) (r : Answer) (out out′ : List ℕ) : Type 0 where
-  -- what document 01 accepts remains valid, with the same lines and a hundred times the total
-  pub valid : (t : Table) → tableAt formerDecimals formerUnit text ≡ got t → tableAt decimals unit text ≡ got (hundredfold t)
-  -- so it is for every sheet in which no percentage has more than four decimals; and one that document 01 refuses has the same refusal
-  pub alike :
-      fewInSheet formerDecimals text ≡ true → tableAt decimals unit text ≡ then (tableAt formerDecimals formerUnit text) (λ t. got (hundredfold t))
+  -- what is accepted at document 01's decimals and unit remains valid, with the same lines and a hundred times the total
+  pub valid : (t : Table) → formerTable text ≡ got t → tableAt decimals unit text ≡ got (hundredfold t)
+  -- so it is for every sheet in which no percentage has more than four decimals; and one that is refused there has the same refusal, number and line
+  pub alike : fewInSheet formerDecimals text ≡ true → tableAt decimals unit text ≡ then (formerTable text) (λ t. got (hundredfold t))
   -- and what is printed is this table
   pub answer : r ≡ printRead (tableAt decimals unit text) tableText (length out)
   pub buffer : out′ ≡ afterwards (isValue r) out (valuesOf (tableAt decimals unit text) tableText)

@@ -16,7 +16,7 @@ use Rattle.sheets.specs.Reading.{Reading, got, refused, onField}
 use Rattle.sheets.specs.RuleSheet.{onSuffix}
 use Rattle.sheets.specs.PercentageSheet.{Sheet, readSheet}
 use Rattle.sheets.specs.Calls.{servicesIn, sheetText}
-use Rattle.sheets.specs.FourPlaces.{formerDecimals, formerUnit, tableAt}
+use Rattle.sheets.specs.FourPlaces.{formerTable}
 use Rattle.sheets.specs.Cases.{bytes}
 
 -- a list of rules with its end and stairs; such a list and what excess and shortfall it leaves; a percentage sheet, the grants of its services and
@@ -73,8 +73,8 @@ sixDecimals =
     ∷ reads "100.000001" (refused no2 1)
     ∷ []
 
--- P7 in document 01's own unit: four decimals, and weights that sum to 1,000,000
+-- P7 at document 01's decimals and unit
 pub record Formerly : Type 0 where
   pub sample :
-      tableAt formerDecimals formerUnit (bytes "SHEET 5 2 5\nSERVICE 55 1:16.6667 2:33.3333 3:50\nSERVICE 45 1:25 2:25 3:50\n")
+      formerTable (bytes "SHEET 5 2 5\nSERVICE 55 1:16.6667 2:33.3333 3:50\nSERVICE 45 1:25 2:25 3:50\n")
       ≡ got (record { k = 5; total = 293333920; lines = p7Lines })

@@ -32,7 +32,8 @@ pub record Named (before : ℕ) (f : List ℕ) (id w : ℕ) : Type 0 where
   pub known : id ≤ mostId
   pub small : w ≤ unit
   pub next :
-      (line : ℕ) (fs : List (List ℕ)) → weightFields decimals line before (f ∷ fs) ≡ then (weightFields decimals line id fs) (λ ws. got (backendBefore id w ws))
+      (line : ℕ) (fs : List (List ℕ)) → weightFields decimals line before (f ∷ fs)
+      ≡ then (weightFields decimals line id fs) (λ ws. got (backendBefore id w ws))
 
 abbrev pub BackendOf : backend-read.BackendRead → ℕ → List ℕ → Type 0
 BackendOf (backend-variants.Backend id w) before f = Named before f id w

@@ -39,7 +39,8 @@ returns c =
     let is = c .before .printed .given .1 in
     let e = s .split-sheet .ensures in
     let end = ended _ _ (sym is ∙ answered s) in
-    (end .0, ((rw is at (e .1 .0)) ∙ ap (sets _ 0) (end .1), ((λ S h. rw is at (e .1 .1 .0)), printed-four _)))
+    let written = (rw is at (e .1 .0)) ∙ ap (sets _ 0) (end .1) in
+    (end .0, (written, ((λ S h. rw is at (e .1 .1 .0)), printed-four _ (end .0) written)))
 
 returns-2 : tie.Need-returns-2
 returns-2 c =
@@ -48,7 +49,9 @@ returns-2 c =
     let e = s .split-sheet .ensures in
     let not = not-printed _ _ (sym is ∙ answered s) in
     let w = whole (c .put-refused .ensures) in
-    (rw (not .0) (w .0), (rw (not .0) (w .1 ∙ rw (rw is at (e .1 .0))), ((λ S h. absurd (not .1 S h)), printed-four _)))
+    let long = w .0 ∙ ap length (sym (not .0)) in
+    let written = w .1 ∙ rw (rw is at (e .1 .0), ← not .0) in
+    (long, (written, ((λ S h. absurd (not .1 S h)), printed-four _ long written)))
 
 pub split-spec : {M : Type 1} → statement M
 split-spec =
