@@ -48,10 +48,13 @@ returns-2 c =
     let is = c .before .before .before .printed2 .given .1 in
     let e = s .split-sheet .ensures in
     let not = not-printed _ _ (sym is ∙ answered s) in
-    let w = whole (c .put-refused .ensures) in
-    let long = w .0 ∙ ap length (sym (not .0)) in
-    let written = w .1 ∙ rw (rw is at (e .1 .0), ← not .0) in
-    (long, (written, ((λ S h. absurd (not .1 S h)), printed-four _ long written)))
+    let w = whole (c .put-refused .ensures) in (
+      rw (not .0) (w .0),
+      (
+        rw (not .0) (w .1 ∙ rw (rw is at (e .1 .0))),
+        ((λ S h. absurd (not .1 S h)), printed-four _ (rw (not .0) (w .0)) (rw (not .0) (w .1 ∙ rw (rw is at (e .1 .0))))),
+      ),
+    )
 
 pub split-spec : {M : Type 1} → statement M
 split-spec =
