@@ -15,8 +15,7 @@
  *
  * Texts are bytes with a length; a zero byte does not end them. Lengths of figures, table, rules and places are counted in
  * numbers. In every call a service has the number that is printed for it, from 1 to GULMORZON_SERVICES, and a backend its id,
- * as the sheets have it, from 1 to GULMORZON_ID. Of a service's rules the first that matches decides, in the order in which they
- * stand; two of them may have one suffix, so its length is no priority.
+ * as the sheets have it, from 1 to GULMORZON_ID.
  */
 #ifndef GULMORZON_H
 #define GULMORZON_H
@@ -51,7 +50,8 @@ extern "C" {
 #define GULMORZON_UNIT 100000000
 #define GULMORZON_TOTAL 262144000000000000
 
-/* An answer's number: 0, or why the call was refused (docs/FORMATS.md, "Refusals"). */
+/* An answer's number: 0, or why the call was refused (document 01, "Turned-back work"; 13 and 14 are document 02's, Req
+ * 03 and 06). */
 enum gulmorzon_number {
     GULMORZON_ANSWERED = 0,
     GULMORZON_MALFORMED = 1,       /* LF missing, keyword wrong, or too few or too many fields */

@@ -3,7 +3,7 @@ use Prim.Native.Nat.{ℕ, zero, suc, ◌+◌, ◌-◌, ◌*◌, ◌/◌, ◌%◌
 use mathlib.Core.Path.{◌≡◌, refl, sym, ap, ◌∙◌}
 use mathlib.Core.Bool.{true}
 use mathlib.Core.List.{List, [], ◌∷◌, ◌++◌, append_assoc, append-nil}
-use native.Mathlib.Nat.{add-zero, suc-add, add-sub_of_le, mul_comm, mul_assoc, zero-mul, mul-pos, pow-suc, mod-lt, div-add-mod'}
+use native.Mathlib.Nat.{le_refl, mul-le-mul, add-zero, suc-add, add-sub_of_le, mul_comm, mul_assoc, zero-mul, mul-pos, pow-suc, mod-lt, div-add-mod'}
 use native.Mathlib.Nat.{div-lt_iff_lt-mul, mul-div-mul_right, mul-div_cancel, mul-mod_left, eq_of_mul-eq-mul_right}
 use native.Mathlib.Omega.{arith}
 use lib.Arith.{mod-mul}
@@ -16,6 +16,7 @@ use Rattle.numerals.proofs.Choice.{by_less}
 use Rattle.numerals.proofs.Base.{digit}
 use Rattle.numerals.proofs.Decimal.{first-digit, all-decimal, value-decimal}
 use Rattle.commands.specs.Dyadic.{decimals_of, dotted, dyadic_text, DecimalOf}
+use Rattle.commands.proofs.Texts.{digits-most}
 
 -- at remainder 0 the digits end
 pub decimals-none : (j : ℕ) → decimals_of j 0 ≡ []
@@ -60,6 +61,12 @@ module _ {j all left : ℕ} (l : Left j all left) where
 
   pub next-decimal : decimals_of j left ≡ (48 + left * 5 / (all / 2)) ∷ decimals_of (j - 1) (left * 5 % (all / 2))
   next-decimal = ap (λ (i : ℕ). decimals_of i left) one_more ∙ decimals-more (j - 1) left l.some ∙ rw (half, mul_comm left 5)
+
+decimals-short : (j r : ℕ) → length (decimals_of j r) ≤ j
+unfolding decimals_of
+decimals-short zero r = omega arith
+decimals-short (suc j) zero = omega arith
+decimals-short (suc j) (suc r) = rw (decimals-more j (suc r) (omega arith)) (omega (arith, decimals-short j (5 * suc r % 2 ^ j)))
 
 -- so long as something is left, there is a digit
 decimals-some : (j r : ℕ) → r < 2 ^ j → decimals_of j r ≡ [] → r ≡ 0
@@ -205,3 +212,22 @@ dyadic-exact n j =
           ∙ value_after j q r few
           ∙ ap (λ (x : ℕ). x * 10 ^ length ps) (div-add-mod' n (2 ^ j));
     }
+
+dotted-short : (ps : List ℕ) → length (dotted ps) ≤ suc (length ps)
+unfolding dotted
+dotted-short [] = omega arith
+dotted-short (d ∷ ds) = omega arith
+
+pub dyadic-short : (n j : ℕ) → n < 18446744073709551616 → length (dyadic_text n j) ≤ 21 + j
+unfolding dyadic_text
+dyadic-short n j h =
+    let q = n / 2 ^ j in
+    let ps = decimals_of j (n % 2 ^ j) in
+    let few : q < 18446744073709551616 = omega (arith, mul-le-mul (le_refl q) (pow_pos j), div-add-mod' n (2 ^ j)) in
+    omega (
+      arith,
+      length-append (decimal q) (dotted ps),
+      digits-most q few,
+      dotted-short ps,
+      decimals-short j (n % 2 ^ j),
+    )

@@ -1,11 +1,12 @@
 -- The text of a gauge: times 2^12 a gauge is a whole number, whose decimal over 2^12 is that of the gauge, exactly.
-use Prim.Native.Nat.{ℕ, suc, ◌+◌, ◌-◌, ◌*◌, ◌^◌, ◌≤◌}
+use Prim.Native.Nat.{ℕ, suc, ◌+◌, ◌-◌, ◌*◌, ◌^◌, ◌≤◌, ◌<◌}
 use mathlib.Core.Path.{◌≡◌, refl, sym, ap, ◌∙◌, subst}
 use mathlib.Core.Bool.{true, false}
 use mathlib.Core.List.{List}
 use native.Mathlib.Nat.{zero-lt-suc, mul_assoc, mul-one, mul-le-mul, mul-pos, div-one}
 use native.Mathlib.Omega.{arith}
 use lib.Dec.{T}
+use lib.ListN.{length}
 use lib.IntN.{pos, negsuc}
 use lib.Pow.{pow-add, pow_pos}
 use lib.Ieee.{Float, nan, inf, fin, binary64, of_int, mul, in_unsigned, to_unsigned}
@@ -23,10 +24,10 @@ use Rattle.gauges.specs.declared.answer.GaugesAnswer.TheVariants.{Made}
 use Rattle.gauges.proofs.Fractions.{dyadic-value}
 use Rattle.gauges.proofs.Operations.{whole-value, whole_in, mul-values}
 use Rattle.gauges.proofs.Answers.{held-most, load-most, whole}
-use Rattle.commands.specs.Inner.Gauge.{IsGauge}
+use Rattle.commands.specs.Inner.Gauge.{IsGauge, gauge_room}
 use Rattle.commands.specs.Dyadic.{dyadic_text, DecimalOf}
 use Rattle.commands.specs.Gauge.{float_text}
-use Rattle.commands.proofs.Decimals.{dyadic-same, dyadic-whole, dyadic-exact}
+use Rattle.commands.proofs.Decimals.{dyadic-same, dyadic-whole, dyadic-exact, dyadic-short}
 
 -- ---- the text of a gauge
 
@@ -104,3 +105,6 @@ gauge-line n k few bits = text-by (dyadic n k) n k (dyadic-value n k (omega arit
 
 pub gauge-exact : (n k : ℕ) → n ≤ most_volume * most_suffixes → k ≤ most_bits → DecimalOf (float_text (dyadic n k)) n k
 gauge-exact n k few bits = rw (gauge-line n k few bits) (dyadic-exact n k)
+
+pub gauge-short : (n k : ℕ) → n ≤ most_volume * most_suffixes → k ≤ most_bits → length (float_text (dyadic n k)) < gauge_room
+gauge-short n k few bits = rw (gauge-line n k few bits) (omega (arith, dyadic-short n k (omega arith)))

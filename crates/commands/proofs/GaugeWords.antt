@@ -1,29 +1,28 @@
 -- The words of gauge: numbers above their limits are answered as one more than the limit, and what is printed is exact.
 use Prim.Native.Nat.{ℕ, ◌+◌, ◌*◌, ◌≤◌, ◌<◌, min}
-use mathlib.Core.Path.{◌≡◌, refl, sym, ap, ◌∙◌}
-use mathlib.Core.Bool.{true, false}
+use mathlib.Core.Path.{◌≡◌, sym, ap, ◌∙◌}
+use mathlib.Core.Bool.{false}
 use mathlib.Core.List.{List, [], ◌∷◌, ◌++◌}
 use native.Mathlib.Omega.{arith}
-use lib.ListN.{length}
+use lib.ListN.{length, take, length-append}
 use Rattle.numerals.specs.Limits.{most_id, most_services, most_suffixes, most_volume}
 use Rattle.numerals.specs.declared.digits.Number.TheVariants.{Value, Bad}
-use Rattle.sheets.specs.Reading.{got}
-use Rattle.sheets.specs.RuleSheet.{Table, read_table}
-use Rattle.sheets.specs.Calls.{has_service}
+use Rattle.sheets.proofs.OneCall.{take-sets}
 use Rattle.sheets.proofs.OrderedLines.{read-proper}
 use Rattle.sheets.proofs.TableChecks.{above_most}
 use Rattle.gauges.specs.Binary64.{dyadic}
 use Rattle.gauges.specs.Gauges.{held, gauges_of, in_range, gauges_in, gauges_answer}
 use Rattle.gauges.proofs.Answers.{over-volume, no-id, held-most, load-most}
-use Rattle.commands.specs.Said.{prints, no_number, on_number, outcome, filled, Fits}
+use Rattle.commands.specs.Said.{prints, no_number, on_number, outcome, filled}
 use Rattle.commands.specs.declared.answer.Outcome.{Outcome}
+use Rattle.commands.specs.declared.answer.Outcome.TheVariants.{Answer, NoNumber}
 use Rattle.commands.specs.Numeral.{numeral}
+use Rattle.commands.specs.Inner.Gauge.{gauge_room}
 use Rattle.commands.specs.Inner.Numeral.{capped}
-use Rattle.commands.specs.Gauge.{float_text, gauges_text, gauge_says, ExactLine, PrintsExactly}
+use Rattle.commands.specs.Gauge.{float_text, gauges_text, gauge_says, PrintsExactly}
 use Rattle.commands.proofs.Numerals.{capped-value, capped-bad, capped_same}
 use Rattle.commands.proofs.Services.{gauges-capped}
-use Rattle.commands.proofs.GaugeTexts.{gauge-exact}
-use Rattle.commands.proofs.Texts.{Told, printed}
+use Rattle.commands.proofs.GaugeTexts.{gauge-exact, gauge-short}
 
 -- ---- numbers above their limits are answered as one more than the limit
 
@@ -87,37 +86,57 @@ module _ (table service volume backend : List ℕ) where
 
 -- ---- what is printed is exact
 
-module _ (table service volume backend : List ℕ) where
-  line : (t : Table) (n v b : ℕ) → read_table table ≡ got t → numeral service ≡ Value n → numeral volume ≡ Value v → numeral backend ≡ Value b
-      → has_service t n ≡ true → in_range v b ≡ true → (bs : List ℕ) × (gauge_says table service volume backend ≡ prints bs) × ExactLine t n v b bs
+answer-same : {m n : ℕ} → Answer m ≡ Answer n → m ≡ n
+answer-same e = cc
+
+module _ (table service volume backend out : List ℕ) where
+  line-exact :
+      2 * gauge_room ≤ length out → (r : Outcome) (after : List ℕ) → r ≡ outcome (gauge_says table service volume backend)
+      → after ≡ filled (gauge_says table service volume backend) out → PrintsExactly table service volume backend r after
   unfolding gauge_says on_number gauges_answer gauges_in gauges_text gauges_of
-  line t n v b is s u w has i =
+  line-exact room r after answers fills t n v b end is s u w has i e =
       let bits = (read-proper table t is).few_bits in
       let few = held-most table t is n b in
       let most = load-most table t is n v b i in
       let least : held t n b ≤ most_volume * most_suffixes = omega (arith, few) in
       let share = float_text (dyadic (held t n b) t.k) in
-      let load = float_text (dyadic (v * held t n b) t.k) in (
-        (share ++ 32 ∷ []) ++ (load ++ 10 ∷ []),
-        rw (s, u, w, is, has, i),
-        record {
-          share = share;
-          load = load;
-          is = refl;
-          share_exact = gauge-exact (held t n b) t.k least bits;
-          load_exact = gauge-exact (v * held t n b) t.k most bits;
-        },
+      let load = float_text (dyadic (v * held t n b) t.k) in
+      let line = (share ++ 32 ∷ []) ++ (load ++ 10 ∷ []) in
+      let said : gauge_says table service volume backend ≡ prints line = rw (s, u, w, is, has, i) in
+      let ends : end ≡ length line = answer-same (sym e ∙ answers ∙ ap outcome said) in
+      let fits : length line ≤ length out =
+      omega (
+        arith,
+        room,
+        length-append (share ++ 32 ∷ []) (load ++ 10 ∷ []),
+        length-append share (32 ∷ []),
+        length-append load (10 ∷ []),
+        gauge-short (held t n b) t.k least bits,
+        gauge-short (v * held t n b) t.k most bits,
       )
+      in
+      record {
+        share = share;
+        load = load;
+        is = ap (λ (m : ℕ). take m after) ends ∙ ap (take (length line)) (fills ∙ ap (λ x. filled x out) said) ∙ take-sets out line fits;
+        share_exact = gauge-exact (held t n b) t.k least bits;
+        load_exact = gauge-exact (v * held t n b) t.k most bits;
+      }
 
-  exact : (out : List ℕ) {after : List ℕ} {r : Outcome} → Told (gauge_says table service volume backend) out r after
-      → PrintsExactly table service volume backend r after
-  exact out told t n v b is s u w has i =
-      let l = line t n v b is s u w has i in
-      printed (ExactLine t n v b) (gauge_says table service volume backend) out told l.0 l.1 l.2
+  -- beside the answer and the buffer
+  abbrev Said-exactly : Outcome → List ℕ → Type 0
+  Said-exactly r after =
+      (r ≡ outcome (gauge_says table service volume backend))
+      × ((after ≡ filled (gauge_says table service volume backend) out) × (PrintsExactly table service volume backend r after))
 
-  -- between the buffer and its room
-  pub exactly : (out : List ℕ) {after : List ℕ} {r : Outcome} → Told (gauge_says table service volume backend) out r after
-      → (r ≡ outcome (gauge_says table service volume backend))
-      × ((after ≡ filled (gauge_says table service volume backend) out)
-      × (PrintsExactly table service volume backend r after × Fits (gauge_says table service volume backend) (length out)))
-  exactly out told = (told.0, (told.1.0, (exact out told, told.1.1)))
+  pub said-exactly :
+      2 * gauge_room ≤ length out → (r : Outcome) (after : List ℕ)
+      → (r ≡ outcome (gauge_says table service volume backend)) × (after ≡ filled (gauge_says table service volume backend) out) → Said-exactly r after
+  said-exactly room r after p = (p.0, (p.1, line-exact room r after p.0 p.1))
+
+  -- nothing was printed
+  pub none-exactly :
+      (place : ℕ) (after : List ℕ)
+      → (NoNumber place ≡ outcome (gauge_says table service volume backend)) × (after ≡ filled (gauge_says table service volume backend) out)
+      → Said-exactly (NoNumber place) after
+  none-exactly place after p = (p.0, (p.1, λ t n v b end is s u w has i e. absurd (let z : ◌≡◌ {A = ℕ} 0 1 = cc in omega arith)))

@@ -12,9 +12,9 @@ pub mod Lookups
 pub mod Churns
 pub mod UpdateLines
 pub mod Updates
-pub mod UpdatePrints
 pub mod StageRows
 pub mod StageWords
 pub mod StageRooms
-pub mod StagePrints
 pub mod Refusals
+pub mod Cases
+pub mod UpdateCases

@@ -4,7 +4,7 @@ use mathlib.Core.Path.{◌≡◌}
 use mathlib.Core.List.{List, [], ◌∷◌, ◌++◌, append_assoc}
 use Rattle.numerals.specs.Decimal.{decimal}
 use Rattle.numerals.specs.Refusals.{number_of}
-use Rattle.numerals.specs.Text.{bytes}
+use Rattle.sheets.specs.Cases.{bytes}
 use Rattle.sheets.specs.declared.answer.Refused.{Refused}
 use Rattle.commands.specs.Refused.{number_text, refusal, refused_of_text}
 

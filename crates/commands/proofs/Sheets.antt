@@ -36,14 +36,14 @@ module _ (text : List ℕ) where
   -- the rule sheet was printed
   pub ended :
       (n : ℕ) → Value n ≡ print_read (read_sheet text) sheet_text text_limit
-      → (n ≡ length (split_prints text)) × (values_of (read_sheet text) sheet_text ≡ split_prints text) × (length (split_prints text) ≤ text_limit)
+      → (n ≡ length (split_prints text)) × (values_of (read_sheet text) sheet_text ≡ split_prints text)
   unfolding split_prints split_of
   ended n = go (read_sheet text) refl
     where
       go :
           (r : Reading Sheet) → read_sheet text ≡ r → Value n ≡ print_read r sheet_text text_limit
-          → (n ≡ length (split_of r)) × (values_of r sheet_text ≡ split_of r) × (length (split_of r) ≤ text_limit)
-      go (got S) e h = (cc (prints S e), refl, sheet-fits text S e)
+          → (n ≡ length (split_of r)) × (values_of r sheet_text ≡ split_of r)
+      go (got S) e h = (cc (prints S e), refl)
       go (refused why line) e h = absurd (let z : ◌≡◌ {A = ℕ} 0 1 = cc in omega arith)
 
   -- it was refused

@@ -119,7 +119,7 @@ module _ (old new : List ℕ) (t u : Table) (n : ℕ) (d : read_table old ≡ go
       rw (stage-starts (change_of t u n) before after (λ q l. refl) (λ q l. refl) p)
       (text-room (cut_at p before after) t.k n (read-proper old t d).few_bits few-services (λ q l. low-ids p q) (2 ^ t.k) (omega arith))
 
-  pub text-few : (limit capacity number : ℕ) → in_range (change_of t u n) limit capacity number ≡ true
+  text-few : (limit capacity number : ℕ) → in_range (change_of t u n) limit capacity number ≡ true
       → crowded (change_of t u n) capacity (row (change_of t u n) limit) ≡ false
       → length (stage_text (change_of t u n) n (place_of (change_of t u n) limit number)) ≤ line_room * most_capacity
   unfolding in_range place_of

@@ -182,15 +182,15 @@ not-cut old new n limit capacity r is = rw is
 -- the lines of a stage
 
 module _ (old new : List ℕ) (n limit capacity number : ℕ) where
-  pub listed : (m : ℕ) → lines_answer old new n limit capacity number text_limit ≡ Value m → (out after : List ℕ) → length out ≡ text_limit
+  pub listed : (m : ℕ) → lines_answer old new n limit capacity number text_limit ≡ Value m → (out after : List ℕ)
       → after ≡ sets out 0 (lines_written old new n limit number) → Wrote out after 0 m (one_stage_text old new n limit capacity number)
   unfolding lines_answer lines_written one_stage_text staged_text
-  listed m is out after long filled =
+  listed m is out after filled =
       let text : Change → List ℕ = λ C. stage_text C n (place_of C limit number) in
       let M = made old new n limit capacity number text text_limit m is in
       let written = made-values old new n limit capacity number text text_limit m M in
       let ends : m ≡ length (values_for old new n text) = M.count ∙ ap length (sym written) in
-      rw is (record { ends = omega (arith, ends); holds = filled; fits = omega (arith, M.count, M.fits) })
+      rw is (record { ends = omega (arith, ends); holds = filled })
 
   pub not_listed : (r : Why) → lines_answer old new n limit capacity number text_limit ≡ Refused r
       → refused_of_text r ≡ one_stage_text old new n limit capacity number
@@ -199,8 +199,7 @@ module _ (old new : List ℕ) (n limit capacity number : ℕ) where
 
 -- a buffer that was left as it was
 pub left : {a b c : List ℕ} {at next : ℕ} {bs : List ℕ} → b ≡ a → Wrote b c at next bs → Wrote a c at next bs
-left {a} {b} {c} {at} {next} {bs} e w =
-    record { ends = w.ends; holds = w.holds ∙ ap (λ (l : List ℕ). sets l at bs) e; fits = omega (arith, w.fits, ap length e) }
+left {a} {b} {c} {at} {next} {bs} e w = record { ends = w.ends; holds = w.holds ∙ ap (λ (l : List ℕ). sets l at bs) e }
 
 -- the lines of the places from place i on
 

@@ -1,21 +1,19 @@
 -- Bytes stored one after the other, and compared one after the other; what was written as a whole answer.
 use Prim.Native.Nat.{ℕ, suc, ◌+◌, ◌≤◌, ◌<◌}
-use mathlib.Core.Path.{◌≡◌, refl, sym, ap, subst, ◌∙◌}
+use mathlib.Core.Path.{◌≡◌, refl, ap, ◌∙◌}
 use mathlib.Core.Bool.{false}
 use mathlib.Core.List.{List, [], ◌∷◌, ◌++◌}
 use native.Mathlib.Nat.{zero-add}
 use native.Mathlib.Numerals.{add-one}
 use native.Mathlib.Omega.{arith}
-use lib.ListN.{length, get_or, set, take, drop, drop_of_length-le, length-append}
+use lib.ListN.{length, get_or, set, drop, drop_of_length-le, length-append}
 use lib.Seq.{sets, drop-cons}
 use Rattle.numerals.specs.Decimal.{decimal}
 use Rattle.numerals.proofs.Decimal.{length-decimal, width-least}
 use Rattle.sheets.specs.Reading.{same}
 use Rattle.sheets.specs.Inner.Writing.{Wrote}
-use Rattle.sheets.proofs.OneCall.{take-sets}
 use Rattle.sheets.proofs.Words.{same_more, same-other}
-use Rattle.commands.specs.Said.{Said, prints, no_number, outcome, filled, Fits}
-use Rattle.commands.specs.declared.answer.Outcome.{Outcome}
+use Rattle.commands.specs.Said.{Said, prints, no_number, outcome, filled}
 use Rattle.commands.specs.declared.answer.Outcome.TheVariants.{Answer, NoNumber}
 
 -- the byte at i stored at its place
@@ -45,38 +43,13 @@ digits-most n h = omega (arith, length-decimal n, width-least 19 n (omega arith)
 pub ends-soon : (a b : List ℕ) (at next n c : ℕ) → Wrote a b at next (decimal n ++ c ∷ []) → n < 18446744073709551616 → next ≤ at + 21
 ends-soon a b at next n c w h = omega (arith, w.ends, length-append (decimal n) (c ∷ []), digits-most n h)
 
--- what a command says is what it answered and left in its buffer, and it fits
-abbrev pub Told : Said → List ℕ → Outcome → List ℕ → Type 0
-Told s a r b = (r ≡ outcome s) × ((b ≡ filled s a) × Fits s (length a))
-
 -- bytes written from the start of the buffer
 module _ {a b : List ℕ} {n : ℕ} {bs : List ℕ} (w : Wrote a b 0 n bs) where
   pub whole : (n ≡ length bs) × (b ≡ sets a 0 bs)
   whole = (w.ends ∙ zero-add (length bs), w.holds)
 
-  pub short : length bs ≤ length a
-  short = omega (arith, w.ends, w.fits)
+  pub said : (s : Said) → s ≡ prints bs → (Answer n ≡ outcome s) × (b ≡ filled s a)
+  said s e = rw e (ap Answer whole.0, whole.1)
 
-  pub fitting : (n ≡ length bs) × ((b ≡ sets a 0 bs) × (length bs ≤ length a))
-  fitting = (whole.0, (whole.1, short))
-
-  pub said : (s : Said) → s ≡ prints bs → Told s a (Answer n) b
-  said s e = rw e (ap Answer whole.0, (whole.1, short))
-
-pub not-said : (a : List ℕ) (place : ℕ) (s : Said) → s ≡ no_number place → Told s a (NoNumber place) a
-not-said a place s e = rw e (refl, (refl, tt))
-
--- and what it promises is kept
-abbrev pub Keeps : Said → List ℕ → Outcome → List ℕ → Type 0 → Type 0
-Keeps s a r b promise = (r ≡ outcome s) × ((b ≡ filled s a) × (Fits s (length a) × promise))
-
-pub keeps : {promise : Type 0} (s : Said) (a : List ℕ) {b : List ℕ} {r : Outcome} → Told s a r b → promise → Keeps s a r b promise
-keeps s a told p = (told.0, (told.1.0, (told.1.1, p)))
-
--- what holds of the bytes that are printed holds of those at the start of the buffer
-pub printed : (P : List ℕ → Type 0) (s : Said) (a : List ℕ) {b : List ℕ} {r : Outcome} → Told s a r b → (bs : List ℕ) → s ≡ prints bs → P bs
-    → (end : ℕ) × (r ≡ Answer end) × P (take end b)
-printed P s a {b} {r} told bs e p =
-    let fits : length bs ≤ length a = subst (λ (x : Said). Fits x (length a)) e told.1.1 in
-    let first : take (length bs) b ≡ bs = ap (take (length bs)) (told.1.0 ∙ ap (λ (x : Said). filled x a) e) ∙ take-sets a bs fits in
-    (length bs, told.0 ∙ ap outcome e, subst P (sym first) p)
+pub not-said : (a : List ℕ) (place : ℕ) (s : Said) → s ≡ no_number place → (NoNumber place ≡ outcome s) × (a ≡ filled s a)
+not-said a place s e = rw e (refl, refl)

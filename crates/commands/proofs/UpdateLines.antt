@@ -19,7 +19,7 @@ use Rattle.expansion.specs.OldList.{rules_from}
 use Rattle.expansion.specs.Inner.OldList.{rule_at}
 use Rattle.expansion.specs.declared.rule.Rule.{Rule}
 use Rattle.packing.specs.Table.{lines_of}
-use Rattle.numerals.specs.Text.{bytes}
+use Rattle.sheets.specs.Cases.{bytes}
 use Rattle.sheets.specs.RuleSheet.{line_text, lines_text}
 use Rattle.sheets.specs.Inner.Writing.{Wrote, Before, end_at}
 use Rattle.sheets.proofs.Writes.{text, before-end}

@@ -43,8 +43,8 @@ pub record ExactLine (t : Table) (n volume b : ℕ) (line : List ℕ) : Type 0 w
   pub share_exact : DecimalOf share (held t n b) t.k
   pub load_exact : DecimalOf load (volume * held t n b) t.k
 
--- where the table has the service and the numbers are in their limits, the call answers an end, and what it leaves in its buffer up to there is such a line
+-- what a call leaves in its buffer up to the end that it answers is such a line, where the table has the service and the numbers are in their limits
 abbrev pub PrintsExactly : List ℕ → List ℕ → List ℕ → List ℕ → Outcome → List ℕ → Type 0
 PrintsExactly table service volume backend r out =
-    (t : Table) (n v b : ℕ) → read_table table ≡ got t → numeral service ≡ Value n → numeral volume ≡ Value v → numeral backend ≡ Value b
-    → has_service t n ≡ true → in_range v b ≡ true → (end : ℕ) × (r ≡ Answer end) × ExactLine t n v b (take end out)
+    (t : Table) (n v b end : ℕ) → read_table table ≡ got t → numeral service ≡ Value n → numeral volume ≡ Value v → numeral backend ≡ Value b
+    → has_service t n ≡ true → in_range v b ≡ true → r ≡ Answer end → ExactLine t n v b (take end out)

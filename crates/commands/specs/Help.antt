@@ -1,19 +1,11 @@
--- The commands by their words, the text of help, the usage of each command, and the version.
+-- The commands by their words, the text of help, and the usage of each command.
 use Rattle.std.specs.Prelude.{ℕ, List, [], ◌∷◌, ◌++◌}
 use Prim.Native.String.{String}
 use Rattle.numerals.specs.Pick.{pick}
-use Rattle.numerals.specs.Text.{bytes}
+use Rattle.sheets.specs.Cases.{bytes}
 use Rattle.sheets.specs.Reading.{same}
 use Rattle.commands.specs.declared.answer.Command.{Command}
-use Rattle.commands.specs.declared.answer.Command.TheVariants.{Split, Lookup, Churn, Update, Stages, Stage, Gauge, Help, Version, Unknown}
-
--- the words that begin with a hyphen
-unfoldable pub option_of : List ℕ → Command
-option_of word =
-    pick (same word (bytes "--help")) Help
-    (pick (same word (bytes "-h")) Help
-    (pick (same word (bytes "--version")) Version
-    Unknown))
+use Rattle.commands.specs.declared.answer.Command.TheVariants.{Split, Lookup, Churn, Update, Stages, Stage, Gauge, Help, Unknown}
 
 unfoldable pub command_of : List ℕ → Command
 command_of word =
@@ -25,7 +17,7 @@ command_of word =
     (pick (same word (bytes "stage")) Stage
     (pick (same word (bytes "gauge")) Gauge
     (pick (same word (bytes "help")) Help
-    (option_of word))))))))
+    Unknown)))))))
 
 -- lines, each with its end
 unfoldable pub lines : List String → List ℕ
@@ -52,10 +44,8 @@ help_text =
     ∷ "    splitter stage old.table new.table 1 4 8 1"
     ∷ "splitter gauge TABLE SERVICE VOLUME BACKEND           the share and the load of a backend"
     ∷ "    splitter gauge old.table 1 55 2"
-    ∷ "splitter help                                         this text; --help and -h are the same"
+    ∷ "splitter help                                         this text"
     ∷ "    splitter help | less"
-    ∷ "splitter --version                                    the name and the number of this program"
-    ∷ "    splitter --version"
     ∷ "A file named - is standard input (once in a call)."
     ∷ "What isn't proper prints REFUSED number line (churn, update, stages, stage: number line sheet)."
     ∷ [])
@@ -69,7 +59,6 @@ usage_text Stages = lines ("usage: splitter stages OLD NEW SERVICE LIMIT CAPACIT
 usage_text Stage = lines ("usage: splitter stage OLD NEW SERVICE LIMIT CAPACITY NUMBER" ∷ [])
 usage_text Gauge = lines ("usage: splitter gauge TABLE SERVICE VOLUME BACKEND" ∷ [])
 usage_text Help = lines ("usage: splitter help" ∷ [])
-usage_text Version = lines ("usage: splitter --version" ∷ [])
 usage_text Unknown =
     lines
     ("usage: splitter"
@@ -81,9 +70,4 @@ usage_text Unknown =
     ∷ "       splitter stage OLD NEW SERVICE LIMIT CAPACITY NUMBER"
     ∷ "       splitter gauge TABLE SERVICE VOLUME BACKEND"
     ∷ "       splitter help"
-    ∷ "       splitter --version"
     ∷ [])
-
--- the name; then 0, a dot and the last request of document 02 that it has
-unfoldable pub version_text : List ℕ
-version_text = lines ("gulmorzon 0.7" ∷ [])

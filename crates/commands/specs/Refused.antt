@@ -2,7 +2,7 @@
 use Rattle.std.specs.Prelude.{ℕ, List, [], ◌∷◌, ◌++◌}
 use Rattle.numerals.specs.Decimal.{decimal}
 use Rattle.numerals.specs.Refusals.{number_of}
-use Rattle.numerals.specs.Text.{bytes}
+use Rattle.sheets.specs.Cases.{bytes}
 use Rattle.sheets.specs.declared.answer.Refused.{Refused}
 
 unfoldable pub number_text : ℕ → List ℕ

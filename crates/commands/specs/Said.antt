@@ -1,5 +1,5 @@
 -- What a command comes to: the bytes that it prints on standard output, or a word of the call that is no numeral.
-use Rattle.std.specs.Prelude.{ℕ, ◌≤◌, List, length}
+use Rattle.std.specs.Prelude.{ℕ, List, length}
 use Rattle.std.proofs.lemmas.List.Edits.{sets}
 use Rattle.numerals.specs.declared.digits.Number.{Number}
 use Rattle.numerals.specs.declared.digits.Number.TheVariants.{Value, Bad}
@@ -25,8 +25,3 @@ outcome (no_number place) = NoNumber place
 abbrev pub filled : Said → List ℕ → List ℕ
 filled (prints bs) out = sets out 0 bs
 filled (no_number place) out = out
-
--- the bytes fit a buffer of so many
-abbrev pub Fits : Said → ℕ → Type 0
-Fits (prints bs) room = length bs ≤ room
-Fits (no_number place) room = Unit {0}

@@ -10,7 +10,6 @@ pub enum Command {
     Stage,
     Gauge,
     Help,
-    Version,
     Unknown,
 }
 

@@ -2,7 +2,7 @@
 ghost use Rattle.std.specs.Prelude.{◌≡◌, ◌≤◌, length};
 ghost use Rattle.sheets.specs.Calls.{churn_answer};
 ghost use Rattle.sheets.specs.Inner.Writing.{Wrote};
-ghost use Rattle.commands.specs.Said.{outcome, filled, Fits};
+ghost use Rattle.commands.specs.Said.{outcome, filled};
 ghost use Rattle.commands.specs.Churn.{churned_text, churn_says};
 
 use crate::answer::Outcome;
@@ -25,7 +25,6 @@ fn compare(old: &[u8], new: &[u8], service: u64, out: &mut [u8]) -> usize
 pub fn churn(old: &[u8], new: &[u8], service: &[u8], out: &mut [u8; crate::LINES_ROOM]) -> Outcome
     ensures answer { result ≡ outcome (churn_says old.now new.now service.now) }
     ensures buffer { out.new ≡ filled (churn_says old.now new.now service.now) out.old }
-    ensures fits { Fits (churn_says old.now new.now service.now) (length out.old) }
 {
     let number = crate::numeral::read_numeral(service, crate::numeral::MOST_SERVICE);
     let Number::Value(n) = number else {

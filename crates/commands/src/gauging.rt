@@ -2,7 +2,7 @@
 ghost use Rattle.std.specs.Prelude.{◌≡◌, [], ◌∷◌, ◌++◌, ◌+◌, ◌*◌, ◌≤◌, length};
 ghost use Rattle.gauges.specs.Gauges.{gauges_answer};
 ghost use Rattle.sheets.specs.Inner.Writing.{Wrote};
-ghost use Rattle.commands.specs.Said.{outcome, filled, Fits};
+ghost use Rattle.commands.specs.Said.{outcome, filled};
 ghost use Rattle.commands.specs.Gauge.{float_text, gauges_text, gauge_says, PrintsExactly};
 ghost use Rattle.commands.specs.Inner.Gauge.{IsGauge, gauge_room};
 
@@ -47,8 +47,6 @@ pub fn gauge(
     ensures buffer { out.new
         ≡ filled (gauge_says table.now service.now volume.now backend.now) out.old }
     ensures exact { PrintsExactly table.now service.now volume.now backend.now result out.new }
-    ensures fits { Fits (gauge_says table.now service.now volume.now backend.now)
-        (length out.old) }
 {
     let number = crate::numeral::read_numeral(service, crate::numeral::MOST_SERVICE);
     let Number::Value(n) = number else {

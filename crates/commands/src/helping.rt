@@ -1,8 +1,8 @@
 // The commands by their words, the text of help, and usages.
-ghost use Rattle.std.specs.Prelude.{◌≡◌, ◌≤◌, length};
+ghost use Rattle.std.specs.Prelude.{◌≡◌, length};
 ghost use Rattle.std.proofs.lemmas.List.Edits.{sets};
 ghost use Rattle.sheets.specs.Reading.{same as same_text};
-ghost use Rattle.commands.specs.Help.{option_of, command_of, help_text, usage_text, version_text};
+ghost use Rattle.commands.specs.Help.{command_of, help_text, usage_text};
 
 use crate::answer::Command;
 use crate::writing::put_bytes;
@@ -22,22 +22,6 @@ fn same(a: &[u8], b: &[u8]) -> bool
         i += 1;
     }
     true
-}
-
-// The command that a word with a hyphen in front names.
-fn option(word: &[u8]) -> Command
-    ensures { result ≡ option_of word.now }
-{
-    if same(word, b"--help") {
-        return Command::Help;
-    }
-    if same(word, b"-h") {
-        return Command::Help;
-    }
-    if same(word, b"--version") {
-        return Command::Version;
-    }
-    Command::Unknown
 }
 
 // The command that a word names.
@@ -68,14 +52,13 @@ pub fn command(word: &[u8]) -> Command
     if same(word, b"help") {
         return Command::Help;
     }
-    option(word)
+    Command::Unknown
 }
 
 // The commands, each with a line and an example.
 pub fn help(out: &mut [u8; crate::ROOM]) -> usize
     ensures answer { result ≡ length help_text }
     ensures buffer { out.new ≡ sets out.old 0 help_text }
-    ensures fits { length help_text ≤ length out.old }
 {
     put_bytes(
         out,
@@ -88,8 +71,7 @@ splitter update OLD SHEET SERVICE                     new weights on a loaded ta
 splitter stages OLD NEW SERVICE LIMIT CAPACITY        the places at which a change is cut into stages\n    splitter stages old.table new.table 1 4 8\n\
 splitter stage OLD NEW SERVICE LIMIT CAPACITY NUMBER  one stage as lines for the switch\n    splitter stage old.table new.table 1 4 8 1\n\
 splitter gauge TABLE SERVICE VOLUME BACKEND           the share and the load of a backend\n    splitter gauge old.table 1 55 2\n\
-splitter help                                         this text; --help and -h are the same\n    splitter help | less\n\
-splitter --version                                    the name and the number of this program\n    splitter --version\n\
+splitter help                                         this text\n    splitter help | less\n\
 A file named - is standard input (once in a call).\n\
 What isn't proper prints REFUSED number line (churn, update, stages, stage: number line sheet).\n",
     )
@@ -99,7 +81,6 @@ What isn't proper prints REFUSED number line (churn, update, stages, stage: numb
 pub fn usage(command: Command, out: &mut [u8; crate::ROOM]) -> usize
     ensures answer { result ≡ length (usageText command) }
     ensures buffer { out.new ≡ sets out.old 0 (usageText command) }
-    ensures fits { length (usageText command) ≤ length out.old }
 {
     match command {
         Command::Split => put_bytes(out, 0, b"usage: splitter split SHEET\n"),
@@ -122,23 +103,13 @@ pub fn usage(command: Command, out: &mut [u8; crate::ROOM]) -> usize
             b"usage: splitter gauge TABLE SERVICE VOLUME BACKEND\n",
         ),
         Command::Help => put_bytes(out, 0, b"usage: splitter help\n"),
-        Command::Version => put_bytes(out, 0, b"usage: splitter --version\n"),
         Command::Unknown => put_bytes(
             out,
             0,
             b"usage: splitter\n       splitter split SHEET\n       splitter lookup TABLE SERVICE ADDRESS\n       \
 splitter churn OLD NEW SERVICE\n       splitter update OLD SHEET SERVICE\n       \
 splitter stages OLD NEW SERVICE LIMIT CAPACITY\n       splitter stage OLD NEW SERVICE LIMIT CAPACITY NUMBER\n       \
-splitter gauge TABLE SERVICE VOLUME BACKEND\n       splitter help\n       splitter --version\n",
+splitter gauge TABLE SERVICE VOLUME BACKEND\n       splitter help\n",
         ),
     }
-}
-
-// The name and the number of this program.
-pub fn version(out: &mut [u8; crate::ROOM]) -> usize
-    ensures answer { result ≡ length versionText }
-    ensures buffer { out.new ≡ sets out.old 0 versionText }
-    ensures fits { length versionText ≤ length out.old }
-{
-    put_bytes(out, 0, b"gulmorzon 0.7\n")
 }

@@ -15,7 +15,7 @@ mod writing;
 pub use answer::{Command, Outcome};
 pub use churning::churn;
 pub use gauging::gauge;
-pub use helping::{command, help, usage, version};
+pub use helping::{command, help, usage};
 pub use looking::lookup;
 pub use splitting::split;
 pub use staging::{stage, stages};

@@ -1,7 +1,7 @@
 // lookup TABLE SERVICE ADDRESS
 ghost use Rattle.std.specs.Prelude.{◌≡◌, ◌≤◌, length};
 ghost use Rattle.sheets.specs.Inner.Writing.{Wrote};
-ghost use Rattle.commands.specs.Said.{outcome, filled, Fits};
+ghost use Rattle.commands.specs.Said.{outcome, filled};
 ghost use Rattle.commands.specs.Lookup.{lookup_text, lookup_says};
 
 use crate::answer::Outcome;
@@ -43,7 +43,6 @@ pub fn lookup(
 ) -> Outcome
     ensures answer { result ≡ outcome (lookup_says table.now service.now address.now) }
     ensures buffer { out.new ≡ filled (lookup_says table.now service.now address.now) out.old }
-    ensures fits { Fits (lookup_says table.now service.now address.now) (length out.old) }
 {
     let number = crate::numeral::read_numeral(service, crate::numeral::MOST_SERVICE);
     let Number::Value(n) = number else {

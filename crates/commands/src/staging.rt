@@ -2,8 +2,8 @@
 ghost use Rattle.std.specs.Prelude.{◌≡◌, ◌≤◌, length, take};
 ghost use Rattle.numerals.specs.Limits.{text_limit};
 ghost use Rattle.sheets.specs.Inner.Writing.{Wrote};
-ghost use Rattle.commands.specs.Said.{outcome, filled, Fits};
-ghost use Rattle.commands.specs.Stages.{places_text, stages_text, one_stage_text, stages_says, stage_says, StagesPromised, StagePromised};
+ghost use Rattle.commands.specs.Said.{outcome, filled};
+ghost use Rattle.commands.specs.Stages.{places_text, stages_text, one_stage_text, stages_says, stage_says};
 ghost use Rattle.commands.specs.Inner.Stages.{Places, places_room};
 
 use crate::answer::Outcome;
@@ -88,10 +88,6 @@ pub fn stages(
         (stages_says old.now new.now service.now limit.now capacity.now) }
     ensures buffer { out.new ≡ filled
         (stages_says old.now new.now service.now limit.now capacity.now) out.old }
-    ensures fits { Fits (stages_says old.now new.now service.now limit.now capacity.now)
-        (length out.old) }
-    ensures promise { StagesPromised old.now new.now service.now limit.now capacity.now
-        result out.new }
 {
     let number = read_numeral(service, MOST_SERVICE);
     let Number::Value(n) = number else {
@@ -122,10 +118,6 @@ pub fn stage(
         capacity.now number.now) }
     ensures buffer { out.new ≡ filled (stage_says old.now new.now service.now limit.now
         capacity.now number.now) out.old }
-    ensures fits { Fits (stage_says old.now new.now service.now limit.now
-        capacity.now number.now) (length out.old) }
-    ensures promise { StagePromised old.now new.now service.now limit.now
-        capacity.now number.now result out.new }
 {
     let name = read_numeral(service, MOST_SERVICE);
     let Number::Value(n) = name else {

@@ -7,8 +7,8 @@ ghost use Rattle.packing.specs.Table.{lines_of};
 ghost use Rattle.sheets.specs.RuleSheet.{line_text, lines_text};
 ghost use Rattle.sheets.specs.Inner.Writing.{Wrote};
 ghost use Rattle.update.specs.declared.answer.SheetUpdated.TheVariants.{Made};
-ghost use Rattle.commands.specs.Said.{outcome, filled, Fits};
-ghost use Rattle.commands.specs.Update.{update_head, updated_text, update_text, update_says, UpdatePromised};
+ghost use Rattle.commands.specs.Said.{outcome, filled};
+ghost use Rattle.commands.specs.Update.{update_head, updated_text, update_text, update_says};
 ghost use Rattle.commands.specs.Inner.Update.{line_of, rules_in, Rules, suffix_room, head_room, line_room, update_room};
 
 use crate::answer::Outcome;
@@ -104,8 +104,6 @@ pub fn update(
 ) -> Outcome
     ensures answer { result ≡ outcome (update_says old.now sheet.now service.now) }
     ensures buffer { out.new ≡ filled (update_says old.now sheet.now service.now) out.old }
-    ensures fits { Fits (update_says old.now sheet.now service.now) (length out.old) }
-    ensures promise { UpdatePromised old.now sheet.now service.now result out.new }
 {
     let number = crate::numeral::read_numeral(service, crate::numeral::MOST_SERVICE);
     let Number::Value(n) = number else {

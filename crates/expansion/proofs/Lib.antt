@@ -40,10 +40,9 @@ pub mod Answers
 pub mod Lowest
 pub mod ChurnPlaces
 pub mod KeptLists
-pub mod NewRules
 pub mod WithinIds
 pub mod HopelessStarts
 pub mod KeptBest
 pub mod KeptSearch
 pub mod ResumeAnswers
-pub mod ResumedStart
+pub mod Cases

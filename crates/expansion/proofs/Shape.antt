@@ -1,9 +1,8 @@
--- The shape of a list: no rule is longer than one before it, and the rules before those that it started from are new, none of them `*`.
-use Prim.Native.Nat.{ℕ, zero, suc, ◌<◌}
+-- The shape of a list: no rule is longer than one before it, and before the rules that it started from none is `*`.
+use Prim.Native.Nat.{ℕ, zero, suc}
 use mathlib.Core.List.{List, [], ◌∷◌, ◌++◌}
-use mathlib.Core.Path.{◌≡◌, refl, ap, sym, ◌∙◌, subst, subst⁻¹}
+use mathlib.Core.Path.{◌≡◌, refl, ap, sym, ◌∙◌, subst}
 use native.Mathlib.Omega.{arith}
-use lib.ListN.{length, get_or}
 use Rattle.expansion.specs.Steps.{term_length, new_rule, step, after, Frame}
 use Rattle.expansion.specs.Inner.Sound.{Lengths, Falling, NoStar, Sound}
 use Rattle.expansion.specs.declared.rule.Rule.{Rule}
@@ -23,40 +22,17 @@ falling-after F S h (suc x) = go (falling-after F S h x) (turn F (after F x))
     go H (stays e) = subst Falling (sym e) H
     go H (moves g e) = subst Falling (sym e) (new-falling F (after F x) ((good-after F S x).short g.gain) H)
 
--- the rules in front of those that a list started from: each is the new one of some turn
-pub record Added (F : Frame) (rs front : List Rule) : Type 0 where
-  pub list : rs ≡ front ++ F.start
-  pub new : (i : ℕ) → i < length front → (d : Rule) → (qs : List Rule) × (get_or front i d ≡ new_rule F qs)
-
-pub added-after : (F : Frame) (x : ℕ) → (front : List Rule) × Added F (after F x) front
-unfolding after
-added-after F zero = ([], record { list = refl; new = λ i l d. absurd (omega arith) })
-added-after F (suc x) = go (added-after F x) (turn F (after F x))
-  where
-    one_more : (front qs : List Rule) → ((i : ℕ) → i < length front → (d : Rule) → (rs : List Rule) × (get_or front i d ≡ new_rule F rs))
-        → (i : ℕ) → i < suc (length front) → (d : Rule) → (rs : List Rule) × (get_or (new_rule F qs ∷ front) i d ≡ new_rule F rs)
-    one_more front qs h zero l d = (qs, refl)
-    one_more front qs h (suc i) l d = h i (omega arith) d
-
-    go : (front : List Rule) × Added F (after F x) front → Turn F (after F x) → (front : List Rule) × Added F (step F (after F x)) front
-    go h (stays e) = (h.0, record { list = e ∙ h.1.list; new = h.1.new })
-    go h (moves g e) =
-        let r = new_rule F (after F x) in
-        (r ∷ h.0, record { list = e ∙ ap (λ (l : List Rule). r ∷ l) h.1.list; new = one_more h.0 (after F x) h.1.new })
-
-new-long : (F : Frame) → Sound F → (qs : List Rule) → 0 < (new_rule F qs).len
-unfolding new_rule term_length
-new-long F S qs = omega (arith, term-le F qs, S.below)
-
-no-star : (front : List Rule) → ((i : ℕ) → i < length front → (d : Rule) → 0 < (get_or front i d).len) → NoStar front
-unfolding NoStar
-no-star [] h = tt
-no-star (r ∷ rs) h = (h 0 (omega arith) r, no-star rs (λ i l. h (suc i) (omega arith)))
+new-long : (F : Frame) → Sound F → (rs front : List Rule) → NoStar front → NoStar (new_rule F rs ∷ front)
+unfolding NoStar new_rule term_length
+new-long F S rs front h = (omega (arith, term-le F rs, S.below), h)
 
 pub front-after : (F : Frame) → Sound F → (x : ℕ) → (front : List Rule) × (after F x ≡ front ++ F.start) × NoStar front
-front-after F S x =
-    let A = added-after F x in (
-      A.0,
-      A.1.list,
-      no-star A.0 (λ i l d. let n = A.1.new i l d in subst⁻¹ (λ (r : Rule). 0 < r.len) n.1 (new-long F S n.0)),
-    )
+unfolding after NoStar
+front-after F S zero = ([], refl, tt)
+front-after F S (suc x) = go (front-after F S x) (turn F (after F x))
+  where
+    go : (front : List Rule) × (after F x ≡ front ++ F.start) × NoStar front → Turn F (after F x)
+        → (front : List Rule) × (step F (after F x) ≡ front ++ F.start) × NoStar front
+    go h (stays e) = (h.0, e ∙ h.1, h.2)
+    go h (moves g e) =
+        (new_rule F (after F x) ∷ h.0, e ∙ ap (λ (l : List Rule). new_rule F (after F x) ∷ l) h.1, new-long F S (after F x) h.0 h.2)

@@ -1,5 +1,5 @@
 -- The count by first match (document 01, under that heading), over rules in their order, the first match first: one definition, whoever counts.
-use Rattle.std.specs.Prelude.{ℕ, ◌-◌, ◌%◌, ◌^◌, Bool, not, List, [], ◌∷◌, eqb}
+use Rattle.std.specs.Prelude.{ℕ, ◌%◌, ◌^◌, Bool, not, List, [], ◌∷◌, eqb}
 use Rattle.numerals.specs.Pick.{pick}
 use Rattle.numerals.specs.Suffix.{is_suffix}
 use Rattle.numerals.specs.Sums.{count_to}
@@ -12,10 +12,6 @@ nobody = 0
 -- a well-formed rule of k bits
 unfoldable pub is_rule : ℕ → Rule → Bool
 is_rule k r = is_suffix k r.len r.value
-
--- how many of the 2^k suffixes of k bits a rule's suffix covers
-abbrev pub covers : ℕ → Rule → ℕ
-covers k r = 2 ^ (k - r.len)
 
 -- a rule matches s if its bits are the lowest bits of s
 unfoldable pub matches : Rule → ℕ → Bool

@@ -5,6 +5,7 @@ pub mod FirstMatch
 pub mod Imbalance
 pub mod Steps
 pub mod KeptShares
+pub mod Cases
 pub mod Answer
 pub mod OldList
 pub mod Known

@@ -2,3 +2,4 @@
 pub mod Fractions
 pub mod Operations
 pub mod Answers
+pub mod Cases

@@ -4,20 +4,18 @@ mod answer;
 mod gauge_answer;
 mod update_answer;
 
-ghost use Rattle.std.specs.Prelude.{◌≡◌, ◌*◌, length, take};
+ghost use Rattle.std.specs.Prelude.{◌≡◌, length, take};
 ghost use Rattle.numerals.specs.Buffer.{filled};
 ghost use Rattle.sheets.specs.PercentageSheet.{read_sheet};
 ghost use Rattle.sheets.specs.Calls as calls;
-ghost use Rattle.sheets.specs.Demand.{TableBack, Demand3, Demand3Numbers};
+ghost use Rattle.sheets.specs.Demand.{Demand3};
 ghost use Rattle.sheets.specs.FourPlaces.{FourPlaces};
 ghost use Rattle.sheets.specs.Reading.{got};
 ghost use Rattle.sheets.specs.RuleSheet.{Table, read_table};
-ghost use Rattle.sheets.specs.declared.answer.Answer as outcome;
 ghost use Rattle.gauges.specs.Gauges.{gauges_answer, ExactGauges};
 ghost use Rattle.update.specs.Sheets as texts;
-ghost use Rattle.update.specs.declared.answer.SheetUpdated.{SheetUpdated};
 ghost use Rattle.stages.specs.Calls.{places_answer, places_written, lines_answer, lines_written};
-ghost use Rattle.stages.specs.Promise.{PromisedRow, PromisedStage, Crowding};
+ghost use Rattle.stages.specs.Promise.{PromisedRow, PromisedStage};
 ghost use Rattle.gulmorzon.specs.Answers as answers;
 ghost use Rattle.gulmorzon.specs.Gauges.{of_record, reading_called, ExactMarked};
 ghost use Rattle.gulmorzon.specs.Update.{of_update};
@@ -42,8 +40,6 @@ pub extern "C" fn gulmorzon_plan(
     ensures table { table.new ≡ calls.afterwards
         (calls.is_plan (calls.plan_answer text.now (length figures.old) (length table.old)))
         table.old (calls.values_of (read_sheet text.now) calls.cells_for) }
-    ensures demand { result.number ≡ 0
-        → Demand3Numbers text.now result.k result.total (take (4 * result.rules) table.new) }
 {
     answer::of_planned(sheets::plan(text, figures, table))
 }
@@ -56,7 +52,6 @@ pub extern "C" fn gulmorzon_split(text: &[u8], out: &mut [u8]) -> Answer
     ensures demand { result.number ≡ 0 → Demand3 text.now (take result.value out.new) }
     ensures four_places { FourPlaces text.now (answers.split_answer text.now (length out.old))
         out.old out.new }
-    ensures back { result.number ≡ 0 → TableBack text.now (take result.value out.new) }
 {
     answer::of_answer(sheets::split_sheet(text, out))
 }
@@ -130,8 +125,8 @@ pub extern "C" fn gulmorzon_update(
     ensures rules { rules.new ≡ filled
         (texts.is_made (texts.sheets_answer old.now sheet.now service (length rules.old)))
         rules.old 0 (texts.sheets_numbers old.now sheet.now service) }
-    ensures promise { (x : SheetUpdated) × (result ≡ of_update x)
-        × texts.PromisedBoth old.now sheet.now service x rules.new }
+    ensures promise { texts.PromisedBoth old.now sheet.now service
+        (texts.sheets_answer old.now sheet.now service (length rules.old)) rules.new }
 {
     update_answer::of_update(update::update_sheets(old, sheet, service, rules))
 }
@@ -154,8 +149,6 @@ pub extern "C" fn gulmorzon_stages(
         places.old (places_written old.now new.now service limit) }
     ensures promise { result.number ≡ 0
         → PromisedRow old.now new.now service limit (take result.value places.new) }
-    ensures crowded { (x : outcome.Answer) × (result ≡ answers.of_answer x)
-        × Crowding old.now new.now service limit capacity 1 x }
 {
     answer::of_answer(stages::stage_places(old, new, service, limit, capacity, places))
 }
@@ -177,9 +170,7 @@ pub extern "C" fn gulmorzon_stage(
         (calls.is_value (lines_answer old.now new.now service limit capacity number (length out.old)))
         out.old (lines_written old.now new.now service limit number) }
     ensures promise { result.number ≡ 0
-        → PromisedStage old.now new.now service limit capacity number (take result.value out.new) }
-    ensures crowded { (x : outcome.Answer) × (result ≡ answers.of_answer x)
-        × Crowding old.now new.now service limit capacity number x }
+        → PromisedStage old.now new.now service limit number (take result.value out.new) }
 {
     answer::of_answer(stages::stage_lines(old, new, service, limit, capacity, number, out))
 }

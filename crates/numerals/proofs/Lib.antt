@@ -17,3 +17,4 @@ pub mod Suffix
 pub mod Table
 pub mod Percent
 pub mod MoreDecimals
+pub mod Cases

@@ -1,7 +1,5 @@
 -- A text is its lines and a line its fields: what stands between single separators, an empty field too.
 use Rattle.std.specs.Prelude.{ℕ, suc, Bool, true, false, List, [], ◌∷◌, eqb}
-use Prim.Native.Char.{code}
-use Prim.Native.String as string
 
 -- b before the first of the fields
 unfoldable pub onto : ℕ → List (List ℕ) → List (List ℕ)
@@ -17,8 +15,3 @@ split c (b ∷ bs) = elim (eqb b c) [ true ↦ [] ∷ split c bs | false ↦ ont
 unfoldable pub index_of : ℕ → List ℕ → ℕ
 index_of c [] = 0
 index_of c (b ∷ bs) = elim (eqb b c) [ true ↦ 0 | false ↦ suc (index_of c bs) ]
-
--- the bytes of a text of ASCII characters
-unfoldable pub bytes : string.String → List ℕ
-bytes string.[] = []
-bytes (string.◌∷◌ c s) = code c ∷ bytes s

@@ -8,6 +8,7 @@ pub mod Convexity
 pub mod Demand
 pub mod Checks
 pub mod Listing
+pub mod Cases
 pub mod Stores
 pub mod Payable
 pub mod Winner

@@ -3,5 +3,6 @@ pub mod Grants
 pub mod Count
 pub mod Table
 pub mod Demand
+pub mod Cases
 pub mod Answer
 pub mod Inner

@@ -38,4 +38,8 @@ pub mod OwnNumbers
 pub mod Chunks
 pub mod Judging
 pub mod UpdateLimits
+pub mod Cases
+pub mod TwelveCases
 pub mod CallRoundTrip
+pub mod RuleSheetCases
+pub mod Witnesses

@@ -1,35 +1,28 @@
--- A rule sheet's own refusals are never 8, so that the mark of an absent service can stand in its place; and none of the requests', such as 14.
+-- A rule sheet's own refusals are never 8, so that the mark of an absent service can stand in its place.
 use Prim.Native.Nat.{ℕ, ◌+◌}
 use mathlib.Core.Path.{◌≡◌, refl}
-use mathlib.Core.Bool.{Bool, true, false, not}
+use mathlib.Core.Bool.{Bool, true, false}
 use mathlib.Core.List.{List, [], ◌∷◌}
-use lib.Dec.{eqb, ltb}
+use lib.Dec.{eqb}
 use lib.ListN.{length}
-use borrow.Author.Tests.{not-true}
 use Rattle.numerals.specs.Decimal.{number}
 use Rattle.numerals.specs.Text.{split}
 use Rattle.numerals.specs.Limits.{most_capacity, total_limit}
-use Rattle.numerals.specs.Pick.{both}
-use Rattle.numerals.specs.Refusals.{number_of, no8, no13, no14}
+use Rattle.numerals.specs.Refusals.{number_of, no8}
 use Rattle.numerals.specs.declared.digits.Number.{Number}
 use Rattle.numerals.specs.declared.digits.Number.TheVariants.{Value, Bad}
 use Rattle.numerals.specs.declared.suffixes.SuffixRead.{SuffixRead}
 use Rattle.numerals.specs.declared.suffixes.SuffixRead.TheVariants as suffix-read
 use Rattle.numerals.specs.declared.refusal.Refusal.{Refusal}
-use Rattle.numerals.proofs.Searches.{both_true, clash}
 use Rattle.packing.specs.Count.{Line}
 use Rattle.sheets.specs.Reading.{Reading, got, refused, then, unless, on_field}
 use Rattle.sheets.specs.FirstLine.{opening_fields, opening_lines, first_line}
-use Rattle.sheets.specs.RuleSheet.{Table, on_suffix, placed, rule_fields, rule_lines, whole_table, table_word, table_line, read_table}
-
--- other than 8, and before those of the requests, 13 on
-abbrev other : Refusal → Bool
-other why = both (ltb (number_of why) (number_of no13)) (not (eqb (number_of why) (number_of no8)))
+use Rattle.sheets.specs.RuleSheet.{on_suffix, placed, rule_fields, rule_lines, whole_table, table_word, table_line, read_table}
 
 abbrev Other : Refusal → Type 0
-Other why = other why ≡ true
+Other why = eqb (number_of why) (number_of no8) ≡ false
 
--- what was read, or such a refusal
+-- what was read, or a refusal other than 8
 abbrev Never : {A : Type 0} → Reading A → Type 0
 Never (got a) = Unit {0}
 Never (refused why line) = Other why
@@ -93,25 +86,9 @@ module _ (word : List ℕ) (second third : List ℕ → Number) where
   unfolding first_line number_of
   never_first text = never-unless _ _ 0 _ refl (never-lines (split 10 text))
 
-never_other : (text : List ℕ) → Never (read_table text)
+pub never-eight : (text : List ℕ) → Never (read_table text)
 unfolding read_table table_line
-never_other text =
+never-eight text =
     never-then (table_line text) _ (never_first table_word (number 1 most_capacity) (number 0 total_limit) text)
     (λ line. never-then (rule_lines line.k [] line.behind) _ (never-rules line.k [] line.behind)
     (never-whole line.k line.second line.third))
-
--- what was read, or a refusal other than 8
-abbrev NotEight : Reading Table → Type 0
-NotEight (got t) = Unit {0}
-NotEight (refused why line) = eqb (number_of why) (number_of no8) ≡ false
-
-pub never-eight : (text : List ℕ) → NotEight (read_table text)
-never-eight text = go (read_table text) (never_other text)
-  where
-    go : (r : Reading Table) → Never r → NotEight r
-    go (got t) n = tt
-    go (refused why line) n = not-true (eqb (number_of why) (number_of no8)) (both_true (ltb (number_of why) (number_of no13)) _ n).1
-
-pub never-crowded : (text : List ℕ) (line : ℕ) → read_table text ≡ refused no14 line → ⊥
-unfolding number_of
-never-crowded text line e = clash (other no14) (rw e at (never_other text)) refl

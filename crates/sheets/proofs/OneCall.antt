@@ -1,7 +1,7 @@
 -- From the one call to the rule sheet: what its answers tell of the sheet, that its buffers are long enough, that the numbers it leaves are the
--- sheet's table, that demand 3 holds of them, and that demands 2 and 3 hold of what is printed.
+-- sheet's table, and that demand 3 holds of what is printed.
 use Prim.Native.Nat.{ℕ, ◌+◌, ◌*◌, ◌≤◌}
-use mathlib.Core.Path.{◌≡◌, refl, sym, ap, subst, subst⁻¹, ◌∙◌}
+use mathlib.Core.Path.{◌≡◌, refl, sym, ap, subst, ◌∙◌}
 use mathlib.Core.Bool.{Bool, true, false}
 use mathlib.Core.List.{List, []}
 use native.Mathlib.Omega.{arith}
@@ -13,13 +13,12 @@ use Rattle.numerals.specs.Pick.{pick}
 use Rattle.numerals.specs.Limits.{most_services, most_capacity}
 use Rattle.numerals.specs.declared.refusal.Refusal.{Refusal}
 use Rattle.numerals.specs.declared.refusal.Refusal.TheVariants.{ShortLoan}
-use Rattle.packing.specs.Answer.{no_buffer, figures_buffer, table_buffer}
 use Rattle.sheets.specs.Reading.{Reading, got, refused}
 use Rattle.sheets.specs.PercentageSheet.{Sheet, read_sheet}
 use Rattle.sheets.specs.RuleSheet.{Table, table_text}
-use Rattle.sheets.specs.Calls.{about, refused_at, answered, values_of, afterwards, is_value, is_plan, table_for, plan_of, plan_answer, cells_for, lines_from}
+use Rattle.sheets.specs.Calls.{refused_at, answered, values_of, afterwards, is_value, is_plan, table_for, plan_of, plan_answer, cells_for, lines_from}
 use Rattle.sheets.specs.Calls.{print_text, print_read, sheet_text}
-use Rattle.sheets.specs.Demand.{TableBackOf, Demand3Table, Demand3Of, Demand3Planned}
+use Rattle.sheets.specs.Demand.{Demand3Of}
 use Rattle.sheets.specs.FourPlaces.{FourPlaces}
 use Rattle.sheets.specs.Inner.TableNumbers.{lines_in, table_in, RuleLines}
 use Rattle.sheets.specs.declared.answer.Plan.{Plan}
@@ -34,7 +33,7 @@ use Rattle.sheets.proofs.ProperTable.{table-proper}
 use Rattle.sheets.proofs.TableNumbers.{lines-cells, length-cells}
 use Rattle.sheets.proofs.NumbersText.{rule-lines}
 use Rattle.sheets.proofs.Prints.{PrintedAs}
-use Rattle.sheets.proofs.DemandThree.{table-back, table-demand, demand-three}
+use Rattle.sheets.proofs.DemandThree.{demand-three}
 use Rattle.sheets.proofs.FourPlaces.{four-places}
 
 -- what stands at the start of a buffer after it was written
@@ -52,35 +51,11 @@ most_cells = 4 * most_capacity
 abbrev plan_for : Sheet → Plan
 plan_for S = record { k = S.k; services = length S.volumes; rules = length (table_for S).lines; total = (table_for S).total }
 
--- the sheet that a plan is of, and the room for its lines
-pub record Plans (text : List ℕ) (p : Plan) (table_room : ℕ) : Type 0 where
+-- the sheet that a plan is of
+pub record Plans (text : List ℕ) (p : Plan) : Type 0 where
   pub sheet : Sheet
   pub read : read_sheet text ≡ got sheet
   pub is : p ≡ plan_for sheet
-  pub room : 4 * p.rules ≤ table_room
-
-module _ (text : List ℕ) (a b : ℕ) (p : Plan) where
-  made_of : (S : Sheet) → read_sheet text ≡ got S → plan_of S a b ≡ Made p → Plans text p b
-  unfolding plan_of
-  made_of S e h = go (leb (3 * length S.volumes) a) (leb (4 * length (table_for S).lines) b) refl h
-    where
-      go :
-          (s t : Bool) → leb (4 * length (table_for S).lines) b ≡ t
-          → pick s (pick t (Made (plan_for S)) (Refused (about table_buffer ShortLoan 0))) (Refused (about figures_buffer ShortLoan 0)) ≡ Made p
-          → Plans text p b
-      go true true fits h =
-          let is : p ≡ plan_for S = cc in
-          record { sheet = S; read = e; is = is; room = rw is (leb-true (4 * length (table_for S).lines) b fits) }
-      go true false fits h = absurd (let z : ◌≡◌ {A = ℕ} 0 1 = cc in omega arith)
-      go false t fits h = absurd (let z : ◌≡◌ {A = ℕ} 0 1 = cc in omega arith)
-
-  pub plan-made : plan_answer text a b ≡ Made p → Plans text p b
-  unfolding plan_answer
-  plan-made h = go (read_sheet text) refl h
-    where
-      go : (r : Reading Sheet) → read_sheet text ≡ r → answered Refused no_buffer r (λ S. plan_of S a b) ≡ Made p → Plans text p b
-      go (got S) e h = made_of S e h
-      go (refused why line) e h = absurd (let z : ◌≡◌ {A = ℕ} 0 1 = cc in omega arith)
 
 -- buffers for 64 services and 2,048 lines are long enough, so that the answer is the plan or the sheet's refusal
 module _ (text : List ℕ) where
@@ -94,6 +69,13 @@ module _ (text : List ℕ) where
   plan-no : (why : Refusal) (line : ℕ) → read_sheet text ≡ refused why line → plan_answer text most_figures most_cells ≡ Refused (refused_at why line)
   unfolding plan_answer
   plan-no why line e = rw e
+
+  pub plan-made : (p : Plan) → plan_answer text most_figures most_cells ≡ Made p → Plans text p
+  plan-made p h = go (read_sheet text) refl
+    where
+      go : (r : Reading Sheet) → read_sheet text ≡ r → Plans text p
+      go (got S) e = record { sheet = S; read = e; is = cc (made S e) }
+      go (refused why line) e = absurd (let z : ◌≡◌ {A = ℕ} 0 1 = cc (plan-no why line e) in omega arith)
 
   pub plan-refused :
       (r : Why) → plan_answer text most_figures most_cells ≡ Refused r → (f : Sheet → Answer) → answer.Refused r ≡ answered answer.Refused 0 (read_sheet text) f
@@ -171,7 +153,7 @@ pub plan-left :
     (text : List ℕ) (r : Planned) (p : Plan) (buffer after : List ℕ) → length buffer ≡ most_cells
     → r ≡ plan_answer text most_figures most_cells → r ≡ Made p → after ≡ afterwards (is_plan r) buffer (values_of (read_sheet text) cells_for) → Left text p after
 plan-left text r p buffer after long answer is filled =
-    let M = plan-made text most_figures most_cells p (sym answer ∙ is) in
+    let M = plan-made text p (sym answer ∙ is) in
     left-for text p M.sheet buffer after M.read M.is long (filled ∙ stored-for text r p M.sheet buffer M.read is)
 
 -- where a text was printed, it fits and ends with its last byte
@@ -186,56 +168,25 @@ ended bytes room n h = go (leb (length bytes) room) refl h
     go true e h = (cc, leb-true (length bytes) room e)
     go false e h = absurd (let z : ◌≡◌ {A = ℕ} 0 1 = cc in omega arith)
 
--- and stands at the start of the buffer
-pub printed-start : (bytes out after : List ℕ) (n : ℕ) → PrintedAs bytes out (answer.Value n) after → take n after ≡ bytes
-printed-start bytes out after n p =
-    let fits = ended bytes (length out) n p.0 in
-    cc (fits.0, p.1, take-sets out bytes fits.1)
+-- demand 3 holds of what is printed
+printed-demand :
+    (text : List ℕ) (S : Sheet) → read_sheet text ≡ got S → (out after : List ℕ) (r : Answer)
+    → PrintedAs (sheet_text S) out r after → Demand3Of r text after
+printed-demand text S e out after (answer.Value n) p =
+    let fits = ended (sheet_text S) (length out) n p.0 in
+    let same : take n after ≡ sheet_text S = cc (fits.0, p.1, take-sets out (sheet_text S) fits.1) in
+    rw same (demand-three text S e)
+printed-demand text S e out after (answer.Refused r) p = tt
 
--- demands 3 and 2 hold of what is printed
-module _ (text : List ℕ) (S : Sheet) (e : read_sheet text ≡ got S) (out after : List ℕ) where
-  printed-demand : (r : Answer) → PrintedAs (sheet_text S) out r after → Demand3Of r text after
-  printed-demand (answer.Value end) p = rw (printed-start (sheet_text S) out after end p) (demand-three text S e)
-  printed-demand (answer.Refused r) p = tt
-
-  printed-back : (r : Answer) → PrintedAs (sheet_text S) out r after → TableBackOf r text after
-  printed-back (answer.Value end) p =
-      λ T is.
-      let same : S ≡ T = cc in
-      rw (printed-start (sheet_text S) out after end p, ← same) (table-back text S e)
-  printed-back (answer.Refused r) p = tt
-
--- the table of a sheet that was read, printed: demands 3 and 2 hold of it, and what is promised of four-place percentages
+-- the table of a sheet that was read, printed: demand 3 holds of it, and what is promised of four-place percentages
 pub sheet-printed :
     (text : List ℕ) (S : Sheet) (t : Table) → read_sheet text ≡ got S → t ≡ table_for S → (out after : List ℕ) (r : Answer)
     → PrintedAs (table_text t) out r after
     → (r ≡ print_read (read_sheet text) sheet_text (length out))
-    × ((after ≡ afterwards (is_value r) out (values_of (read_sheet text) sheet_text))
-    × (Demand3Of r text after × (FourPlaces text r out after × TableBackOf r text after)))
+    × ((after ≡ afterwards (is_value r) out (values_of (read_sheet text) sheet_text)) × (Demand3Of r text after × FourPlaces text r out after))
 unfolding sheet_text
 sheet-printed text S t e same out after r p =
     let q : PrintedAs (table_text (table_for S)) out r after = subst (λ (x : Table). PrintedAs (table_text x) out r after) same p in
     let answered : r ≡ print_read (read_sheet text) sheet_text (length out) = rw e q.0 in
-    let written : after ≡ afterwards (is_value r) out (values_of (read_sheet text) sheet_text) = rw e q.1 in (
-      answered,
-      (written, (printed-demand text S e out after r q, (four-places text r out after answered written, printed-back text S e out after r q))),
-    )
-
--- demand 3 of the numbers that the one call leaves
-pub planned-demand :
-    (text : List ℕ) (a : ℕ) (out after : List ℕ) (r : Planned) → r ≡ plan_answer text a (length out)
-    → after ≡ afterwards (is_plan r) out (values_of (read_sheet text) cells_for) → Demand3Planned r text after
-unfolding cells_for table_for
-planned-demand text a out after (Refused w) answer filled = tt
-planned-demand text a out after (Made p) answer filled =
-    let M = plan-made text a (length out) p (sym answer) in
-    let S = M.sheet in
-    let count : 4 * p.rules ≡ length (cells_for S) = ap (λ (x : Plan). 4 * x.rules) M.is ∙ sym (length-cells (table_for S).lines) in
-    let stored : after ≡ sets out 0 (cells_for S) = rw M.read at filled in
-    record {
-      lines = (table_for S).lines;
-      same = cc (count, stored, take-sets out (cells_for S) (omega (arith, M.room)));
-      holds =
-          subst⁻¹ (λ (x : Plan). Demand3Table text (record { k = x.k; total = x.total; lines = (table_for S).lines })) M.is
-          (table-demand text S M.read);
-    }
+    let written : after ≡ afterwards (is_value r) out (values_of (read_sheet text) sheet_text) = rw e q.1 in
+    (answered, (written, (printed-demand text S e out after r q, four-places text r out after answered written)))

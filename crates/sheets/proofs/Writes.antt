@@ -1,5 +1,5 @@
 -- Writing one part after the other writes their bytes after each other.
-use Prim.Native.Nat.{ℕ, suc, ◌+◌, ◌≤◌, ◌<◌}
+use Prim.Native.Nat.{ℕ, suc, ◌+◌, ◌<◌}
 use mathlib.Core.Path.{◌≡◌, refl, sym, ap, ◌∙◌}
 use mathlib.Core.List.{List, [], ◌∷◌, ◌++◌}
 use native.Mathlib.Nat.{add-zero, add-suc, suc-add}
@@ -18,25 +18,24 @@ sets-append l at (x ∷ xs) ys =
     sets-append (set l at x) (suc at) xs ys
     ∙ ap (λ (i : ℕ). sets (sets (set l at x) (suc at) xs) i ys) (suc-add at (length xs) ∙ sym (add-suc at (length xs)))
 
-pub same_length : {a b : List ℕ} {i j : ℕ} {xs : List ℕ} → Wrote a b i j xs → length b ≡ length a
-same_length {a} {b} {i} {j} {xs} w = ap length w.holds ∙ length-sets a i xs
-
 module _ {a b c : List ℕ} {i j k : ℕ} {xs ys : List ℕ} where
   pub chain : Wrote a b i j xs → Wrote b c j k ys → Wrote a c i k (xs ++ ys)
   chain p q =
       record {
         ends = omega (arith, p.ends, q.ends, length-append xs ys);
         holds = q.holds ∙ rw (p.ends, p.holds) (sym (sets-append a i xs ys));
-        fits = omega (arith, q.fits, same_length p);
       }
 
 -- nothing
-pub nothing : (l : List ℕ) (i : ℕ) → i ≤ length l → Wrote l l i i []
-nothing l i h = record { ends = omega arith; holds = refl; fits = h }
+pub nothing : (l : List ℕ) (i : ℕ) → Wrote l l i i []
+nothing l i = record { ends = omega arith; holds = refl }
 
 -- one byte
-pub byte : (l : List ℕ) (i b : ℕ) → i < length l → Wrote l (set l i b) i (i + 1) (b ∷ [])
-byte l i b h = record { ends = refl; holds = refl; fits = omega arith }
+pub byte : (l : List ℕ) (i b : ℕ) → Wrote l (set l i b) i (i + 1) (b ∷ [])
+byte l i b = record { ends = refl; holds = refl }
+
+pub same_length : {a b : List ℕ} {i j : ℕ} {xs : List ℕ} → Wrote a b i j xs → length b ≡ length a
+same_length {a} {b} {i} {j} {xs} w = ap length w.holds ∙ length-sets a i xs
 
 -- a text that fits was written
 module _
@@ -53,7 +52,7 @@ module _
     ends-in = is ∙ sym (written out at bs (omega arith)).0
 
     pub text : Wrote out after at (end_at w) bs
-    text = record { ends = rw ends-in; holds = put-it ∙ sym (written out at bs (omega arith)).1; fits = rw ends-in (omega arith) }
+    text = record { ends = rw ends-in; holds = put-it ∙ sym (written out at bs (omega arith)).1 }
 
     pub before-end : Before w (length after)
     before-end = rw ends-in (omega (arith, same_length text))

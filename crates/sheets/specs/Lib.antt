@@ -11,4 +11,6 @@ pub mod Shares
 pub mod Update
 pub mod Demand
 pub mod FourPlaces
+pub mod Cases
+pub mod TwelveCases
 pub mod Inner

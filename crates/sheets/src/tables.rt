@@ -7,7 +7,6 @@ ghost use Rattle.packing.specs.Count.{own_rules};
 ghost use Rattle.packing.specs.Answer.{cells};
 ghost use Rattle.sheets.specs.RuleSheet.{read_table};
 ghost use Rattle.sheets.specs.Calls as calls;
-ghost use Rattle.sheets.specs.Demand.{WritesBackOf};
 ghost use Rattle.sheets.specs.Inner.TableNumbers.{lines_in, RuleLines};
 ghost use Rattle.sheets.specs.Inner.TableReader.{Found, table_of};
 
@@ -20,7 +19,6 @@ pub fn read_table(text: &[u8], table: &mut [usize]) -> TableRead
     ensures answer { result ≡ calls.read_answer text.now (length table.old) }
     ensures buffer { table.new ≡ calls.afterwards (calls.is_table result) table.old
         (calls.values_of (read_table text.now) (λ t. cells t.lines)) }
-    ensures back { WritesBackOf result text.now table.new }
 {
     // what stands there first means nothing; ones are stored by the word, zeros by the byte
     let mut lines = [1usize; CELLS];

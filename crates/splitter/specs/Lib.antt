@@ -1,3 +1,2 @@
 -- What the functions that read a text promise.
 pub mod Input
-pub mod Words

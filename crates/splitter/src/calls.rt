@@ -257,16 +257,6 @@ pub fn gauge() {
     }
 }
 
-// splitter --version
-pub fn version() {
-    if !arguments::are(0, Command::Version) {
-        return;
-    }
-    let mut out = [0u8; commands::ROOM];
-    let n = commands::version(&mut out);
-    output::print(output::text(&out, n));
-}
-
 // splitter help
 pub fn help() {
     if !arguments::are(0, Command::Help) {

@@ -2,8 +2,8 @@
 ghost use Rattle.std.specs.Prelude.{◌≡◌, ◌≤◌, length};
 ghost use Rattle.splitter.specs.Input.{bytes, Came, judged};
 
+use crate::arguments;
 use crate::part::start;
-use crate::{arguments, words};
 use libc::{EINTR, STDIN_FILENO};
 
 // A text's bytes, or that it can't be read, which was then told on standard error.
@@ -83,7 +83,7 @@ fn read_open(file: i32, name: &[u8], text: &mut [u8]) -> Read
 {
     let read = read_whole(file, text);
     if let Read::Failed = read {
-        words::fail(name);
+        os::fail(name);
     }
     read
 }
@@ -101,7 +101,7 @@ fn read_named(name: &[u8], text: &mut [u8]) -> Read
 {
     let file = os::open_read(name);
     if file < 0 {
-        words::fail(name);
+        os::fail(name);
         return Read::Failed;
     }
     let read = read_open(file, name, text);

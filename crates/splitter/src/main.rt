@@ -4,7 +4,6 @@ mod calls;
 mod input;
 mod output;
 mod part;
-mod words;
 
 use commands::Command;
 
@@ -23,7 +22,6 @@ fn main() {
         Command::Stage => calls::stage(),
         Command::Gauge => calls::gauge(),
         Command::Help => calls::help(),
-        Command::Version => calls::version(),
-        Command::Unknown => arguments::unknown(),
+        Command::Unknown => output::complain(b"splitter: no such command\n", Command::Unknown),
     }
 }

@@ -24,19 +24,18 @@ use Rattle.sheets.proofs.OrderedLines.{read-proper}
 use Rattle.sheets.proofs.Readings.{got_same}
 use Rattle.sheets.proofs.TableChecks.{InOrder, formed}
 use Rattle.stages.specs.Stages.{Change, row}
-use Rattle.stages.specs.Lines.{stage_text}
+use Rattle.stages.specs.Lines.{stage_rules, stage_text}
 use Rattle.stages.specs.Calls.{change_of, of_change, of_sheets, values_for, place_of, places_answer, places_written, lines_answer, lines_written}
-use Rattle.stages.specs.Promise.{PromisedRow, PromisedStage}
+use Rattle.stages.specs.Promise.{Staged, PromisedRow, PromisedStage}
 use Rattle.stages.specs.Inner.Nodes.{at}
 use Rattle.stages.specs.Inner.Row.{row_of, judged, Served}
 use Rattle.stages.specs.Inner.Both.{BothRead}
 use Rattle.stages.specs.Inner.Handed.{handed, text_at}
 use Rattle.stages.specs.Inner.Spread.{Spread}
-use Rattle.stages.proofs.CrowdedStages.{one-stage, answered-free}
 use Rattle.stages.proofs.OneChange.{judges, handed-same, change-is, handed-fits, handed-row, stage-text}
+use Rattle.stages.proofs.PrintedLines.{stage-printed, stage-counted}
 use Rattle.stages.proofs.ReadSheets.{of-tables}
-use Rattle.stages.proofs.OneRow.{row-staged}
-use Rattle.stages.proofs.Rows.{row_is}
+use Rattle.stages.proofs.Rows.{row_is, staged-row}
 
 -- a service with lines has a number in its limits
 count_none : (n : ℕ) → count_of n [] ≡ 0
@@ -110,6 +109,9 @@ module _ (old new : List ℕ) (n k : ℕ) (before after : List ℕ) (R : BothRea
   same_tables t u a b =
       ap₂ (λ (x y : Table). change_of x y n) (got_same (sym a ∙ R.first)) (got_same (sym b ∙ R.second)) ∙ same-change
 
+  staged : (limit : ℕ) → 1 ≤ limit → Staged C limit (row C limit)
+  staged limit l = staged-row C limit l (stage-counted C)
+
   module _ (limit capacity room : ℕ) where
     abbrev answer₁ : Answer
     answer₁ = handed (judged k f₀ g₀ limit capacity 1) (row_of k f₀ g₀ limit) room
@@ -146,7 +148,7 @@ module _ (old new : List ℕ) (n k : ℕ) (before after : List ℕ) (R : BothRea
         let written : take m exit ≡ row C limit =
         ap₂ (λ (i : ℕ) (x : List ℕ). take i x) fits.0 filled ∙ take-sets out (row_of k f₀ g₀ limit) (omega (arith, fits.1))
         ∙ sym (row_same limit (some-limit m here)) in
-        rw (same_tables t u a b, written) (row-staged C limit (some-limit m here))
+        rw (same_tables t u a b, written) (staged limit (some-limit m here))
 
   -- the place of a stage
   place_same : (limit number : ℕ) → 1 ≤ limit → place_of C limit number ≡ get_or (row_of k f₀ g₀ limit) (number - 1) 0
@@ -163,14 +165,12 @@ module _ (old new : List ℕ) (n k : ℕ) (before after : List ℕ) (R : BothRea
     text_same : 1 ≤ limit → stage_text C n (place_of C limit number) ≡ text
     text_same l = ap (stage_text C n) (place_same limit number l) ∙ stage-text C f₀ g₀ R.spread_first.at R.spread_second.at n _
 
-    lines_are : of_change C limit capacity number (stage_text C n (place_of C limit number)) room ≡ answer₂
-    lines_are =
-        change-is C f₀ g₀ R.spread_first.at R.spread_second.at limit capacity number (stage_text C n (place_of C limit number)) room
-        ∙ handed-same k f₀ g₀ limit capacity number (stage_text C n (place_of C limit number)) text room text_same
-
     pub lines-answer : answer₂ ≡ lines_answer old new n limit capacity number room
     unfolding lines_answer
-    lines-answer = sym (sheets-are (λ D. of_change D limit capacity number (stage_text D n (place_of D limit number)) room) ∙ lines_are)
+    lines-answer =
+        sym (sheets-are (λ D. of_change D limit capacity number (stage_text D n (place_of D limit number)) room)
+        ∙ change-is C f₀ g₀ R.spread_first.at R.spread_second.at limit capacity number (stage_text C n (place_of C limit number)) room
+        ∙ handed-same k f₀ g₀ limit capacity number (stage_text C n (place_of C limit number)) text room text_same)
 
     some-limit₂ : (m : ℕ) → answer₂ ≡ answer.Value m → 1 ≤ limit
     some-limit₂ m e =
@@ -187,7 +187,8 @@ module _ (old new : List ℕ) (n k : ℕ) (before after : List ℕ) (R : BothRea
     pub lines-promised : (r : Answer) (out exit : List ℕ) → r ≡ answer₂ → length out ≡ room → exit ≡ afterwards (is_value r) out text
         → (m : ℕ)
         → r ≡ answer.Value m
-        → PromisedStage old new n limit capacity number (take m exit)
+        → PromisedStage old new n limit number (take m exit)
+    unfolding stage_text
     lines-promised r out exit e long is m v t u a b =
         let here = sym e ∙ v in
         let some = some-limit₂ m here in
@@ -195,8 +196,8 @@ module _ (old new : List ℕ) (n k : ℕ) (before after : List ℕ) (R : BothRea
         let filled : exit ≡ sets out 0 text = is ∙ ap (λ (x : Answer). afterwards (is_value x) out text) v in
         let written : take m exit ≡ stage_text C n (place_of C limit number) =
         ap₂ (λ (i : ℕ) (x : List ℕ). take i x) fits.0 filled ∙ take-sets out text (omega (arith, fits.1)) ∙ sym (text_same some) in
-        let found = answered-free C limit capacity number (stage_text C n (place_of C limit number)) room m (lines_are ∙ here) in
-        rw (same_tables t u a b, written) (one-stage C limit capacity number n found.0 found.1)
+        let depth : t.k ≡ k = ap (λ (x : Table). x.k) (got_same (sym a ∙ R.first)) ∙ R.depth in
+        rw (same_tables t u a b, depth) (staged limit some, (stage_rules C (place_of C limit number), written, stage-printed C (place_of C limit number)))
 
 -- what is refused of both sheets is the answer of each call, and nothing is promised of it
 module _ (old new : List ℕ) (n : ℕ) (w : Why) (no : (f : Change → Answer) → of_sheets old new n f ≡ answer.Refused w) where

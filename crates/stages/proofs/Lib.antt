@@ -7,9 +7,8 @@ pub mod LargestLines
 pub mod PrintedLines
 pub mod StageChurn
 pub mod Rows
-pub mod OneRow
-pub mod CrowdedStages
 pub mod CutRow
 pub mod OneChange
 pub mod BothCalls
 pub mod StageText
+pub mod Cases

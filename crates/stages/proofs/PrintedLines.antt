@@ -18,13 +18,13 @@ use Rattle.numerals.specs.Sums.{all_to}
 use Rattle.numerals.proofs.Place.{place-zero, place-lt, place-involution}
 use Rattle.numerals.proofs.Searches.{clash}
 use Rattle.numerals.proofs.Sums.{count-ext}
-use Rattle.expansion.specs.FirstMatch.{covers, is_rule, matches, first_match, differing, churn}
+use Rattle.expansion.specs.FirstMatch.{is_rule, matches, first_match, differing, churn}
 use Rattle.expansion.specs.declared.rule.Rule.{Rule}
 use Rattle.expansion.proofs.FirstMatch.{rule-bits, is-rule, low-low}
 use Rattle.expansion.proofs.Nodes.{covered-true, covered-at, rule-inside}
 use Rattle.stages.specs.Stages.{Change, stage_at, stage_churn}
 use Rattle.stages.specs.Lines.{one_holds, largest_of, stage_rules}
-use Rattle.stages.specs.Promise.{In, Reordered, lowest_place, Tiles, OneLarger, Printed}
+use Rattle.stages.specs.Promise.{In, Reordered, lowest_place, size, Tiles, OneLarger, Printed}
 use Rattle.stages.proofs.LargestLines.{half-mod, left-from, right-from}
 
 -- each rule of a list is so
@@ -52,23 +52,23 @@ all_in P rs a r n = subst P n.2 (all-at P rs a n.0 n.1 r)
 tiles-append : (k a b c : ℕ) (rs qs : List Rule) → Tiles k a rs b → Tiles k b qs c → Tiles k a (rs ++ qs) c
 unfolding Tiles
 tiles-append k a b c [] qs t u = subst (λ (x : ℕ). Tiles k x qs c) (sym t) u
-tiles-append k a b c (r ∷ rs) qs t u = (t.0, tiles-append k (a + covers k r) b c rs qs t.1 u)
+tiles-append k a b c (r ∷ rs) qs t u = (t.0, tiles-append k (a + size k r) b c rs qs t.1 u)
 
 -- a rule's places begin where those of the one before it end
 tiles-next : (k a b : ℕ) (rs : List Rule) → Tiles k a rs b → (i : ℕ) → suc i < length rs → (d : Rule)
-    → lowest_place k (get_or rs (suc i) d) ≡ lowest_place k (get_or rs i d) + covers k (get_or rs i d)
+    → lowest_place k (get_or rs (suc i) d) ≡ lowest_place k (get_or rs i d) + size k (get_or rs i d)
 unfolding Tiles
 tiles-next k a b [] t i l d = absurd (omega arith)
 tiles-next k a b (r ∷ []) t i l d = absurd (omega arith)
-tiles-next k a b (r ∷ q ∷ rs) t zero l d = t.1.0 ∙ ap (λ (x : ℕ). x + covers k r) (sym t.0)
-tiles-next k a b (r ∷ q ∷ rs) t (suc i) l d = tiles-next k (a + covers k r) b (q ∷ rs) t.1 i (omega arith) d
+tiles-next k a b (r ∷ q ∷ rs) t zero l d = t.1.0 ∙ ap (λ (x : ℕ). x + size k r) (sym t.0)
+tiles-next k a b (r ∷ q ∷ rs) t (suc i) l d = tiles-next k (a + size k r) b (q ∷ rs) t.1 i (omega arith) d
 
 -- the rule of a place
 record At (k q : ℕ) (rs : List Rule) : Type 0 where
   pub rule : Rule
   pub among : In rule rs
   pub from : lowest_place k rule ≤ q
-  pub to : q < lowest_place k rule + covers k rule
+  pub to : q < lowest_place k rule + size k rule
 
 in-cons : (r x : Rule) (rs : List Rule) → In r rs → In r (x ∷ rs)
 in-cons r x rs n = (suc n.0, omega (arith, n.1), n.2)
@@ -76,12 +76,12 @@ in-cons r x rs n = (suc n.0, omega (arith, n.1), n.2)
 tiles-at : (k a b q : ℕ) (rs : List Rule) → Tiles k a rs b → a ≤ q → q < b → At k q rs
 unfolding Tiles
 tiles-at k a b q [] t f o = absurd (omega arith)
-tiles-at k a b q (r ∷ rs) t f o = go (dec_lt q (a + covers k r)) (tiles-at k (a + covers k r) b q rs t.1)
+tiles-at k a b q (r ∷ rs) t f o = go (dec_lt q (a + size k r)) (tiles-at k (a + size k r) b q rs t.1)
   where
     more : At k q rs → At k q (r ∷ rs)
     more h = record { rule = h.rule; among = in-cons h.rule r rs h.among; from = h.from; to = h.to }
 
-    go : Dec (q < a + covers k r) → (a + covers k r ≤ q → q < b → At k q rs) → At k q (r ∷ rs)
+    go : Dec (q < a + size k r) → (a + size k r ≤ q → q < b → At k q rs) → At k q (r ∷ rs)
     go (yes l) ih = record { rule = r; among = (0, omega arith, refl); from = omega (arith, t.0); to = omega (arith, t.0) }
     go (no l) ih = more (ih (omega arith) o)
 
@@ -231,7 +231,7 @@ module _ (k : ℕ) (f : ℕ → ℕ) where
           (t (lower-largest n l v sum small e)) (u (upper-largest n l v sum small e))
 
   -- neighbours of one backend that are halves of one suffix
-  neighbours : (a b : Rule) → Line a → Line b → lowest_place k b ≡ lowest_place k a + covers k a → OneLarger a b → ⊥
+  neighbours : (a b : Rule) → Line a → Line b → lowest_place k b ≡ lowest_place k a + size k a → OneLarger a b → ⊥
   neighbours a b A B next o =
       A.largest m a.backend (omega arith) (λ s l e. go s l (halves m a.value b.value (s % 2 ^ suc m)
       (subst (λ (x : ℕ). a.value < 2 ^ x) long (rule-bits k a A.formed))

@@ -1,4 +1,4 @@
--- The row of stages: one walk over the places finds it, no other row has fewer stages, each ends at the largest place, and equal tables make one.
+-- The row of stages: one walk over the places finds it, and no other row has fewer stages.
 use Prim.Native.Nat.{ℕ, zero, suc, ◌+◌, ◌-◌, ◌^◌, ◌≤◌, ◌<◌}
 use mathlib.Core.Bool.{Bool, true, false, not}
 use mathlib.Core.List.{List, [], ◌∷◌, ◌++◌, append_assoc, append-nil}
@@ -10,7 +10,7 @@ use lib.Dec.{eqb, leb, ltb}
 use lib.ListN.{length, get_or, length-append, get_or-append}
 use lib.Pow.{pow_pos}
 use lib.Seq.{get_or-append-add}
-use borrow.Author.Tests.{eq-eqb, ne_eqb, lt-ltb, le-ltb, le-leb, lt-leb, leb-true, leb-false}
+use borrow.Author.Tests.{eq-eqb, ne_eqb, lt-ltb, le-ltb, le-leb, lt-leb, leb-true}
 use Rattle.numerals.specs.Pick.{pick, both}
 use Rattle.numerals.specs.Suffix.{place}
 use Rattle.numerals.specs.Sums.{count_to}
@@ -20,9 +20,9 @@ use Rattle.numerals.proofs.Sums.{count-suc}
 use Rattle.expansion.specs.FirstMatch.{first_match, churn}
 use Rattle.stages.specs.Stages.{Change, stage_at, stage_churn, next_place, row_from, row}
 use Rattle.stages.specs.Lines.{stage_rules}
-use Rattle.stages.specs.Promise.{Within, Farthest, Staged}
+use Rattle.stages.specs.Promise.{Within, Staged}
 use Rattle.stages.specs.Inner.Row.{unlike, moved_to, cuts_to, row_of}
-use Rattle.stages.proofs.StageChurn.{count_none, count-mono, same-passes, differ, churn-up}
+use Rattle.stages.proofs.StageChurn.{count-mono, differ, churn-up}
 
 -- the next place
 
@@ -34,9 +34,9 @@ module _ (C : Change) (limit p : ℕ) where
   unfolding next_place
   next-largest = largest-is (2 ^ C.k) near
 
-  pub next-is : (q : ℕ) → q ≤ 2 ^ C.k → stage_churn C p q ≤ limit → ((r : ℕ) → q < r → r ≤ 2 ^ C.k → limit < stage_churn C p r)
-      → q ≡ next_place C limit p
-  next-is q few low high =
+  pub next-is : (q : ℕ) → 1 ≤ q → q ≤ 2 ^ C.k → stage_churn C p q ≤ limit
+      → ((r : ℕ) → q < r → r ≤ 2 ^ C.k → limit < stage_churn C p r) → q ≡ next_place C limit p
+  next-is q some few low high =
       largest-unique (2 ^ C.k) near q (next_place C limit p)
       (record { most = few; passes = λ l. le-leb (stage_churn C p q) limit low; above = λ r l m. lt-leb (stage_churn C p r) limit (high r l m) })
       next-largest
@@ -48,10 +48,6 @@ module _ (C : Change) (limit p : ℕ) where
       go : Dec (next_place C limit p < q) → q ≤ next_place C limit p
       go (yes l) = absurd (clash (near q) (le-leb (stage_churn C p q) limit low) (next-largest.above q l few))
       go (no l) = omega arith
-
-  -- and a place above it exceeds the limit
-  next-exceeds : (r : ℕ) → next_place C limit p < r → r ≤ 2 ^ C.k → limit < stage_churn C p r
-  next-exceeds r l m = leb-false (stage_churn C p r) limit (next-largest.above r l m)
 
   pub next-most : next_place C limit p ≤ 2 ^ C.k
   next-most = next-largest.most
@@ -70,7 +66,7 @@ module _ (C : Change) (limit p : ℕ) where
     pub next-within : stage_churn C p (next_place C limit p) ≤ limit
     next-within = leb-true (stage_churn C p (next_place C limit p)) limit (next-largest.passes (omega (arith, next-above)))
 
-pub row_step : (C : Change) (limit n p : ℕ)
+row_step : (C : Change) (limit n p : ℕ)
     → row_from C limit (suc n) p
     ≡ next_place C limit p ∷ pick (ltb (next_place C limit p) (2 ^ C.k)) (row_from C limit n (next_place C limit p)) []
 unfolding row_from
@@ -197,7 +193,7 @@ module _ (C : Change) (limit : ℕ) (some : 1 ≤ limit) where
 
       next : p ≡ next_place C limit W.from
       next =
-          next-is C limit W.from p (omega arith)
+          next-is C limit W.from p (omega (arith, later)) (omega arith)
           (omega (arith, churn-up C W.from p W.few (omega arith), W.counted))
           (λ r l m. omega (arith, churn-up C W.from r (omega (arith, W.few)) m, W.counted, more, count-mono d (suc p) r l))
 
@@ -240,7 +236,7 @@ module _ (C : Change) (limit : ℕ) (some : 1 ≤ limit) where
         where
           next : 2 ^ C.k ≡ next_place C limit W.from
           next =
-              next-is C limit W.from (2 ^ C.k) (omega arith)
+              next-is C limit W.from (2 ^ C.k) (pow_pos C.k) (omega arith)
               (omega (arith, churn-up C W.from (2 ^ C.k) W.few (omega arith), W.counted, W.low))
               (λ r l m. absurd (omega arith))
 
@@ -387,25 +383,6 @@ module _ (C : Change) (limit : ℕ) (some : 1 ≤ limit) where
   unfolding row
   row-fewest qs w = fewest-from (2 ^ C.k) 0 0 qs (omega arith) (pow_pos C.k) w
 
-  -- each place of it is the largest
-  farthest-from : (n p : ℕ) → Farthest C limit p (row_from C limit n p)
-  unfolding Farthest row_from
-  farthest-from zero p = tt
-  farthest-from (suc n) p = (
-    next-exceeds C limit p,
-    rest (ltb (next_place C limit p) (2 ^ C.k)) (farthest-from n (next_place C limit p)),
-  )
-    where
-      rest : (t : Bool) → Farthest C limit (next_place C limit p) (row_from C limit n (next_place C limit p))
-          → Farthest C limit (next_place C limit p) (pick t (row_from C limit n (next_place C limit p)) [])
-      rest true h = h
-      rest false h = tt
-
-  row-farthest : Farthest C limit 0 (row C limit)
-  unfolding row
-  row-farthest = farthest-from (2 ^ C.k) 0
-
-module _ (C : Change) where
   first-stage : (s : ℕ) → s < 2 ^ C.k → stage_at C 0 s ≡ first_match C.old s
   unfolding stage_at
   first-stage s l = rw (le-ltb (place C.k s) 0 (omega arith))
@@ -414,34 +391,5 @@ module _ (C : Change) where
   unfolding stage_at
   last-stage s l = rw (lt-ltb (place C.k s) (2 ^ C.k) (place-lt C.k s))
 
--- equal tables
-module _ (C : Change) (limit : ℕ) (same : (s : ℕ) → s < 2 ^ C.k → first_match C.old s ≡ first_match C.new s) where
-  no-churn : stage_churn C 0 (2 ^ C.k) ≡ 0
-  unfolding stage_churn
-  no-churn =
-      count_none (2 ^ C.k) (λ s. not (eqb (stage_at C 0 s) (stage_at C (2 ^ C.k) s)))
-      (λ s l. same-passes _ _ (first-stage C s l ∙ same s l ∙ sym (last-stage C s l)))
-
-  next-whole : 2 ^ C.k ≡ next_place C limit 0
-  next-whole = next-is C limit 0 (2 ^ C.k) (omega arith) (omega (arith, no-churn)) (λ r l m. absurd (omega arith))
-
-  pub equal-one-stage : row C limit ≡ 2 ^ C.k ∷ []
-  unfolding row
-  equal-one-stage = by (2 ^ C.k) refl
-    where
-      by : (n : ℕ) → 2 ^ C.k ≡ n → row_from C limit n 0 ≡ 2 ^ C.k ∷ []
-      by zero e = absurd (omega (arith, pow_pos C.k))
-      by (suc n) e = rw (row_step C limit n 0, ← next-whole, le-ltb (2 ^ C.k) (2 ^ C.k) (omega arith))
-
-pub staged-row : (C : Change) (limit : ℕ) → 1 ≤ limit → ((p q : ℕ) → stage_churn C p q ≡ churn C.k (stage_rules C p) (stage_rules C q))
-    → Staged C limit (row C limit)
-staged-row C limit some counted =
-    record {
-      first = first-stage C;
-      within = row_within C limit some;
-      last = last-stage C;
-      fewest = row-fewest C limit some;
-      counted = counted;
-      farthest = row-farthest C limit some;
-      equal = equal-one-stage C limit;
-    }
+  pub staged-row : ((p q : ℕ) → stage_churn C p q ≡ churn C.k (stage_rules C p) (stage_rules C q)) → Staged C limit (row C limit)
+  staged-row counted = record { first = first-stage; within = row_within; last = last-stage; fewest = row-fewest; counted = counted }

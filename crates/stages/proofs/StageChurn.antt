@@ -59,7 +59,7 @@ count-between d t p q n l m low mid high = omega (arith, count-from d t p q l lo
 
 -- tests of equal numbers
 
-pub same-passes : (a b : ℕ) → a ≡ b → not (eqb a b) ≡ false
+same-passes : (a b : ℕ) → a ≡ b → not (eqb a b) ≡ false
 same-passes a b e = rw (eq-eqb a b e)
 
 pub eqb-sym : (a b : ℕ) → eqb a b ≡ eqb b a

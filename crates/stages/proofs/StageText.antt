@@ -231,7 +231,7 @@ module _
           within = next-within (at stage) k p l G.edge;
           wrote =
               rw (more, text-append service (starts_to (at stage) k p) (rule ∷ []), text-one service rule)
-              (chain G.wrote (record { ends = a; holds = b; fits = omega (arith, a, fits) }));
+              (chain G.wrote (record { ends = a; holds = b }));
           edge = next_edge (at stage) k p l G.edge;
         }
 

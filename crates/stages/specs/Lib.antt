@@ -3,4 +3,5 @@ pub mod Stages
 pub mod Lines
 pub mod Calls
 pub mod Promise
+pub mod Cases
 pub mod Inner

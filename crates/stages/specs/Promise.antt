@@ -1,29 +1,19 @@
 -- What the request promises beyond the definitions (document 02, Req 06), in its own words.
 use Rattle.std.specs.Prelude.{ℕ, suc, ◌+◌, ◌-◌, ◌*◌, ◌%◌, ◌^◌, ◌≤◌, ◌<◌, true, ◌≡◌, List, [], ◌∷◌, length, get_or}
-use Rattle.numerals.specs.Refusals.{no14}
 use Rattle.numerals.specs.Suffix.{place}
-use Rattle.expansion.specs.FirstMatch.{is_rule, covers, first_match, churn}
+use Rattle.expansion.specs.FirstMatch.{is_rule, first_match, churn}
 use Rattle.expansion.specs.declared.rule.Rule.{Rule}
 use Rattle.sheets.specs.Reading.{got}
 use Rattle.packing.specs.Table.{lines_of}
 use Rattle.sheets.specs.RuleSheet.{Table, lines_text, read_table}
-use Rattle.sheets.specs.Calls.{refused_at, has_service}
-use Rattle.sheets.specs.declared.answer.Refused.{Refused as Why}
-use Rattle.sheets.specs.declared.answer.Answer.{Answer}
-use Rattle.sheets.specs.declared.answer.Answer.TheVariants.{Refused}
-use Rattle.stages.specs.Stages.{Change, stage_at, stage_churn}
+use Rattle.stages.specs.Stages.{Change, stage_at, stage_churn, row}
 use Rattle.stages.specs.Lines.{stage_rules}
-use Rattle.stages.specs.Calls.{change_of, in_range}
+use Rattle.stages.specs.Calls.{change_of, place_of}
 
 -- a row of places, 0 to 2^k each, after the stage at p: each has a churn from the one before that is within the limit, and the last is 2^k
 unfoldable pub Within : Change → ℕ → ℕ → List ℕ → Type 0
 Within C limit p [] = p ≡ 2 ^ C.k
 Within C limit p (q ∷ qs) = (q ≤ 2 ^ C.k) × ((stage_churn C p q ≤ limit) × Within C limit q qs)
-
--- each place of a row after the stage at p is the largest: any larger one has a churn from the stage before that exceeds the limit
-unfoldable pub Farthest : Change → ℕ → ℕ → List ℕ → Type 0
-Farthest C limit p [] = Unit {0}
-Farthest C limit p (q ∷ qs) = ((r : ℕ) → q < r → r ≤ 2 ^ C.k → limit < stage_churn C p r) × Farthest C limit q qs
 
 -- a row of places as promised
 pub record Staged (C : Change) (limit : ℕ) (ps : List ℕ) : Type 0 where
@@ -36,10 +26,6 @@ pub record Staged (C : Change) (limit : ℕ) (ps : List ℕ) : Type 0 where
   pub fewest : (qs : List ℕ) → Within C limit 0 qs → length ps ≤ length qs
   -- their churn is document 01's, from list to list
   pub counted : (p q : ℕ) → stage_churn C p q ≡ churn C.k (stage_rules C p) (stage_rules C q)
-  -- each ends at the largest place
-  pub farthest : Farthest C limit 0 ps
-  -- equal tables make one stage
-  pub equal : ((s : ℕ) → s < 2 ^ C.k → first_match C.old s ≡ first_match C.new s) → ps ≡ 2 ^ C.k ∷ []
 
 -- the rule is one of these
 abbrev pub In : Rule → List Rule → Type 0
@@ -50,14 +36,17 @@ pub record Reordered (rs qs : List Rule) : Type 0 where
   pub each : (r : Rule) → In r rs → In r qs
   pub only : (r : Rule) → In r qs → In r rs
 
--- the lowest k-bit place that a rule covers
+-- the lowest k-bit place that a rule covers, and how many it covers
 abbrev pub lowest_place : ℕ → Rule → ℕ
-lowest_place k r = place r.len r.value * covers k r
+lowest_place k r = place r.len r.value * 2 ^ (k - r.len)
+
+abbrev pub size : ℕ → Rule → ℕ
+size k r = 2 ^ (k - r.len)
 
 -- one behind the other, the rules cover the places from a to b
 unfoldable pub Tiles : ℕ → ℕ → List Rule → ℕ → Type 0
 Tiles k a [] b = a ≡ b
-Tiles k a (r ∷ rs) b = (lowest_place k r ≡ a) × Tiles k (a + covers k r) rs b
+Tiles k a (r ∷ rs) b = (lowest_place k r ≡ a) × Tiles k (a + size k r) rs b
 
 -- two suffixes of one backend that would be one larger suffix: halves of the same one
 pub record OneLarger (a b : Rule) : Type 0 where
@@ -77,47 +66,14 @@ pub record Printed (k : ℕ) (f : ℕ → ℕ) (rs : List Rule) : Type 0 where
   -- they stand by the lowest place that each covers
   pub tiled : Tiles k 0 rs (2 ^ k)
 
--- some stage of a row is crowded: its list has more lines than the capacity
-abbrev pub SomeCrowded : Change → ℕ → List ℕ → Type 0
-SomeCrowded C capacity ps = (i : ℕ) × (i < length ps) × (capacity < length (stage_rules C (get_or ps i 0)))
-
--- the change of a service that two tables have, both read and of one k
-pub record Between (old new : List ℕ) (n : ℕ) (C : Change) : Type 0 where
-  pub t : Table
-  pub u : Table
-  pub first : read_table old ≡ got t
-  pub second : read_table new ≡ got u
-  pub in_first : has_service t n ≡ true
-  pub in_second : has_service u n ≡ true
-  pub alike : t.k ≡ u.k
-  pub is : C ≡ change_of t u n
-
--- 14 is the answer if and only if there is such a change, the numbers are in their limits, and some stage of the row is crowded
-pub record Crowding (old new : List ℕ) (n limit capacity number : ℕ) (r : Answer) : Type 0 where
-  pub some :
-      (w : Why) → r ≡ Refused w → w.why ≡ no14
-      → (C : Change) × Between old new n C × (in_range C limit capacity number ≡ true) × ((ps : List ℕ) × Staged C limit ps × SomeCrowded C capacity ps)
-  pub only :
-      (C : Change) → Between old new n C → in_range C limit capacity number ≡ true → (ps : List ℕ) → Staged C limit ps → SomeCrowded C capacity ps
-      → r ≡ Refused (refused_at no14 0)
-
--- one stage as promised, by its number: that of a row none of whose stages is crowded, and the lines for the switch
-pub record OneStage (C : Change) (n limit capacity number : ℕ) (written : List ℕ) : Type 0 where
-  pub places : List ℕ
-  pub staged : Staged C limit places
-  pub free : SomeCrowded C capacity places → ⊥
-  pub numbered : (1 ≤ number) × (number ≤ length places)
-  pub rules : List Rule
-  pub lines : written ≡ lines_text (lines_of n rules)
-  pub printed : Printed C.k (stage_at C (get_or places (number - 1) 0)) rules
-  pub few : length rules ≤ capacity
-
 -- what the call for the row wrote, of the two tables that were read
 abbrev pub PromisedRow : List ℕ → List ℕ → ℕ → ℕ → List ℕ → Type 0
 PromisedRow old new n limit written =
     (t u : Table) → read_table old ≡ got t → read_table new ≡ got u → Staged (change_of t u n) limit written
 
 -- and what the call for a stage wrote: the lines of that stage of the row
-abbrev pub PromisedStage : List ℕ → List ℕ → ℕ → ℕ → ℕ → ℕ → List ℕ → Type 0
-PromisedStage old new n limit capacity number written =
-    (t u : Table) → read_table old ≡ got t → read_table new ≡ got u → OneStage (change_of t u n) n limit capacity number written
+abbrev pub PromisedStage : List ℕ → List ℕ → ℕ → ℕ → ℕ → List ℕ → Type 0
+PromisedStage old new n limit number written =
+    (t u : Table) → read_table old ≡ got t → read_table new ≡ got u
+    → Staged (change_of t u n) limit (row (change_of t u n) limit)
+    × ((rs : List Rule) × (written ≡ lines_text (lines_of n rs)) × Printed t.k (stage_at (change_of t u n) (place_of (change_of t u n) limit number)) rs)

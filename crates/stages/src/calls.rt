@@ -3,7 +3,7 @@ ghost use Rattle.std.specs.Prelude.{◌≡◌, ℕ, ◌-◌, ◌≤◌, length, 
 ghost use Rattle.numerals.specs.Limits.{most_bits, most_suffixes};
 ghost use Rattle.sheets.specs.Calls as calls;
 ghost use Rattle.stages.specs.Calls.{places_answer, places_written, lines_answer, lines_written};
-ghost use Rattle.stages.specs.Promise.{PromisedRow, PromisedStage, Crowding};
+ghost use Rattle.stages.specs.Promise.{PromisedRow, PromisedStage};
 ghost use Rattle.stages.specs.Inner.Nodes.{at};
 ghost use Rattle.stages.specs.Inner.Row.{row_of, judged, Served};
 ghost use Rattle.stages.specs.Inner.Handed.{handed, text_at};
@@ -99,7 +99,6 @@ pub fn stage_places(
         (places_written old.now new.now service limit) }
     ensures promise { (n : ℕ) → result ≡ Answer.Value n
         → PromisedRow old.now new.now service limit (take n places.new) }
-    ensures crowded { Crowding old.now new.now service limit capacity 1 result }
 {
     // nobody has any suffix yet
     let mut before = [0u16; MOST_SUFFIXES];
@@ -126,8 +125,7 @@ pub fn stage_lines(
     ensures buffer { out.new ≡ calls.afterwards (calls.is_value result) out.old
         (lines_written old.now new.now service limit number) }
     ensures promise { (n : ℕ) → result ≡ Answer.Value n
-        → PromisedStage old.now new.now service limit capacity number (take n out.new) }
-    ensures crowded { Crowding old.now new.now service limit capacity number result }
+        → PromisedStage old.now new.now service limit number (take n out.new) }
 {
     // nobody has any suffix yet
     let mut before = [0u16; MOST_SUFFIXES];

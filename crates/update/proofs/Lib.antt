@@ -5,3 +5,4 @@ pub mod BothSheets
 pub mod MadeRules
 pub mod ReadPasses
 pub mod AsItsLines
+pub mod Cases

@@ -1,34 +1,32 @@
 -- What the requests ask of an answer follows from its definition: of the r that end within it has the lowest churn and is the largest at equal churn, and
 -- where none does, no r does. Their words leave one r and one list.
-use Prim.Native.Nat.{ℕ, zero, suc, ◌*◌, ◌^◌, ◌≤◌, ◌<◌}
+use Prim.Native.Nat.{ℕ, zero, suc, ◌≤◌, ◌<◌}
 use mathlib.Core.Bool.{Bool, true, false}
 use mathlib.Core.List.{List}
-use mathlib.Core.Path.{◌≡◌, refl, ap, sym, ◌∙◌, subst, subst⁻¹}
+use mathlib.Core.Path.{◌≡◌, refl, ap, sym, ◌∙◌, subst}
 use native.Mathlib.Omega.{arith}
 use lib.Dec.{leb}
-use lib.ListN.{length, take, get_or}
+use lib.ListN.{length, take}
 use lib.Seq.{sets}
 use borrow.Author.Tests.{leb-true, leb-false}
 use Rattle.numerals.specs.Pick.{pick}
 use Rattle.numerals.specs.Buffer.{filled}
 use Rattle.numerals.specs.Refusals.{no7, no13}
 use Rattle.numerals.specs.declared.refusal.Refusal.{Refusal}
-use Rattle.expansion.specs.FirstMatch.{is_rule, covers, churn}
+use Rattle.expansion.specs.FirstMatch.{churn}
 use Rattle.expansion.specs.Imbalance.{Targets}
-use Rattle.expansion.specs.Steps.{end_of, oldest}
+use Rattle.expansion.specs.Steps.{end_of}
 use Rattle.expansion.specs.Known.{targets_known}
 use Rattle.expansion.specs.OldList.{rules_from, numbers_of}
-use Rattle.expansion.specs.Resume.{frame_from, frame_kept, list_kept, ends_within, churn_kept, kept_of, list_resumed, check_old, numbers_resumed}
+use Rattle.expansion.specs.Resume.{frame_kept, list_kept, ends_within, churn_kept, kept_of, list_resumed, check_old, numbers_resumed}
 use Rattle.expansion.specs.declared.rule.Rule.{Rule}
 use Rattle.expansion.specs.declared.call.Checked.{Checked}
 use Rattle.expansion.specs.declared.call.Checked.TheVariants.{Sound as Passed, Refused as Failed}
 use Rattle.expansion.proofs.KeptLists.{ended-within, within-ended, ended-other, early, kept-few}
-use Rattle.expansion.proofs.NewRules.{new-rule, new-half, new-smallest, added-kept}
-use Rattle.expansion.proofs.OldChecks.{old-passed}
 use Rattle.expansion.proofs.Lowest.{LowestAbove, lowest-found}
 use Rattle.sheets.proofs.OneCall.{take-sets}
 use Rattle.update.specs.Update.{update_answer, is_made}
-use Rattle.update.specs.Promise.{Ends, Least, Resumes, Kept, Stuck, PromisedFor}
+use Rattle.update.specs.Promise.{Ends, Least, Kept, Stuck, PromisedFor}
 use Rattle.update.specs.declared.answer.Update as update
 use Rattle.update.specs.declared.answer.Updated.{Updated}
 use Rattle.update.specs.declared.answer.Updated.TheVariants.{Made, Refused}
@@ -103,30 +101,12 @@ module _ (k tolerance : ℕ) (ids ws cs out : List ℕ) where
       let E = ends_found l in
       absurd (S.none kept E.some E.inside (ap (end_of (frame_kept T tolerance R kept)) (sym E.list) ∙ E.within))
 
-  -- the list of the r oldest rules has new rules in front of these, none that covers more than a kept one or than half the tree
-  resumes-kept : 1 ≤ k → (r : ℕ) → Resumes k R r (list_kept T tolerance R r)
-  unfolding frame_kept frame_from targets_known
-  resumes-kept some r =
-      let old = oldest r R in
-      let F = frame_from T tolerance old in
-      let A = added-kept T tolerance R r in
-      record {
-        added = A.0;
-        list = A.1.list;
-        formed = λ i l d. let n = A.1.new i l d in subst⁻¹ (λ (q : Rule). is_rule k q ≡ true) n.1 (new-rule F n.0);
-        half = λ i l d. let n = A.1.new i l d in subst⁻¹ (λ (q : Rule). 2 * covers k q ≤ 2 ^ k) n.1 (new-half T tolerance old some n.0);
-        smallest = λ i j l m d.
-            let n = A.1.new i l d in
-            subst⁻¹ (λ (q : Rule). covers k q ≤ covers k (get_or old j d)) n.1 (new-smallest T tolerance old n.0 j m d);
-      }
-
   kept-found : check_old k tolerance cs ids ws ≡ Passed → 0 < kept → Kept T tolerance R new (record_updated T tolerance R)
-  unfolding list_resumed churn_kept targets_known
+  unfolding list_resumed churn_kept
   kept-found passed l =
       let least = least-found l in
       record {
         least = least;
-        resumes = resumes-kept (old-passed k tolerance cs ids ws passed).valid.some_bits kept;
         depth = refl;
         rules = refl;
         few = kept-few k tolerance cs ids ws kept passed least.ends.some least.ends.inside;

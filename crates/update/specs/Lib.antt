@@ -2,3 +2,4 @@
 pub mod Update
 pub mod Promise
 pub mod Sheets
+pub mod Cases

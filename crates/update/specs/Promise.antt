@@ -1,10 +1,10 @@
 -- What Req 03 and 05 of document 02 ask of an answer, in their words.
-use Rattle.std.specs.Prelude.{ℕ, ◌*◌, ◌^◌, ◌≤◌, ◌<◌, true, ◌≡◌, List, ◌++◌, ◌≢◌, length, take, get_or}
+use Rattle.std.specs.Prelude.{ℕ, ◌≤◌, ◌<◌, ◌≡◌, List, ◌≢◌, length, take}
 use Rattle.numerals.specs.Refusals.{no7, no13}
 use Rattle.numerals.specs.declared.refusal.Refusal.{Refusal}
-use Rattle.expansion.specs.FirstMatch.{is_rule, covers, churn}
+use Rattle.expansion.specs.FirstMatch.{churn}
 use Rattle.expansion.specs.Imbalance.{Targets}
-use Rattle.expansion.specs.Steps.{end_of, oldest}
+use Rattle.expansion.specs.Steps.{end_of}
 use Rattle.expansion.specs.OldList.{rules_from, numbers_of}
 use Rattle.expansion.specs.Known.{targets_known}
 use Rattle.expansion.specs.Resume.{frame_kept, list_kept, check_old}
@@ -28,21 +28,9 @@ pub record Least (T : Targets) (tolerance : ℕ) (old : List Rule) (r : ℕ) (ne
   pub lowest : (s : ℕ) (other : List Rule) → Ends T tolerance old s other → churn T.k old new ≤ churn T.k old other
   pub largest : (s : ℕ) (other : List Rule) → Ends T tolerance old s other → churn T.k old other ≡ churn T.k old new → s ≤ r
 
--- a new list from the r oldest rules of an old one: new rules stand in front of these, and each covers no more than the smallest kept suffix, and no more
--- than half the tree
-pub record Resumes (k : ℕ) (old : List Rule) (r : ℕ) (new : List Rule) : Type 0 where
-  pub added : List Rule
-  pub list : new ≡ added ++ oldest r old
-  pub formed : (i : ℕ) → i < length added → (d : Rule) → is_rule k (get_or added i d) ≡ true
-  pub half : (i : ℕ) → i < length added → (d : Rule) → 2 * covers k (get_or added i d) ≤ 2 ^ k
-  pub smallest :
-      (i j : ℕ) → i < length added → j < length (oldest r old) → (d : Rule) → covers k (get_or added i d) ≤ covers k (get_or (oldest r old) j d)
-
--- an update that was made, with its list: that r, its oldest rules with new ones in front, no more rules than the old one, and its churn, counted over all
--- suffixes
+-- an update that was made, with its list: that r, a list of no more rules than the old one, and its churn, counted over all suffixes
 pub record Kept (T : Targets) (tolerance : ℕ) (old new : List Rule) (u : update.Update) : Type 0 where
   pub least : Least T tolerance old u.kept new
-  pub resumes : Resumes T.k old u.kept new
   pub depth : u.k ≡ T.k
   pub rules : u.rules ≡ length new
   pub few : length new ≤ length old

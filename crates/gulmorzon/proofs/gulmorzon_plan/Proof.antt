@@ -1,10 +1,9 @@
--- `gulmorzon_plan` meets its contract: the answer of `sheets::plan` in plain numbers, and demand 3 of its table.
+-- `gulmorzon_plan` meets its contract: the answer of `sheets::plan` in plain numbers.
 use mathlib.Core.Path.{ap, ◌∙◌}
 use borrow.Author.Rules.{rules}
 use Rattle.sheets.specs.Calls.{is_plan}
 use Rattle.gulmorzon.specs.Answers.{of_planned}
 use Rattle.gulmorzon.proofs.Lent.{lent}
-use Rattle.gulmorzon.proofs.Promised.{promised-plan}
 use Rattle.gulmorzon.proofs.gulmorzon_plan.Statement.{statement}
 use Rattle.gulmorzon.proofs.gulmorzon_plan.Tie as tie
 
@@ -22,13 +21,9 @@ same-length-2 c = search rules
 
 returns : tie.Need-returns
 returns c =
-    let plan = c.before.before.before.before.before.plan in
-    let e = plan.ensures in (
+    let e = c.before.before.before.before.before.plan.ensures in (
       c.of-planned.ensures ∙ ap of_planned e.0,
-      (
-        lent _ _ (ap is_plan e.0) e.1.0,
-        (lent _ _ (ap is_plan e.0) e.1.1.0, promised-plan plan.result _ _ _ c.of-planned.ensures e.1.1.1),
-      ),
+      (lent _ _ (ap is_plan e.0) e.1.0, lent _ _ (ap is_plan e.0) e.1.1),
     )
 
 pub gulmorzon-plan-spec : {M : Type 1} → statement M

@@ -23,10 +23,7 @@ returns c =
       c.of-answer.ensures ∙ ap of_answer e.0,
       (
         lent _ _ (ap is_value e.0) e.1.0,
-        (
-          promised-stage c.before.before.before.stage-lines.result _ _ _ _ _ _ _ _ c.of-answer.ensures e.1.1.0,
-          (c.before.before.before.stage-lines.result, c.of-answer.ensures, e.1.1.1),
-        ),
+        promised-stage c.before.before.before.stage-lines.result _ _ _ _ _ _ _ c.of-answer.ensures e.1.1,
       ),
     )
 

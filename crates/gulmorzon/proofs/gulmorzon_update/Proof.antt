@@ -4,6 +4,7 @@ use borrow.Author.Rules.{rules}
 use Rattle.update.specs.Sheets.{is_made}
 use Rattle.gulmorzon.specs.Update.{of_update}
 use Rattle.gulmorzon.proofs.Lent.{lent-filled}
+use Rattle.gulmorzon.proofs.Promised.{promised-both}
 use Rattle.gulmorzon.proofs.gulmorzon_update.Statement.{statement}
 use Rattle.gulmorzon.proofs.gulmorzon_update.Tie as tie
 
@@ -18,10 +19,9 @@ same_length c = search rules
 
 returns : tie.Need-returns
 returns c =
-    let updated = c.before.before.before.update-sheets in
-    let e = updated.ensures in (
+    let e = c.before.before.before.update-sheets.ensures in (
       c.of-update.ensures ∙ ap of_update e.0,
-      (lent-filled _ _ _ (ap is_made e.0) e.1.0, (updated.result, c.of-update.ensures, e.1.1)),
+      (lent-filled _ _ _ (ap is_made e.0) e.1.0, promised-both _ _ _ _ e.0 e.1.1),
     )
 
 pub gulmorzon-update-spec : {M : Type 1} → statement M

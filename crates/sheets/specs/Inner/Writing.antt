@@ -1,5 +1,5 @@
 -- The writer of the rule sheet in its parts: what each writes, how many bytes that has, and what the check of a table in numbers answers.
-use Rattle.std.specs.Prelude.{ℕ, ◌+◌, ◌≤◌, ◌<◌, min, ◌≡◌, List, [], ◌∷◌, length}
+use Rattle.std.specs.Prelude.{ℕ, ◌+◌, ◌<◌, min, ◌≡◌, List, [], ◌∷◌, length}
 use Rattle.std.proofs.lemmas.List.Edits.{sets}
 use Rattle.numerals.specs.Decimal.{width}
 use Rattle.numerals.specs.declared.digits.Written.{Written}
@@ -15,11 +15,10 @@ use Rattle.sheets.specs.declared.order.Last.{Last}
 use Rattle.sheets.specs.declared.order.Placed.{Placed}
 use Rattle.sheets.specs.declared.order.Placed.TheVariants.{Next, Refused as NotNext}
 
--- bytes were written from a position on, all of them, and nothing else; then comes the position behind them
+-- bytes were written from a position on, and nothing else; then comes the position behind them
 pub record Wrote (before after : List ℕ) (at next : ℕ) (bytes : List ℕ) : Type 0 where
   pub ends : next ≡ at + length bytes
   pub holds : after ≡ sets before at bytes
-  pub fits : next ≤ length before
 
 -- a text was written, and ends before position n
 abbrev pub Before : Written → ℕ → Type 0

@@ -70,7 +70,7 @@ loop-again c =
       rw fewer (half (left c)),
       mod-lt (l.left * 5) (half-some (left c)),
       simp length-set l.invariant.4,
-      λ last next w. l.invariant.5 last next (rw (next-decimal (left c)) (chain (byte _ _ _ (slice-write-out c)) (rw fewer at w))),
+      λ last next w. l.invariant.5 last next (rw (next-decimal (left c)) (chain (byte _ _ _) (rw fewer at w))),
     )
 
 same_length : tie.Need-same-length invariant-loop decreases-loop
@@ -80,7 +80,7 @@ returns : tie.Need-returns invariant-loop decreases-loop
 returns c =
     let l = c.before.loop in
     let none : l.left ≡ 0 = omega arith in
-    (l.invariant.5 l.out l.end (rw (none, decimals-none) (nothing l.out l.end (omega arith))), l.invariant.1)
+    (l.invariant.5 l.out l.end (rw (none, decimals-none) (nothing l.out l.end)), l.invariant.1)
 
 pub put-decimals-spec : {M : Type 1} → statement M
 put-decimals-spec =

@@ -41,7 +41,7 @@ returns-2 c =
     let v = n.put-number2.ensures in
     let w = c.before.before.put-decimals.ensures in
     let some : 0 < a.n % most_suffixes = omega (arith, n.before.before) in
-    (rw (dyadic-broken a.n most_bits some) (chain (chain v.0 w.0) (byte _ _ _ (slice-write-out c))), omega (arith, v.1, w.1))
+    (rw (dyadic-broken a.n most_bits some) (chain (chain v.0 w.0) (byte _ _ _)), omega (arith, v.1, w.1))
 
 same-length-2 : tie.Need-same-length-2
 same-length-2 c = same_length (returns-2 c).0

@@ -1,8 +1,11 @@
 -- `gauging::gauge` meets its contract: the words are tested from the left, and all before the table is read.
+use Prim.Native.Nat.{◌*◌, ◌≤◌}
 use mathlib.Core.Path.{sym, ◌∙◌}
+use lib.ListN.{length}
 use borrow.Author.Rules.{rules}
+use Rattle.commands.specs.Inner.Gauge.{gauge_room}
 use Rattle.commands.proofs.Texts.{said, not-said}
-use Rattle.commands.proofs.GaugeWords.{no-service, no-volume, no-backend, says, exactly}
+use Rattle.commands.proofs.GaugeWords.{no-service, no-volume, no-backend, says, said-exactly, none-exactly}
 use Rattle.commands.proofs.gauging.gauge.Statement.{statement}
 use Rattle.commands.proofs.gauging.gauge.Tie as tie
 
@@ -17,7 +20,7 @@ enum_told c = search rules
 
 returns : tie.Need-returns
 returns c =
-    exactly _ _ _ _ _
+    none-exactly _ _ _ _ _ 2 _
     (not-said _ 2 _ (no-service _ _ _ _ (sym c.before.before.read-numeral.ensures ∙ c.enum_told.given.1)))
 
 read-numeral-requires-2 : tie.Need-read-numeral-requires-2
@@ -33,7 +36,7 @@ returns-2 : tie.Need-returns-2
 returns-2 c =
     let v = c.before.before in
     let n = v.before.before in
-    exactly _ _ _ _ _
+    none-exactly _ _ _ _ _ 3 _
     (not-said _ 3 _
     (no-volume _ _ _ _ _ (sym n.before.before.read-numeral.ensures ∙ n.number.given.1) (sym v.read-numeral2.ensures ∙ c.enum-told2.given.1)))
 
@@ -51,7 +54,7 @@ returns-3 c =
     let b = c.before.before in
     let v = b.before.before in
     let n = v.before.before.before.before in
-    exactly _ _ _ _ _
+    none-exactly _ _ _ _ _ 4 _
     (not-said _ 4 _
     (no-backend _ _ _ _ _ (sym n.before.before.read-numeral.ensures ∙ n.number.given.1)
     _ (sym v.before.before.read-numeral2.ensures ∙ v.traffic.given.1) (sym b.read-numeral3.ensures ∙ c.enum-told3.given.1)))
@@ -64,7 +67,9 @@ returns-4 c =
     let b = c.before.before.before in
     let v = b.before.before.before.before in
     let n = v.before.before.before.before in
-    exactly _ _ _ _ _
+    let a = n.before.before.before.before.before.before.before.args in
+    let room : 2 * gauge_room ≤ length a.out.now = search rules in
+    said-exactly _ _ _ _ _ room _ _
     (said c.measure.ensures _
     (says _ _ _ _ _ (sym n.before.before.read-numeral.ensures ∙ n.number.given.1)
     _ (sym v.before.before.read-numeral2.ensures ∙ v.traffic.given.1) _ (sym b.before.before.read-numeral3.ensures ∙ b.holder.given.1)))

@@ -1,7 +1,7 @@
--- `helping::command` meets its contract: the words are compared one after the other, and then those of `option`.
+-- `helping::command` meets its contract: the words are compared one after the other.
 use mathlib.Core.Path.{sym, ◌∙◌}
 use borrow.Author.Rules.{rules}
-use Rattle.numerals.specs.Text.{bytes}
+use Rattle.sheets.specs.Cases.{bytes}
 use Rattle.commands.specs.Help.{command_of}
 use Rattle.commands.proofs.helping.command.Statement.{statement}
 use Rattle.commands.proofs.helping.command.Tie as tie
@@ -163,14 +163,10 @@ returns-8 c =
       sym c.before.same8.ensures ∙ c.if8.true,
     )
 
-option-requires : tie.Need-option-requires
-option-requires c κs = search rules
-
 returns-9 : tie.Need-returns-9
 unfolding command_of bytes
 returns-9 c =
-    let eighth = c.before in
-    let seventh = eighth.before.before.before in
+    let seventh = c.before.before.before in
     let sixth = seventh.before.before.before in
     let fifth = sixth.before.before.before in
     let fourth = fifth.before.before.before in
@@ -185,9 +181,8 @@ returns-9 c =
       sym fifth.before.same5.ensures ∙ fifth.if5.false,
       sym sixth.before.same6.ensures ∙ sixth.if6.false,
       sym seventh.before.same7.ensures ∙ seventh.if7.false,
-      sym eighth.before.same8.ensures ∙ eighth.if8.false,
+      sym c.before.same8.ensures ∙ c.if8.false,
     )
-    c.option.ensures
 
 pub command-spec : {M : Type 1} → statement M
 command-spec =
@@ -217,5 +212,4 @@ command-spec =
     slice-aggregate-same-8
     same-requires-8
     returns-8
-    option-requires
     returns-9)

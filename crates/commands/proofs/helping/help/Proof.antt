@@ -1,8 +1,8 @@
 -- `helping::help` meets its contract: the text, by computing.
 use borrow.Author.Rules.{rules}
-use Rattle.numerals.specs.Text.{bytes}
+use Rattle.sheets.specs.Cases.{bytes}
 use Rattle.commands.specs.Help.{lines, help_text}
-use Rattle.commands.proofs.Texts.{fitting}
+use Rattle.commands.proofs.Texts.{whole}
 use Rattle.commands.proofs.helping.help.Statement.{statement}
 use Rattle.commands.proofs.helping.help.Tie as tie
 
@@ -14,7 +14,7 @@ put-bytes-requires c κs = search rules
 
 returns : tie.Need-returns
 unfolding help_text lines bytes
-returns c = fitting c.put-bytes.ensures
+returns c = whole c.put-bytes.ensures
 
 pub help-spec : {M : Type 1} → statement M
 help-spec = tie.close (tie.spec slice-aggregate-put-bytes put-bytes-requires returns)

@@ -1,8 +1,8 @@
 -- `helping::usage` meets its contract: the text of each command, by computing.
 use borrow.Author.Rules.{rules}
-use Rattle.numerals.specs.Text.{bytes}
+use Rattle.sheets.specs.Cases.{bytes}
 use Rattle.commands.specs.Help.{lines, usage_text}
-use Rattle.commands.proofs.Texts.{fitting}
+use Rattle.commands.proofs.Texts.{whole}
 use Rattle.commands.proofs.helping.usage.Statement.{statement}
 use Rattle.commands.proofs.helping.usage.Tie as tie
 
@@ -87,64 +87,41 @@ slice-aggregate-put-bytes-9 c = search rules
 put-bytes-requires-9 : tie.Need-put-bytes-requires-9
 put-bytes-requires-9 c κs = search rules
 
-enum-told-10 : tie.Need-enum-told-10
-enum-told-10 c = search rules
-
-slice-aggregate-put-bytes-10 : tie.Need-slice-aggregate-put-bytes-10
-slice-aggregate-put-bytes-10 c = search rules
-
-put-bytes-requires-10 : tie.Need-put-bytes-requires-10
-put-bytes-requires-10 c κs = search rules
-
 returns : tie.Need-returns
 unfolding usage_text lines bytes
-returns c =
-    rw c.before.before.before.enum_told.given.1 (fitting c.put-bytes.ensures)
+returns c = rw c.before.before.before.enum_told.given.1 (whole c.put-bytes.ensures)
 
 returns-2 : tie.Need-returns-2
 unfolding usage_text lines bytes
-returns-2 c =
-    rw c.before.before.before.enum-told2.given.1 (fitting c.put-bytes2.ensures)
+returns-2 c = rw c.before.before.before.enum-told2.given.1 (whole c.put-bytes2.ensures)
 
 returns-3 : tie.Need-returns-3
 unfolding usage_text lines bytes
-returns-3 c =
-    rw c.before.before.before.enum-told3.given.1 (fitting c.put-bytes3.ensures)
+returns-3 c = rw c.before.before.before.enum-told3.given.1 (whole c.put-bytes3.ensures)
 
 returns-4 : tie.Need-returns-4
 unfolding usage_text lines bytes
-returns-4 c =
-    rw c.before.before.before.enum-told4.given.1 (fitting c.put-bytes4.ensures)
+returns-4 c = rw c.before.before.before.enum-told4.given.1 (whole c.put-bytes4.ensures)
 
 returns-5 : tie.Need-returns-5
 unfolding usage_text lines bytes
-returns-5 c =
-    rw c.before.before.before.enum-told5.given.1 (fitting c.put-bytes5.ensures)
+returns-5 c = rw c.before.before.before.enum-told5.given.1 (whole c.put-bytes5.ensures)
 
 returns-6 : tie.Need-returns-6
 unfolding usage_text lines bytes
-returns-6 c =
-    rw c.before.before.before.enum-told6.given.1 (fitting c.put-bytes6.ensures)
+returns-6 c = rw c.before.before.before.enum-told6.given.1 (whole c.put-bytes6.ensures)
 
 returns-7 : tie.Need-returns-7
 unfolding usage_text lines bytes
-returns-7 c =
-    rw c.before.before.before.enum-told7.given.1 (fitting c.put-bytes7.ensures)
+returns-7 c = rw c.before.before.before.enum-told7.given.1 (whole c.put-bytes7.ensures)
 
 returns-8 : tie.Need-returns-8
 unfolding usage_text lines bytes
-returns-8 c =
-    rw c.before.before.before.enum-told8.given.1 (fitting c.put-bytes8.ensures)
+returns-8 c = rw c.before.before.before.enum-told8.given.1 (whole c.put-bytes8.ensures)
 
 returns-9 : tie.Need-returns-9
 unfolding usage_text lines bytes
-returns-9 c =
-    rw c.before.before.before.enum-told9.given.1 (fitting c.put-bytes9.ensures)
-
-returns-10 : tie.Need-returns-10
-unfolding usage_text lines bytes
-returns-10 c =
-    rw c.before.before.before.enum-told10.given.1 (fitting c.put-bytes10.ensures)
+returns-9 c = rw c.before.before.before.enum-told9.given.1 (whole c.put-bytes9.ensures)
 
 pub usage-spec : {M : Type 1} → statement M
 usage-spec =
@@ -177,9 +154,6 @@ usage-spec =
     enum-told-9
     slice-aggregate-put-bytes-9
     put-bytes-requires-9
-    enum-told-10
-    slice-aggregate-put-bytes-10
-    put-bytes-requires-10
     returns
     returns-2
     returns-3
@@ -188,5 +162,4 @@ usage-spec =
     returns-6
     returns-7
     returns-8
-    returns-9
-    returns-10)
+    returns-9)

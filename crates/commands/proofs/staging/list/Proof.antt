@@ -38,10 +38,9 @@ same_length c = search rules
 returns : tie.Need-returns
 returns c =
     let p = c.before.before.before.before.before in
-    let s = p.before.before.before.before.before in
-    let a = s.args in
+    let a = p.before.before.before.before.before.args in
     let is = c.before.listed.given.1 in
-    listed a.old.now a.new.now a.service a.limit a.capacity a.number _ (sym (answered p) ∙ is) _ _ s.requires
+    listed a.old.now a.new.now a.service a.limit a.capacity a.number _ (sym (answered p) ∙ is) _ _
     (rw is at p.stage-lines.ensures.1.0)
 
 same-length-2 : tie.Need-same-length-2

@@ -68,8 +68,7 @@ returns c =
     let s = c.before.before.before.before in
     let l = c.before.loop in
     let none = lines_none s.args.places.now s.args.n s.requires.0.room l.i (omega (arith, c.loop-test.false)) in
-    let fits : l.end ≤ length l.out = omega (arith, s.requires.0.few, s.requires.1, l.invariant.room, l.invariant.same, l.invariant.few) in
-    l.invariant.rest l.out l.end (rw none (nothing l.out l.end fits))
+    l.invariant.rest l.out l.end (rw none (nothing l.out l.end))
 
 pub put-places-spec : {M : Type 1} → statement M
 put-places-spec =

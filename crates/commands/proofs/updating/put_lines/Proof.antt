@@ -93,8 +93,7 @@ returns c =
     let a = s.args in
     let l = c.before.loop in
     let none = text-none a.service a.rules.now a.n s.requires.0.room l.i (omega (arith, c.loop-test.false)) in
-    let fits : l.end ≤ length l.out = omega (arith, s.requires.1, l.invariant.room, l.invariant.same, l.invariant.few) in
-    l.invariant.rest l.out l.end (rw none (nothing l.out l.end fits))
+    l.invariant.rest l.out l.end (rw none (nothing l.out l.end))
 
 pub put-lines-spec : {M : Type 1} → statement M
 put-lines-spec =

@@ -3,7 +3,6 @@ use mathlib.Core.Path.{sym, ◌∙◌}
 use borrow.Author.Rules.{rules}
 use Rattle.commands.proofs.Texts.{said, not-said}
 use Rattle.commands.proofs.Updates.{no-service, says}
-use Rattle.commands.proofs.UpdatePrints.{update-keeps}
 use Rattle.commands.proofs.updating.update.Statement.{statement}
 use Rattle.commands.proofs.updating.update.Tie as tie
 
@@ -17,8 +16,7 @@ enum_told : tie.Need-enum-told
 enum_told c = search rules
 
 returns : tie.Need-returns
-returns c =
-    update-keeps _ _ _ _ (not-said _ 3 _ (no-service _ _ _ (sym c.before.before.read-numeral.ensures ∙ c.enum_told.given.1)))
+returns c = not-said _ 3 _ (no-service _ _ _ (sym c.before.before.read-numeral.ensures ∙ c.enum_told.given.1))
 
 renew-requires : tie.Need-renew-requires
 renew-requires c κs = search rules
@@ -26,7 +24,7 @@ renew-requires c κs = search rules
 returns-2 : tie.Need-returns-2
 returns-2 c =
     let n = c.before.before.before in
-    update-keeps _ _ _ _ (said c.renew.ensures _ (says _ _ _ _ (sym n.before.before.read-numeral.ensures ∙ n.number.given.1)))
+    said c.renew.ensures _ (says _ _ _ _ (sym n.before.before.read-numeral.ensures ∙ n.number.given.1))
 
 pub update-spec : {M : Type 1} → statement M
 update-spec =

@@ -53,7 +53,6 @@ returns c =
     record {
       ends = omega arith;
       holds = sym (l.invariant.2 ∙ store-none l.out a.at l.i a.text.now (omega arith));
-      fits = omega arith;
     }
 
 pub put-bytes-spec : {M : Type 1} → statement M

@@ -58,7 +58,7 @@ same-length-2 c = search rules
 returns-2 : tie.Need-returns-2
 returns-2 c =
     let s = c.before.before.before.before.before.before.before.before in
-    let w = chain (rw c.before.written.given.1 at (wrote c.before.before.before.before.before)) (byte _ _ _ (slice-write-out c)) in
+    let w = chain (rw c.before.written.given.1 at (wrote c.before.before.before.before.before)) (byte _ _ _) in
     (w, ends-soon _ _ _ _ s.args.n _ w (omega (arith, s.ranges.n)))
 
 pub put-number-spec : {M : Type 1} → statement M

@@ -1,4 +1,4 @@
--- `planning::plan` meets its contract: what the memory holds is packed, and demand 3 holds of the numbers.
+-- `planning::plan` meets its contract: what the memory holds is packed.
 use Prim.Native.Nat.{◌≤◌}
 use mathlib.Core.Path.{◌≡◌, refl, sym, ap}
 use native.Mathlib.Omega.{arith}
@@ -7,13 +7,11 @@ use lib.Seq.{length-take-le}
 use borrow.Author.Rules.{rules}
 use Rattle.sheets.specs.PercentageSheet.{read_sheet}
 use Rattle.sheets.specs.Calls.{values_of, afterwards, is_plan, plan_answer, figures_for, cells_for}
-use Rattle.sheets.specs.Demand.{Demand3Planned}
 use Rattle.sheets.specs.Inner.SheetReader.{SheetHeld}
 use Rattle.sheets.specs.Inner.Planning.{plan_from}
 use Rattle.sheets.specs.declared.answer.Planned.TheVariants.{Refused}
 use Rattle.sheets.proofs.Reader.{about-none}
 use Rattle.sheets.proofs.Packable.{held-figures, held-cells, plan-made, plan-buffer}
-use Rattle.sheets.proofs.OneCall.{planned-demand}
 use Rattle.sheets.proofs.planning.plan.Statement.{statement}
 use Rattle.sheets.proofs.planning.plan.Tie as tie
 
@@ -98,7 +96,7 @@ returns : tie.Need-returns
 unfolding plan_answer
 returns c =
     let no = rw c.before.read.given.1 at c.before.before.before.before.before.before.before.read-sheet.ensures in
-    (rw no.0 (ap Refused (sym (about-none _ no.1))), (refl, (refl, tt)))
+    (rw no.0 (ap Refused (sym (about-none _ no.1))), (refl, refl))
 
 same_length : tie.Need-same-length
 same_length c = search rules
@@ -115,18 +113,16 @@ packed :
     let l = c.pack.new.1.1.1.1.1.1.1 in
     (r ≡ plan_answer a.text.now (length a.figures.now) (length a.table.now))
     × ((l.0 ≡ afterwards (is_plan r) a.figures.now (values_of (read_sheet a.text.now) figures_for))
-    × ((l.1.0 ≡ afterwards (is_plan r) a.table.now (values_of (read_sheet a.text.now) cells_for)) × Demand3Planned r a.text.now l.1.0))
+    × (l.1.0 ≡ afterwards (is_plan r) a.table.now (values_of (read_sheet a.text.now) cells_for)))
 packed c =
     let k = c.before.before.before.before.before.before.before in
     let a = (read_of k).before.before.before.before.before.before.before.before.args in
     let text = a.text.now in
-    let p = c.pack.result in
-    let made = plan-made text (held k) p (length a.figures.now) (length a.table.now) c.pack.ensures.0 in
-    let stored = plan-buffer text (held k) p cells_for _ a.table.now _ (held-cells text (held k)) c.pack.ensures.1.1.0 in (
-      made,
+    let p = c.pack.result in (
+      plan-made text (held k) p (length a.figures.now) (length a.table.now) c.pack.ensures.0,
       (
         plan-buffer text (held k) p figures_for _ a.figures.now _ (held-figures text (held k)) c.pack.ensures.1.0,
-        (stored, planned-demand text (length a.figures.now) a.table.now _ _ made stored),
+        plan-buffer text (held k) p cells_for _ a.table.now _ (held-cells text (held k)) c.pack.ensures.1.1.0,
       ),
     )
 

@@ -1,5 +1,5 @@
--- `planning::split_sheet` meets its contract: the plan's table is printed; its buffers are long enough; demands 2 and 3 hold of what is printed, and what
--- is promised of four-place percentages.
+-- `planning::split_sheet` meets its contract: the plan's table is printed; its buffers are long enough; demand 3 holds of what is printed, and what is
+-- promised of four-place percentages.
 use mathlib.Core.Path.{refl, sym, ◌∙◌}
 use borrow.Author.Rules.{rules}
 use Rattle.sheets.proofs.FourPlaces.{four-places}
@@ -26,7 +26,7 @@ left :
     c.before.before.before.before.before.plan.new.1.1.0
 left c =
     let e = c.before.before.before.before.before.plan.ensures in
-    plan-left _ _ _ _ _ refl e.0 c.before.planned.given.1 e.1.1.0
+    plan-left _ _ _ _ _ refl e.0 c.before.planned.given.1 e.1.1
 
 slice-aggregate-print : tie.Need-slice-aggregate-print
 slice-aggregate-print c = search rules
@@ -49,7 +49,7 @@ returns c =
 returns-2 : tie.Need-returns-2
 returns-2 c =
     let answered = plan-refused _ _ (sym c.before.before.before.before.before.plan.ensures.0 ∙ c.before.planned2.given.1) _ in
-    (answered, (refl, (tt, (four-places _ _ _ _ answered refl, tt))))
+    (answered, (refl, (tt, four-places _ _ _ _ answered refl)))
 
 pub split-sheet-spec : {M : Type 1} → statement M
 split-sheet-spec =

@@ -18,10 +18,8 @@ use Rattle.sheets.proofs.printing.put_head.Tie as tie
 abbrev word : List ℕ
 word = 84 ∷ 65 ∷ 66 ∷ 76 ∷ 69 ∷ 32 ∷ []
 
-worded : (s : tie.Start) → Wrote s.args.out.now (sets s.args.out.now 0 word) 0 6 word
-worded s =
-    let a = s.args in
-    record { ends = refl; holds = refl; fits = omega (arith, s.requires, length-head a.k a.n a.total) }
+worded : (out : List ℕ) → Wrote out (sets out 0 word) 0 6 word
+worded out = record { ends = refl; holds = refl }
 
 -- line 1 as it is written
 parts :
@@ -73,7 +71,7 @@ put-number-requires-2 c κs =
       length-head a.k a.n a.total,
       length-decimal a.n,
       behind _ _ _ _ _ _ w,
-      same_length (chain (worded s) w),
+      same_length (chain (worded a.out.now) w),
     )
 
 put-number-requires-3 : tie.Need-put-number-requires-3
@@ -89,20 +87,19 @@ put-number-requires-3 c κs =
       length-decimal a.total,
       behind _ _ _ _ _ _ v,
       behind _ _ _ _ _ _ w,
-      same_length (chain (chain (worded s) v) w),
+      same_length (chain (chain (worded a.out.now) v) w),
     )
 
 same-length-out : tie.Need-same-length
 same-length-out c =
-    let w = chain (worded c.before.before.before.before.before.before.before.before.before.before.before.before.before)
+    let w = chain (worded c.before.before.before.before.before.before.before.before.before.before.before.before.before.args.out.now)
     c.before.before.before.before.before.before.before.before.before.before.put-number.ensures in
     same_length (chain (chain w c.before.before.before.before.before.before.put-number2.ensures) c.before.before.put-number3.ensures)
 
 returns : tie.Need-returns
 returns c =
-    let s = c.before.before.before.before.before.before.before.before.before.before.before.before.before in
-    let a = s.args in
-    let w = chain (worded s) c.before.before.before.before.before.before.before.before.before.before.put-number.ensures in
+    let a = c.before.before.before.before.before.before.before.before.before.before.before.before.before.args in
+    let w = chain (worded a.out.now) c.before.before.before.before.before.before.before.before.before.before.put-number.ensures in
     rw (← parts a.k a.n a.total)
     (chain (chain w c.before.before.before.before.before.before.put-number2.ensures) c.before.before.put-number3.ensures)
 

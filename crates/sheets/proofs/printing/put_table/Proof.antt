@@ -146,8 +146,7 @@ returns c =
     let L = s.requires.1.0 in
     let l = c.before.loop in
     let end : a.n ≤ a.n - l.left = omega (arith, c.loop-test.false) in
-    let none = nothing l.out l.at (omega (arith, l.invariant.1.room)) in
-    let rest = l.invariant.1.rest l.out l.at (rw (text-none t a.n L (a.n - l.left) end) none) in
+    let rest = l.invariant.1.rest l.out l.at (rw (text-none t a.n L (a.n - l.left) end) (nothing l.out l.at)) in
     rw (← table-parts t a.n L a.k a.total) (chain c.before.before.before.before.put-head.ensures rest)
 
 pub put-table-spec : {M : Type 1} → statement M

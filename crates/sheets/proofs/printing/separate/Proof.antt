@@ -23,7 +23,7 @@ same_length c = search rules
 returns : tie.Need-returns
 returns c =
     let a = c.before.before.before.args in
-    rw c.before.written.given.1 (byte a.out.now c.before.written.given.0.0 a.separator (slice-write-out c))
+    rw c.before.written.given.1 (byte a.out.now c.before.written.given.0.0 a.separator)
 
 returns-2 : tie.Need-returns-2
 returns-2 c = absurd (rw c.enum_told.given.1 at c.before.before.requires)

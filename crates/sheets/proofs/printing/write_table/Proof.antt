@@ -1,11 +1,10 @@
--- `printing::write_table` meets its contract: a table that passes is printed, and demand 2 holds of it; any other is refused.
+-- `printing::write_table` meets its contract: a table that passes is printed, any other is refused.
 use mathlib.Core.Path.{◌≡◌, refl}
 use borrow.Author.Rules.{rules}
 use Rattle.sheets.specs.Reading.{got}
 use Rattle.sheets.specs.Calls as calls
 use Rattle.sheets.specs.Inner.Writing.{handed}
 use Rattle.sheets.proofs.TableHanded.{accepted}
-use Rattle.sheets.proofs.CallRoundTrip.{written_back}
 use Rattle.sheets.proofs.printing.write_table.Statement.{statement}
 use Rattle.sheets.proofs.printing.write_table.Tie as tie
 
@@ -19,8 +18,7 @@ refused-at-requires : tie.Need-refused-at-requires
 refused-at-requires c κs = tt
 
 returns : tie.Need-returns
-returns c =
-    rw (c.refused-at.ensures, rw c.before.before.checked.given.1 at c.before.before.before.before.check-table.ensures) (refl, (refl, tt))
+returns c = rw (c.refused-at.ensures, rw c.before.before.checked.given.1 at c.before.before.before.before.check-table.ensures) (refl, refl)
 
 enum_told : tie.Need-enum-told
 enum_told c = search rules
@@ -40,9 +38,10 @@ same_length c = search rules
 
 returns-2 : tie.Need-returns-2
 returns-2 c =
+    let p = c.before.before.print.ensures in
     let e = passed c.before.before.before.before in
-    let p = rw (accepted _ _ _ _ e).table at c.before.before.print.ensures in
-    (rw e p.0, (rw e p.1, written_back _ _ _ _ e _ _ _ p))
+    let A = accepted _ _ _ _ e in
+    (rw (e, ← A.table) p.0, rw (e, ← A.table) p.1)
 
 pub write-table-spec : {M : Type 1} → statement M
 write-table-spec =

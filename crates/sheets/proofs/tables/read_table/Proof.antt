@@ -1,4 +1,4 @@
--- `tables::read_table` meets its contract: the table that was read, copied where there is room; demand 2 holds of the numbers.
+-- `tables::read_table` meets its contract: the table that was read, copied where there is room.
 use mathlib.Core.Path.{refl, sym, ap, ◌∙◌}
 use native.Mathlib.Omega.{arith}
 use lib.Seq.{sets}
@@ -8,7 +8,6 @@ use Rattle.sheets.specs.RuleSheet.{Table}
 use Rattle.sheets.specs.Calls.{values_of, read_answer}
 use Rattle.sheets.specs.declared.answer.TableRead.TheVariants.{Refused}
 use Rattle.sheets.proofs.HeldTables.{TableHeld, table-held, refused-answer, read_made, read_short}
-use Rattle.sheets.proofs.CallRoundTrip.{copied-only}
 use borrow.Author.Rules.{rules}
 use Rattle.sheets.proofs.tables.read_table.Statement.{statement}
 use Rattle.sheets.proofs.tables.read_table.Tie as tie
@@ -41,7 +40,7 @@ refused-at-requires : tie.Need-refused-at-requires
 refused-at-requires c κs = search rules
 
 returns : tie.Need-returns
-returns c = rw c.refused-at.ensures (read_short _ _ _ (has c.before.before) _ c.before.if1.true, (refl, tt))
+returns c = rw c.refused-at.ensures (read_short _ _ _ (has c.before.before) _ c.before.if1.true, refl)
 
 slice-aggregate-copy : tie.Need-slice-aggregate-copy
 slice-aggregate-copy c = search rules
@@ -56,23 +55,18 @@ returns-2 : tie.Need-returns-2
 unfolding read_answer
 returns-2 c =
     let read = c.before.before.before.before.read-sheet-lines in
-    (refused-answer Refused _ _ _ (sym c.before.read.given.1 ∙ read.ensures.0), (refl, tt))
+    (refused-answer Refused _ _ _ (sym c.before.read.given.1 ∙ read.ensures.0), refl)
 
 same_length : tie.Need-same-length
 same_length c = search rules
 
 returns-3 : tie.Need-returns-3
 returns-3 c =
-    let h = has c.before.before.before.before.before.before in
-    let room = c.before.before.before.before.before.if1.false in
-    let copied = c.before.before.copy.ensures in (
-      read_made _ _ _ h _ room,
-      (
-        copied
-            ∙ ap (sets c.before.before.before.before.before.before.before.before.before.before.before.before.before.before.args.table.now 0)
-            (h.stored ∙ sym (ap (λ (r : Reading Table). values_of r (λ t. cells t.lines)) h.read)),
-        copied-only _ _ _ h _ _ room copied,
-      ),
+    let h = has c.before.before.before.before.before.before in (
+      read_made _ _ _ h _ c.before.before.before.before.before.if1.false,
+      c.before.before.copy.ensures
+          ∙ ap (sets c.before.before.before.before.before.before.before.before.before.before.before.before.before.before.args.table.now 0)
+          (h.stored ∙ sym (ap (λ (r : Reading Table). values_of r (λ t. cells t.lines)) h.read)),
     )
 
 pub read-table-spec : {M : Type 1} → statement M

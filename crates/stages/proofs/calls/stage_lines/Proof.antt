@@ -8,7 +8,6 @@ use Rattle.stages.specs.Inner.Both.{BothRead, BothAs}
 use Rattle.stages.specs.declared.answer.Both.{Both}
 use Rattle.stages.proofs.BothCalls.{few_bits, served-first, served-second, not-value}
 use Rattle.stages.proofs.BothCalls.{lines-answer, lines-buffer, lines-promised, lines-refused}
-use Rattle.stages.proofs.CrowdedStages.{lines-crowding}
 use Rattle.stages.proofs.calls.stage_lines.Statement.{statement}
 use Rattle.stages.proofs.calls.stage_lines.Tie as tie
 
@@ -69,10 +68,10 @@ returns c =
     let a = y.before.before.before.before.before.before.args in
     let w = c.before.both.given in
     let no = subst (λ (b : Both). BothAs a.old.now a.new.now a.service b y.read-both.new.1.1.1.0 y.read-both.new.1.1.1.1.0) w.1
-    y.read-both.ensures in
-    let room = length a.out.now in
-    let is = sym (lines-refused a.old.now a.new.now a.service w.0.0 no a.limit a.capacity a.number room) in
-    (is, (refl, ((λ m e. not-value e), lines-crowding a.old.now a.new.now a.service a.limit a.capacity a.number room _ is)))
+    y.read-both.ensures in (
+      sym (lines-refused a.old.now a.new.now a.service w.0.0 no a.limit a.capacity a.number (length a.out.now)),
+      (refl, λ m e. not-value e),
+    )
 
 same_length : tie.Need-same-length
 same_length c = search rules
@@ -83,17 +82,13 @@ returns-2 c =
     let a = (s d).args in
     let room = length a.out.now in
     let h = c.before.before.hand-stage in
-    let e = h.ensures in
-    let is = e.0 ∙ lines-answer a.old.now a.new.now a.service (k d) (first d) (second d) (R d) a.limit a.capacity a.number room in (
-      is,
+    let e = h.ensures in (
+      e.0 ∙ lines-answer a.old.now a.new.now a.service (k d) (first d) (second d) (R d) a.limit a.capacity a.number room,
       (
         e.1 ∙ lines-buffer a.old.now a.new.now a.service (k d) (first d) (second d) (R d) a.limit a.capacity a.number room
             h.result a.out.now e.0,
-        (
-          lines-promised a.old.now a.new.now a.service (k d) (first d) (second d) (R d) a.limit a.capacity a.number room h.result
-              a.out.now _ e.0 refl e.1,
-          lines-crowding a.old.now a.new.now a.service a.limit a.capacity a.number room _ is,
-        ),
+        lines-promised a.old.now a.new.now a.service (k d) (first d) (second d) (R d) a.limit a.capacity a.number room h.result
+            a.out.now _ e.0 refl e.1,
       ),
     )
 

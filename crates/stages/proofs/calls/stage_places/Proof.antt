@@ -8,7 +8,6 @@ use Rattle.stages.specs.Inner.Both.{BothRead, BothAs}
 use Rattle.stages.specs.declared.answer.Both.{Both}
 use Rattle.stages.proofs.BothCalls.{few_bits, served-first, served-second, not-value}
 use Rattle.stages.proofs.BothCalls.{places-answer, places-buffer, places-promised, places-refused}
-use Rattle.stages.proofs.CrowdedStages.{places-crowding}
 use Rattle.stages.proofs.calls.stage_places.Statement.{statement}
 use Rattle.stages.proofs.calls.stage_places.Tie as tie
 
@@ -69,10 +68,10 @@ returns c =
     let a = y.before.before.before.before.before.before.args in
     let w = c.before.both.given in
     let no = subst (λ (b : Both). BothAs a.old.now a.new.now a.service b y.read-both.new.1.1.1.0 y.read-both.new.1.1.1.1.0) w.1
-    y.read-both.ensures in
-    let room = length a.places.now in
-    let is = sym (places-refused a.old.now a.new.now a.service w.0.0 no a.limit a.capacity room) in
-    (is, (refl, ((λ m e. not-value e), places-crowding a.old.now a.new.now a.service a.limit a.capacity room _ is)))
+    y.read-both.ensures in (
+      sym (places-refused a.old.now a.new.now a.service w.0.0 no a.limit a.capacity (length a.places.now)),
+      (refl, λ m e. not-value e),
+    )
 
 same_length : tie.Need-same-length
 same_length c = search rules
@@ -81,19 +80,14 @@ returns-2 : tie.Need-returns-2
 returns-2 c =
     let d = c.before.before.before.before.before.before in
     let a = (s d).args in
-    let room = length a.places.now in
     let h = c.before.before.hand-row in
-    let e = h.ensures in
-    let is = e.0 ∙ places-answer a.old.now a.new.now a.service (k d) (first d) (second d) (R d) a.limit a.capacity room in (
-      is,
+    let e = h.ensures in (
+      e.0 ∙ places-answer a.old.now a.new.now a.service (k d) (first d) (second d) (R d) a.limit a.capacity (length a.places.now),
       (
-        e.1 ∙ places-buffer a.old.now a.new.now a.service (k d) (first d) (second d) (R d) a.limit a.capacity room h.result
-            a.places.now e.0,
-        (
-          places-promised a.old.now a.new.now a.service (k d) (first d) (second d) (R d) a.limit a.capacity room h.result
-              a.places.now _ e.0 refl e.1,
-          places-crowding a.old.now a.new.now a.service a.limit a.capacity room _ is,
-        ),
+        e.1 ∙ places-buffer a.old.now a.new.now a.service (k d) (first d) (second d) (R d) a.limit a.capacity (length a.places.now)
+            h.result a.places.now e.0,
+        places-promised a.old.now a.new.now a.service (k d) (first d) (second d) (R d) a.limit a.capacity (length a.places.now) h.result
+            a.places.now _ e.0 refl e.1,
       ),
     )
 

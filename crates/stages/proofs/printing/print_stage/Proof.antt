@@ -135,11 +135,7 @@ returns-2 c =
     let out = (s (m w)).args.out.now in
     let fits : length (bytes (m w)) ≤ length out = omega (arith, t.before.before.before.if1.false, (wrote w).ends) in
     printed (bytes (m w)) out t.copy-text.new.1.0 w.put-lines.result fits
-    (record {
-      ends = (wrote w).ends;
-      holds = t.copy-text.ensures ∙ ap (sets out 0) (first w);
-      fits = omega (arith, t.before.before.before.if1.false);
-    })
+    (record { ends = (wrote w).ends; holds = t.copy-text.ensures ∙ ap (sets out 0) (first w) })
 
 pub print-stage-spec : {M : Type 1} → statement M
 print-stage-spec =

@@ -34,7 +34,7 @@ loop-holds c =
     let a = c.before.before.before.before.args in
     record {
       within = omega arith;
-      wrote = rw (starts_none (at a.stage.now) a.k, text-empty a.service) (nothing a.text.now 0 (omega arith));
+      wrote = rw (starts_none (at a.stage.now) a.k, text-empty a.service) (nothing a.text.now 0);
       edge = λ y l. absurd (omega arith);
     }
 

@@ -41,7 +41,7 @@ module _ (d : tie.After-known-told2) where
   has : Loaded s.args.text.now m y.read_table.last.1.0
   has =
       let r = y.read_table in
-      loaded s.args.text.now m r.result r.last.1.0 r.ensures.0 d.before.read2.given.1 r.ensures.1.0
+      loaded s.args.text.now m r.result r.last.1.0 r.ensures.0 d.before.read2.given.1 r.ensures.1
 
 slice-aggregate-spread : tie.Need-slice-aggregate-spread
 slice-aggregate-spread c = search rules

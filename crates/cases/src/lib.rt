@@ -1,1 +1,0 @@
-// Worked cases of the documents: definitions and their theorems, and no code.
