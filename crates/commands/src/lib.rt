@@ -1,4 +1,6 @@
 // The commands of the program: the bytes that each prints, from the bytes of its files and of its other words.
+#![tactic(auto)]
+
 mod address;
 mod answer;
 mod churning;

@@ -7,20 +7,20 @@ ghost use Rattle.expansion.specs.Inner.Ledger as kept;
 use numerals::{MOST_KNOWN, UNIT};
 
 // The ledger goes by value, so an entry is no wider than it must be.
-#[derive(Drop)]
+#[derive(Clone, Copy)]
 pub struct Backend {
     pub weight: u32,
     pub share: u32,
     pub error: i64,
 }
 
-#[derive(Drop)]
+#[derive(Clone, Copy)]
 pub struct Ledger {
     pub at: [Backend; MOST_KNOWN],
 }
 
 // The backend of the largest excess or shortfall, and its size.
-#[derive(Drop)]
+#[derive(Clone, Copy)]
 pub struct Extreme {
     pub backend: usize,
     pub size: i64,

@@ -1,4 +1,6 @@
 // The expansion of one service: its weights approximated by suffix rules, one after the other.
+#![tactic(auto)]
+
 mod call;
 mod churning;
 mod holders;

@@ -5,7 +5,7 @@ ghost use Rattle.numerals.specs.Limits.{most_rules};
 use crate::rule::Rule;
 use numerals::MOST_RULES;
 
-#[derive(Drop)]
+#[derive(Clone, Copy)]
 pub struct RuleList {
     pub rules: [Rule; MOST_RULES],
     pub stairs: [u64; MOST_RULES],

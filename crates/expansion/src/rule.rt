@@ -1,7 +1,7 @@
 // Rules, and what a list of them comes to.
 
 // A rule sends the suffix of `len` bits with this value to the backend with this label.
-#[derive(Drop)]
+#[derive(Clone, Copy)]
 pub struct Rule {
     pub len: usize,
     pub value: usize,
@@ -9,7 +9,7 @@ pub struct Rule {
 }
 
 // A term of 2^index suffixes from giver to receiver, both by their place in the weights.
-#[derive(Drop)]
+#[derive(Clone, Copy)]
 pub struct Move {
     pub giver: usize,
     pub receiver: usize,
@@ -17,7 +17,7 @@ pub struct Move {
 }
 
 // How a list of rules ended.
-#[derive(Drop)]
+#[derive(Clone, Copy)]
 pub enum Ended {
     Within,
     NoGain,

@@ -35,7 +35,7 @@ pub struct State {
     pub next: Next,
 }
 
-#[derive(Drop)]
+#[derive(Clone, Copy)]
 pub enum Next {
     Stop(Ended),
     Go(Move),

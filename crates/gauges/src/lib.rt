@@ -1,4 +1,6 @@
 // Gauges for the load screen: a backend's share and load as exact binary64 numbers.
+#![tactic(auto)]
+
 mod answer;
 mod calls;
 mod exact;

@@ -1,5 +1,7 @@
 // The calls for C: each hands on the answer of a call of crate `sheets`, `gauges`, `update` or `stages` in plain numbers.
 // `include/gulmorzon.h` declares them.
+#![tactic(auto)]
+
 mod answer;
 mod gauge_answer;
 mod update_answer;

@@ -1,6 +1,6 @@
 -- More decimals (document 02, Req 07): where j more may be written, a percentage that has no more than before stands for 10 ^ j times as many parts. And
 -- what is read has no more decimals than it may have.
-use Prim.Native.Nat.{ℕ, ◌+◌, ◌-◌, ◌*◌, ◌^◌, ◌≤◌, ◌<◌}
+use Prim.Native.Nat.{ℕ, ◌+◌, ◌-◌, ◌*◌, ◌^◌, ◌≤◌}
 use native.Mathlib.Nat.{one-le-pow, mul_assoc, mul_comm, mul-add}
 use native.Mathlib.Omega.{arith}
 use mathlib.Core.Path.{◌≡◌, refl, sym, ap, ◌∙◌}

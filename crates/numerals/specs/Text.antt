@@ -1,5 +1,5 @@
 -- A text is its lines and a line its fields: what stands between single separators, an empty field too.
-use Rattle.std.specs.Prelude.{ℕ, suc, Bool, true, false, List, [], ◌∷◌, eqb}
+use Rattle.std.specs.Prelude.{ℕ, suc, true, false, List, [], ◌∷◌, eqb}
 
 -- b before the first of the fields
 unfoldable pub onto : ℕ → List (List ℕ) → List (List ℕ)

@@ -1,4 +1,6 @@
 // Decimal numbers, percentages, suffixes and their tree places, and the fields of a text: read and written.
+#![tactic(auto)]
+
 mod digits;
 mod limits;
 mod numbers;

@@ -2,7 +2,7 @@
 ghost use Rattle.std.specs.Prelude.{◌≡◌};
 ghost use Rattle.numerals.specs.Refusals.{number_of};
 
-#[derive(Drop)]
+#[derive(Clone, Copy)]
 pub enum Refusal {
     Malformed,
     BadField,
@@ -21,6 +21,7 @@ pub enum Refusal {
 }
 
 // Its number there.
+#[tactic(auto, unfolding(crate::specs::Refusals::number_of))]
 pub fn refusal_number(why: Refusal) -> u64
     ensures { result ≡ number_of why }
 {

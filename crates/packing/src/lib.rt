@@ -1,4 +1,6 @@
 // One table for all services: which service is granted how many rules, the table's lines, and its total.
+#![tactic(auto)]
+
 mod answer;
 mod call;
 mod check;

@@ -6,7 +6,7 @@ use numerals::Refusal;
 
 // Why a sheet, a call or a buffer is refused; the line from 1, or 0 where the line isn't the reason; and of two sheets, or
 // of the one call's two lent buffers (figures 1, table 2), the one that it is about, or 0 where it is about neither.
-#[derive(Drop)]
+#[derive(Clone, Copy)]
 pub struct Refused {
     pub why: Refusal,
     pub line: usize,

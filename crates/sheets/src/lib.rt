@@ -1,4 +1,6 @@
 // The percentage sheet, the rule sheet, the one call, lookup, churn, the count of a share and what an update reads.
+#![tactic(auto)]
+
 mod answer;
 mod fields;
 mod first_line;

@@ -9,7 +9,7 @@ ghost use Rattle.sheets.specs.Inner.Order.{last_of, Placing};
 use numerals::Refusal;
 
 // What the lines so far leave: how many there are, and the service and the suffix's length of the last.
-#[derive(Drop)]
+#[derive(Clone, Copy)]
 pub struct Last {
     pub count: usize,
     pub service: usize,

@@ -1,4 +1,6 @@
 // The program: it asks and tells the operating system and does nothing else. What it prints is defined and proved in `commands`.
+#![tactic(auto)]
+
 mod arguments;
 mod calls;
 mod input;

@@ -1,4 +1,6 @@
 // Answers the vectors that the Rust twin wrote, one line for each.
+#![tactic(auto)]
+
 mod counts;
 mod of_expansion;
 mod of_gauges;

@@ -1,4 +1,6 @@
 // New weights on a loaded table: the oldest rules of a list are kept, and the expansion goes on from there, so that least moves.
+#![tactic(auto)]
+
 mod answer;
 mod texts;
 mod updating;
