@@ -9,5 +9,5 @@ twin = os.path.join(root, "twin/target/release/twin")
 def build():
     """Builds both, if need be."""
     if not os.path.exists(splitter):
-        subprocess.run(["rt", "check", "splitter"], cwd=root, check=True, stdout=subprocess.DEVNULL)
+        subprocess.run([os.path.join(root, "tools/build"), "splitter"], check=True, stdout=subprocess.DEVNULL)
     subprocess.run(["cargo", "build", "--release", "--offline", "--quiet", "--manifest-path", os.path.join(root, "twin/Cargo.toml")], check=True)

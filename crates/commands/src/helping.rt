@@ -79,8 +79,8 @@ What isn't proper prints REFUSED number line (churn, update, stages, stage: numb
 
 // The usage line of a command, or of all, for standard error.
 pub fn usage(command: Command, out: &mut [u8; crate::ROOM]) -> usize
-    ensures answer { result ≡ length (usageText command) }
-    ensures buffer { out.new ≡ sets out.old 0 (usageText command) }
+    ensures answer { result ≡ length (usage_text command) }
+    ensures buffer { out.new ≡ sets out.old 0 (usage_text command) }
 {
     match command {
         Command::Split => put_bytes(out, 0, b"usage: splitter split SHEET\n"),

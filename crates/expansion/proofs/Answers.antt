@@ -8,9 +8,8 @@ use lib.Dec.{leb}
 use lib.ListN.{length, get_or, take}
 use lib.Seq.{take-suc}
 use borrow.Author.Tests.{leb-false, le-leb, lt-leb}
-use Rattle.expansion.specs.Steps.{Frame, first_rule, frame, after, list_of, stair, stairs_to}
+use Rattle.expansion.specs.Steps.{Frame, first_rule, frame, stair, stairs_to}
 use Rattle.expansion.specs.Answer.{check_call, frame_made, list_made, stairs_made, record_made, answer}
-use Rattle.numerals.specs.Limits.{unit}
 use Rattle.expansion.specs.Inner.Lists.{newest_first}
 use Rattle.expansion.specs.Inner.Run.{Made}
 use Rattle.expansion.specs.declared.rule.Rule.{Rule}

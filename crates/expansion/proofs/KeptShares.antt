@@ -1,6 +1,6 @@
 -- A ledger that keeps the shares of its rules: its errors are the excesses and shortfalls of the definitions, so giver, receiver, imbalance and what
 -- comes next are too; and it goes on keeping them as suffixes move.
-use Prim.Native.Nat.{ℕ, ◌+◌, ◌-◌, ◌*◌, ◌^◌, ◌≤◌, ◌<◌}
+use Prim.Native.Nat.{ℕ, ◌+◌, ◌*◌, ◌^◌, ◌≤◌, ◌<◌}
 use mathlib.Core.List.{List}
 use mathlib.Core.Logic.{◌≢◌}
 use mathlib.Core.Path.{◌≡◌, refl, ap, sym, ◌∙◌}

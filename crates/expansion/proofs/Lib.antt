@@ -25,10 +25,6 @@ pub mod KnownIds
 pub mod KnownPlaces
 pub mod LaidRules
 pub mod Found
-pub mod Walk
-pub mod Entries
-pub mod Changes
-pub mod Lending
 pub mod Listing
 pub mod Checks
 pub mod OldNumbers

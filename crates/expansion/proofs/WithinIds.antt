@@ -1,15 +1,15 @@
 -- An update that ends within is so for every id (document 02, Req 04), known or not: one that is missing from the new weights counts as weight 0.
-use Prim.Native.Nat.{ℕ, zero, suc, ◌+◌, ◌*◌, ◌^◌, ◌≤◌, ◌<◌}
+use Prim.Native.Nat.{ℕ, suc, ◌+◌, ◌*◌, ◌^◌, ◌≤◌, ◌<◌}
 use mathlib.Core.Bool.{Bool, true, false, true≢false}
 use mathlib.Core.List.{List, [], ◌∷◌, map}
 use mathlib.Core.Logic.{◌≢◌}
 use mathlib.Core.Path.{◌≡◌, refl, ap, sym, ◌∙◌}
 use native.Mathlib.Omega.{arith}
-use lib.Dec.{leb, ltb, eqb}
+use lib.Dec.{leb, ltb}
 use lib.ListN.{length, get_or, length-map, get_or-eq_default, get_or-map}
 use borrow.Author.Tests.{leb-true, ltb-true, ltb-false, eqb-true, ne_eqb}
 use Rattle.numerals.specs.Limits.{unit}
-use Rattle.numerals.specs.Pick.{pick, both}
+use Rattle.numerals.specs.Pick.{both}
 use Rattle.numerals.proofs.Sums.{count-ext, count-const}
 use Rattle.numerals.proofs.Searches.{both_true, all_true}
 use Rattle.expansion.specs.FirstMatch.{matches, first_match, gives, share}

@@ -1,7 +1,7 @@
 -- The expansion from kept rules (document 02, Req 03 to 05): of an old list the r oldest rules are kept, and the steps of document 01 go on from the shares
 -- that these give, for new weights; of all r that end within tolerance the one with the lowest churn is answered, the largest if equal. What the call checks,
 -- in this order, and what it answers and writes.
-use Rattle.std.specs.Prelude.{ℕ, zero, suc, ◌-◌, min, max, Bool, true, false, List, [], ◌∷◌, leb, eqb, length}
+use Rattle.std.specs.Prelude.{ℕ, suc, ◌-◌, min, max, Bool, true, false, List, [], ◌∷◌, leb, eqb, length}
 use Rattle.numerals.specs.Pick.{pick, both}
 use Rattle.numerals.specs.Limits.{most_bits, unit}
 use Rattle.numerals.specs.Refusals.{no2, no7, no13}

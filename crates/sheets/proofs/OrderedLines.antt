@@ -1,7 +1,7 @@
 -- Lines that each passed behind those before them, the last first, as a reader has them: at most 32 of a service and 2,048 in all; and a text that
 -- was read is a table that passes the checks.
 use Prim.Native.Nat.{ℕ, suc, ◌+◌, ◌-◌, ◌≤◌}
-use mathlib.Core.Path.{◌≡◌, refl, sym, ap}
+use mathlib.Core.Path.{◌≡◌, refl, sym, ap, subst}
 use mathlib.Core.List.{List, [], ◌∷◌, reverse, reverse_aux, reverse-reverse}
 use native.Mathlib.Omega.{arith}
 use lib.ListN.{length, length-reverse}
@@ -56,7 +56,7 @@ unfolding Ordered count_of own_rules
 few-own k s [] h = omega arith
 few-own k s (l ∷ ls) h =
     by-service s l
-    (λ e. rw (← e) (omega (arith, count_same l ls, ltb-true (count_of l.service ls) most_rules h.0.few)))
+    (λ e. subst (λ (x : ℕ). count_of x (l ∷ ls) ≤ most_rules) e (omega (arith, count_same l ls, ltb-true (count_of l.service ls) most_rules h.0.few)))
     (λ n. omega (arith, count-other s l ls n, few-own k s ls h.1))
 
 -- every line is of one of the services

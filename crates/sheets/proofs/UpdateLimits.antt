@@ -1,6 +1,6 @@
 -- The limits of what an update reads: at most 32 rules of a service, and at most 32 weights with their ids.
 use Prim.Native.Nat.{ℕ, ◌+◌, ◌-◌, ◌≤◌}
-use mathlib.Core.Path.{◌≡◌, refl, sym, ap, ◌∙◌}
+use mathlib.Core.Path.{◌≡◌, refl, sym, ap, ◌∙◌, subst}
 use mathlib.Core.Bool.{Bool, true, false}
 use mathlib.Core.List.{List, [], ◌∷◌}
 use native.Mathlib.Omega.{arith}
@@ -25,7 +25,7 @@ few-behind k s before [] few h = omega arith
 few-behind k s before (l ∷ ls) few h =
     by-service s l
     (λ e.
-    rw (← e)
+    subst (λ (x : ℕ). count_of x before + count_of x (l ∷ ls) ≤ most_rules) e
     (let one : count_of l.service (l ∷ before) ≤ most_rules =
     omega (arith, count_same l before, ltb-true (count_of l.service before) most_rules h.0.few) in
     omega (arith, count_same l before, count_same l ls, few-behind k l.service (l ∷ before) ls one h.1)))

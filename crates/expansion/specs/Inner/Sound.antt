@@ -1,6 +1,6 @@
 -- What a frame has to have, so that the theorems on its expansion hold. The frame of document 01 has it where k and the unit are above 0, its weights
 -- sum to the unit and its labels differ.
-use Rattle.std.specs.Prelude.{ℕ, ◌-◌, ◌^◌, ◌≤◌, ◌<◌, true, List, [], ◌∷◌, ◌≢◌, ◌≡◌}
+use Rattle.std.specs.Prelude.{ℕ, ◌-◌, ◌≤◌, ◌<◌, true, List, [], ◌∷◌, ◌≢◌, ◌≡◌}
 use Rattle.numerals.specs.Sums.{sum_to}
 use Rattle.expansion.specs.FirstMatch.{nobody, is_rule, gives}
 use Rattle.expansion.specs.Imbalance.{backends, label, weight}

@@ -1,6 +1,6 @@
 -- The packing read off the stored lists, place by place: costs and savings by the stairs, the total of the grants, the number of lines, the figures
 -- and the cells of the table. `proofs/StoredCosts.antt` and `proofs/Written.antt` show that they are those of document 01 where the lists are.
-use Rattle.std.specs.Prelude.{ℕ, zero, suc, ◌+◌, ◌-◌, ◌*◌, ◌^◌, ◌≤◌, ◌<◌, min, ◌≡◌, List, [], ◌∷◌, ◌++◌, ltb, length, get_or}
+use Rattle.std.specs.Prelude.{ℕ, zero, suc, ◌-◌, ◌*◌, ◌^◌, ◌≤◌, ◌<◌, min, ◌≡◌, List, [], ◌∷◌, ◌++◌, ltb, length, get_or}
 use Rattle.numerals.specs.Pick.{pick}
 use Rattle.numerals.specs.Limits.{most_services, most_rules, most_capacity, most_volume}
 use Rattle.numerals.specs.Sums.{sum_to}

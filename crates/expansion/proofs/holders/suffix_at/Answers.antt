@@ -1,0 +1,30 @@
+-- `holders::suffix_at` meets its contract: the suffix is read from the listing of the twelve-bit ones.
+use Prim.Native.Nat.{ℕ, ◌-◌, ◌/◌, ◌^◌, ◌<◌}
+use mathlib.Core.Path.{ap, sym, ◌∙◌}
+use native.Mathlib.Nat.{mod-eq_of_lt}
+use native.Mathlib.Omega.{arith}
+use Rattle.numerals.specs.Limits.{most_bits, most_suffixes}
+use Rattle.numerals.specs.Suffix.{place}
+use Rattle.numerals.proofs.Place.{place_read}
+use Rattle.numerals.proofs.Powers.{pow-few}
+use Rattle.expansion.proofs.holders.suffix_at.Goals as goal
+use Rattle.expansion.proofs.holders.suffix_at.Goals.{Start}
+
+few : (s : Start) → s.args.at < most_suffixes
+few s = omega (arith, pow-few s.args.k s.requires.0)
+
+pub offset_bounds-places-at : goal.offset_bounds-places-at
+offset_bounds-places-at c = omega (arith, few c)
+
+pub bounds-places-at : goal.bounds-places-at
+bounds-places-at c = omega (arith, few (goal.at.bounds-places-at c).Start, c.requires.1.1.long)
+
+pub overflow_cast-result : goal.overflow_cast-result
+overflow_cast-result c = omega (arith, c.shared_slice_known-1.given c.args.at)
+
+pub returns : goal.returns
+returns c =
+    let a = c.args in
+    ap (λ (x : ℕ). x / 2 ^ (most_bits - a.k))
+    (c.requires.1.1.at a.at (few (goal.at.returns c).Start) ∙ ap (place most_bits) (sym (mod-eq_of_lt c.requires.1.0)))
+    ∙ place_read a.k most_bits a.at c.requires.0

@@ -1,0 +1,121 @@
+-- `ledger::survey_of`: the extremes so far are those of the backends passed, and the sum is that of their excesses, each of them small.
+use Prim.Native.Nat.{ℕ, ◌^◌, ◌≤◌, ◌<◌}
+use mathlib.Core.Bool.{true, false}
+use mathlib.Core.Path.{◌≡◌, sym, ap, ◌∙◌}
+use native.Mathlib.Omega.{arith}
+use lib.IntN.{ℤ, pos, neg_ℤ, nat_abs, ◌-ℤ◌, +ℤ_idl}
+use lib.Signed.{mag, lt_z}
+use mir.Syntax.{w64}
+use mir.Val.{to_z, of_z}
+use Rattle.expansion.specs.Inner.Ledger.{over, under, Small, error_at}
+use Rattle.expansion.specs.declared.ledger.Extreme.{Extreme}
+use Rattle.numerals.proofs.Sums.{sum-none, sum-next, sum-most}
+use Rattle.expansion.proofs.Signed.{over-mag, mag-neg, above, below-zero, back, small-read}
+use Rattle.expansion.proofs.Surveys.{top, top-none, top-raised, top-zero, top-largest}
+use Rattle.expansion.proofs.ledger.survey_of.Goals as goal
+use Rattle.expansion.proofs.ledger.survey_of.Goals.{then-e-gt0, else-e-gt0}
+use Rattle.expansion.proofs.ledger.survey_of.Goals.{After-struct_told-1}
+
+pub loop-b-init : goal.loop-b-init
+loop-b-init c =
+    let excess : ℕ → ℕ = λ i. over (error_at c.args.ledger i) in
+    let shortfall : ℕ → ℕ = λ i. under (error_at c.args.ledger i) in
+    (omega arith, sym (top-none excess), sym (top-none shortfall), sym (sum-none excess))
+
+-- the error of this turn, small, and as the machine has it
+module _ (c : After-struct_told-1) where
+  abbrev b : ℕ
+  b = c.loop-b.b
+
+  abbrev excess : ℕ → ℕ
+  excess i = over (error_at c.args.ledger i)
+
+  abbrev shortfall : ℕ → ℕ
+  shortfall i = under (error_at c.args.ledger i)
+
+  abbrev e : ℤ
+  e = error_at c.args.ledger b
+
+  small : Small e
+  small = c.requires.by_index b (omega arith)
+
+  few : (i : ℕ) → i ≤ b → excess i ≤ 2 ^ 50
+  few i m = omega (arith, over-mag (error_at c.args.ledger i), (c.requires.by_index i (omega arith)).small)
+
+  read : to_z w64 (of_z w64 e) ≡ e
+  read = small-read e small
+
+  is-above : lt_z (pos 0) (to_z w64 (of_z w64 e)) ≡ true → e ≡ pos (over e)
+  is-above t = above 0 e (ap (lt_z (pos 0)) (sym read) ∙ t)
+
+  is_below : lt_z (pos 0) (to_z w64 (of_z w64 e)) ≡ false → (over e ≡ 0) × (neg_ℤ e ≡ pos (under e))
+  is_below t = below-zero e (ap (lt_z (pos 0)) (sym read) ∙ t)
+
+  neg-few : mag (neg_ℤ e) < 2 ^ 63
+  neg-few = omega (arith, mag-neg e, small.small)
+
+  negated : to_z w64 (of_z w64 (pos 0 -ℤ to_z w64 (of_z w64 e))) ≡ neg_ℤ e
+  negated = rw (read, +ℤ_idl (neg_ℤ e)) (back (neg_ℤ e) neg-few)
+
+pub overflow_cast-imbalance : goal.overflow_cast-imbalance
+overflow_cast-imbalance c =
+    rw (read (goal.at.overflow_cast-imbalance c).After-struct_told-1 ∙ is-above (goal.at.overflow_cast-imbalance c).After-struct_told-1 c.if-e-gt0.true) (tt, record { fits = omega (arith, few (goal.at.overflow_cast-imbalance c).After-struct_told-1 (b (goal.at.overflow_cast-imbalance c).After-struct_told-1) (omega arith)) })
+
+pub overflow_add-imbalance : goal.overflow_add-imbalance
+overflow_add-imbalance c =
+    rw (read (goal.at.overflow_add-imbalance c).After-struct_told-1 ∙ is-above (goal.at.overflow_add-imbalance c).After-struct_told-1 c.if-e-gt0.true)
+    (record {
+      fits = omega (
+        arith,
+        few (goal.at.overflow_add-imbalance c).After-struct_told-1 (b (goal.at.overflow_add-imbalance c).After-struct_told-1) (omega arith),
+        sum-most (b (goal.at.overflow_add-imbalance c).After-struct_told-1) (excess (goal.at.overflow_add-imbalance c).After-struct_told-1) (2 ^ 50) (λ i m. few (goal.at.overflow_add-imbalance c).After-struct_told-1 i (omega arith)),
+      );
+    })
+
+-- a size so far is no negative number
+natural : (f : ℕ → ℕ) (n : ℕ) (x : Extreme) → x ≡ top f n → x.size ≡ pos (over x.size)
+natural f n x e = rw e
+
+pub raised-give-requires : goal.raised-give-requires
+raised-give-requires c =
+    natural (excess (goal.at.raised-give-requires c).After-struct_told-1) (b (goal.at.raised-give-requires c).After-struct_told-1) c.loop-b.give c.loop-b.invariant.1
+
+pub overflow_sub-e : goal.overflow_sub-e
+overflow_sub-e c =
+    rw (read (goal.at.overflow_sub-e c).After-struct_told-1, +ℤ_idl (neg_ℤ (e (goal.at.overflow_sub-e c).After-struct_told-1))) (record { sfits = neg-few (goal.at.overflow_sub-e c).After-struct_told-1 })
+
+pub raised-take-requires : goal.raised-take-requires
+raised-take-requires c =
+    natural (shortfall (goal.at.raised-take-requires c).After-struct_told-1) (b (goal.at.raised-take-requires c).After-struct_told-1) c.loop-b.take c.loop-b.invariant.2
+
+pub loop-b-preserved : goal.loop-b-preserved
+loop-b-preserved c =
+    let inv = c.loop-b.invariant in
+    let more = sum-next (b (goal.at.loop-b-preserved c).After-struct_told-1) (excess (goal.at.loop-b-preserved c).After-struct_told-1) in
+    elim c.if-e-gt0.branch [
+      | then-e-gt0 w ↦ let h = is-above (goal.at.loop-b-preserved c).After-struct_told-1 w.if-e-gt0.true in (
+        omega arith,
+        w.give-is ∙ top-raised (excess (goal.at.loop-b-preserved c).After-struct_told-1) (b (goal.at.loop-b-preserved c).After-struct_told-1) c.loop-b.give w.raised-give.result (to_z w64 (of_z w64 (e (goal.at.loop-b-preserved c).After-struct_told-1))) inv.1 (read (goal.at.loop-b-preserved c).After-struct_told-1 ∙ h) w.raised-give.ensures,
+        w.take-is ∙ inv.2 ∙ sym (top-zero (shortfall (goal.at.loop-b-preserved c).After-struct_told-1) (b (goal.at.loop-b-preserved c).After-struct_told-1) (ap under h)),
+        omega (arith, w.imbalance-is, inv.3, more, ap nat_abs (read (goal.at.loop-b-preserved c).After-struct_told-1 ∙ h)),
+      )
+      | else-e-gt0 w ↦ let h = is_below (goal.at.loop-b-preserved c).After-struct_told-1 w.if-e-gt0.false in (
+        omega arith,
+        w.give-is ∙ inv.1 ∙ sym (top-zero (excess (goal.at.loop-b-preserved c).After-struct_told-1) (b (goal.at.loop-b-preserved c).After-struct_told-1) h.0),
+        w.take-is ∙ top-raised (shortfall (goal.at.loop-b-preserved c).After-struct_told-1) (b (goal.at.loop-b-preserved c).After-struct_told-1) c.loop-b.take w.raised-take.result (to_z w64 (of_z w64 (pos 0 -ℤ to_z w64 (of_z w64 (e (goal.at.loop-b-preserved c).After-struct_told-1))))) inv.2
+            (negated (goal.at.loop-b-preserved c).After-struct_told-1 ∙ h.1) w.raised-take.ensures,
+        omega (arith, w.imbalance-is, inv.3, more, h.0),
+      )
+    ]
+
+pub returns : goal.returns
+returns c =
+    let L = c.args.ledger in
+    let n = c.args.n in
+    let inv = c.loop-b.invariant in
+    let e : c.loop-b.b ≡ n = omega arith in
+    record {
+      give = inv.1 ∙ ap (top (λ i. over (error_at L i))) e ∙ top-largest L n false c.requires.n_nonzero.0;
+      take = inv.2 ∙ ap (top (λ i. under (error_at L i))) e ∙ top-largest L n true c.requires.n_nonzero.0;
+      imbalance = inv.3 ∙ rw e;
+    }

@@ -1,0 +1,98 @@
+-- `first_line::read_fields` meets its contract: each return by the tests and the fields that led to it.
+use Prim.Native.Nat.{ℕ, ◌+◌}
+use mathlib.Core.Path.{◌≡◌, refl, sym, ap, ◌∙◌}
+use mathlib.Core.List.{List}
+use native.Mathlib.Omega.{arith}
+use borrow.Author.Tests.{eq-eqb, ne_eqb, not-true, not-false}
+use Rattle.numerals.specs.Decimal.{number}
+use Rattle.numerals.specs.Limits.{most_bits, text_limit}
+use Rattle.sheets.specs.Reading.{Reading, got, same, field, unless, on_field}
+use Rattle.sheets.specs.FirstLine.{Opening, opening_fields}
+use Rattle.sheets.specs.Inner.Fields.{lines_at, fields_at}
+use Rattle.sheets.specs.Inner.FirstLine.{read_as}
+use Rattle.sheets.proofs.first_line.read_fields.Goals as goal
+use Rattle.sheets.proofs.first_line.read_fields.Goals.{After-is_word, Else-count_fields-ne4, In-Value, In-Value-read_form, Start}
+
+-- the fields of the line, and the lines behind it
+abbrev fields_of : Start → List (List ℕ)
+fields_of s = fields_at s.args.text.now 0 s.args.to
+
+abbrev whole : Start → Reading Opening
+whole s =
+    opening_fields s.args.word.now (read_as s.args.second) (read_as s.args.third) (fields_of s) (lines_at s.args.text.now (s.args.to + 1))
+
+-- what is left of them once the word and their number were found right, once k was read, and once the next was
+abbrev last : Start → ℕ → ℕ → Reading Opening
+last s k x =
+    on_field (read_as s.args.third (field (fields_of s) 3)) 1
+    (λ y. got (record { k = k; second = x; third = y; behind = lines_at s.args.text.now (s.args.to + 1) }))
+
+abbrev last_two : Start → ℕ → Reading Opening
+last_two s k = on_field (read_as s.args.second (field (fields_of s) 2)) 1 (last s k)
+
+word : (c : After-is_word) → same (field (fields_of (goal.at.After-is_word c).Start) 0) c.args.word.now ≡ c.is_word.result
+word c =
+        ap (λ (l : List ℕ). same l c.args.word.now) (sym c.field_at-first.ensures.part) ∙ sym c.is_word.ensures
+
+four :
+    (c : Else-count_fields-ne4) → whole (goal.at.Else-count_fields-ne4 c).Start
+    ≡ on_field (number 1 most_bits (field (fields_of (goal.at.Else-count_fields-ne4 c).Start) 1)) 1 (last_two (goal.at.Else-count_fields-ne4 c).Start)
+unfolding opening_fields unless
+four c =
+    simp (word (goal.at.Else-count_fields-ne4 c).After-is_word ∙ not-false _ c.if-not-is_word.false-raw, eq-eqb _ 4 (sym c.count_fields.ensures ∙ c.if-count_fields-ne4.false))
+
+bits :
+    (c : In-Value)
+    → whole (goal.at.In-Value c).Start ≡ last_two (goal.at.In-Value c).Start c.in-Value.k
+unfolding on_field
+bits c = four (goal.at.In-Value c).Else-count_fields-ne4 ∙ rw (sym c.number_in.ensures ∙ c.in-Value.is)
+
+second :
+    (c : In-Value-read_form)
+    →     whole (goal.at.In-Value-read_form c).Start ≡ last (goal.at.In-Value-read_form c).Start c.in-Value.k c.in-Value-read_form.x
+unfolding on_field
+second c = bits (goal.at.In-Value-read_form c).In-Value ∙ rw (sym c.read_form.ensures ∙ c.in-Value-read_form.is)
+
+pub returns-then-not-is_word : goal.returns-then-not-is_word
+unfolding opening_fields unless
+returns-then-not-is_word c = rw c.refused_at.ensures (simp (word (goal.at.returns-then-not-is_word c).After-is_word ∙ not-true _ c.if-not-is_word.true-raw), refl)
+
+pub returns-then-count_fields-ne4 : goal.returns-then-count_fields-ne4
+unfolding opening_fields unless
+returns-then-count_fields-ne4 c =
+    rw c.refused_at-then-count_fields-ne4.ensures (
+      simp (
+        word (goal.at.returns-then-count_fields-ne4 c).After-is_word ∙ not-false _ c.if-not-is_word.false-raw,
+        ne_eqb _ 4 (λ e. c.if-count_fields-ne4.true (c.count_fields.ensures ∙ e)),
+      ),
+      refl,
+    )
+
+pub returns-in_default : goal.returns-in_default
+unfolding on_field
+returns-in_default c =
+    rw c.refused_at-in_default.ensures
+    (four (goal.at.returns-in_default c).Else-count_fields-ne4 ∙ rw (sym c.number_in.ensures ∙ c.in_default.is), refl)
+
+pub returns-in_default-read_form : goal.returns-in_default-read_form
+unfolding on_field
+returns-in_default-read_form c =
+    rw c.refused_at-in_default-read_form.ensures
+    (bits (goal.at.returns-in_default-read_form c).In-Value ∙ rw (sym c.read_form.ensures ∙ c.in_default-read_form.is), refl)
+
+pub returns-in_default-read_form-2 : goal.returns-in_default-read_form-2
+unfolding on_field
+returns-in_default-read_form-2 c =
+    rw c.refused_at-in_default-read_form-2.ensures
+    (second (goal.at.returns-in_default-read_form-2 c).In-Value-read_form ∙ rw (sym c.read_form-2.ensures ∙ c.in_default-read_form-2.is), refl)
+
+pub overflow_add-result : goal.overflow_add-result
+unfolding text_limit
+overflow_add-result c = omega arith
+
+pub returns : goal.returns
+unfolding on_field
+returns c = (
+  second (goal.at.returns c).In-Value-read_form ∙ rw (sym c.read_form-2.ensures ∙ c.in-Value-read_form-2.is),
+  omega arith,
+)

@@ -1,0 +1,94 @@
+-- `nodes::height` meets its contract. The invariant: node i is the one of height n around the place, and one backend has it.
+use Prim.Native.Nat.{ℕ, suc, ◌+◌, ◌-◌, ◌*◌, ◌/◌, ◌%◌, ◌^◌, ◌<◌}
+use mathlib.Core.Bool.{true}
+use mathlib.Core.List.{List}
+use mathlib.Core.Path.{◌≡◌, ap, sym, ◌∙◌, subst}
+use native.Mathlib.Omega.{arith}
+use lib.ListN.{get_or}
+use Rattle.numerals.proofs.Powers.{pow-few, shifted}
+use Rattle.stages.specs.Inner.Nodes.{Nodes, uniform, lines_at, node_count}
+use Rattle.stages.proofs.NodeLaws.{uniform-leaf, one-lines, path-lt}
+use Rattle.stages.proofs.HeapNodes.{leaf-level, number_lt, path-up, top, not_top, path-node, not-one, height-end}
+use Rattle.stages.proofs.nodes.height.Goals as goal
+use Rattle.stages.proofs.nodes.height.Goals.{In-loop-i, Start}
+
+all-is : (s : Start) → (1 * 2 ^ s.args.k) % 2 ^ 64 ≡ 2 ^ s.args.k
+all-is s = shifted s.args.k s.requires.0
+
+pub overflow_add-i : goal.overflow_add-i
+overflow_add-i c = omega (arith, all-is c, pow-few c.args.k c.requires.0)
+
+pub loop-i-init : goal.loop-i-init
+loop-i-init c =
+    let whole : c.args.p / 2 ^ 0 ≡ c.args.p = omega arith in (
+      omega arith,
+      omega (arith, all-is c, leaf-level c.args.k),
+      λ g held N. uniform-leaf g (c.args.p / 2 ^ 0),
+    )
+
+-- the node above
+above : (c : In-loop-i)
+    → let a = c.args in
+    let l = c.loop-i in
+    (l.n < a.k) × (l.i / 2 ≡ 2 ^ (a.k - suc l.n) + a.p / 2 ^ suc l.n) × (l.i / 2 < node_count)
+above c =
+        let a = c.args in
+    let l = c.loop-i in
+    let less : l.n < a.k = not_top a.k l.n a.p l.i l.invariant.0 c.requires.1.0 l.invariant.1 c.loop-i-test.true in (
+      less,
+      path-up a.k l.n a.p l.i less l.invariant.1,
+      omega (arith, l.invariant.1, number_lt a.k l.n (a.p / 2 ^ l.n) (path-lt a.k l.n a.p l.invariant.0 c.requires.1.0), pow-few a.k c.requires.0),
+    )
+
+-- its lines
+counted : (c : In-loop-i)
+    → let a = c.args in
+    let l = c.loop-i in
+    (g : ℕ → ℕ) (held : List ℕ) → Nodes a.k g 1 held a.lines.now
+    → get_or a.lines.now (l.i / 2) 0 ≡ lines_at g (suc l.n) (a.p / 2 ^ suc l.n)
+counted c g held N =
+        let a = c.args in
+    let l = c.loop-i in
+    path-node a.k g held a.lines.now N (suc l.n) a.p (l.i / 2) (above c).0 c.requires.1.0 (above c).1
+
+pub offset_bounds-lines-i : goal.offset_bounds-lines-i
+offset_bounds-lines-i c = omega (arith, (above c).2)
+
+pub bounds-lines-i : goal.bounds-lines-i
+bounds-lines-i c = omega (arith, (above (goal.at.bounds-lines-i c).In-loop-i).2, c.requires.1.1)
+
+pub overflow_add-n : goal.overflow_add-n
+overflow_add-n c = omega (arith, (above (goal.at.overflow_add-n c).In-loop-i).0)
+
+pub loop-i-preserved : goal.loop-i-preserved
+loop-i-preserved c =
+        let a = c.args in
+    let n = c.loop-i.n in
+    let next : suc n ≡ n + 1 = omega arith in (
+      omega (arith, (above (goal.at.loop-i-preserved c).In-loop-i).0),
+      (above (goal.at.loop-i-preserved c).In-loop-i).1 ∙ ap (λ (m : ℕ). 2 ^ (a.k - m) + a.p / 2 ^ m) next,
+      λ g held N.
+          subst (λ (m : ℕ). uniform g m (a.p / 2 ^ m) ≡ true) next
+          (one-lines g (suc n) (a.p / 2 ^ suc n) (sym (counted (goal.at.loop-i-preserved c).In-loop-i g held N) ∙ c.if-lines-i-eq1.true)),
+    )
+
+pub returns-else-lines-i-eq1 : goal.returns-else-lines-i-eq1
+returns-else-lines-i-eq1 c =
+        let a = c.args in
+    let l = c.loop-i in
+    record {
+      few = l.invariant.0;
+      height = λ g held N.
+          height-end g a.k a.p l.n l.invariant.0 (l.invariant.2 g held N) (λ less.
+          not-one g (suc l.n) (a.p / 2 ^ suc l.n) (λ e. c.if-lines-i-eq1.false (counted (goal.at.returns-else-lines-i-eq1 c).In-loop-i g held N ∙ e)));
+    }
+
+pub returns-after-loop-i : goal.returns-after-loop-i
+returns-after-loop-i c =
+    let a = c.args in
+    let l = c.loop-i in
+    let all : l.n ≡ a.k = top a.k l.n (a.p / 2 ^ l.n) l.i l.invariant.0 l.invariant.1 c.loop-i-test.false in
+    record {
+      few = l.invariant.0;
+      height = λ g held N. height-end g a.k a.p l.n l.invariant.0 (l.invariant.2 g held N) (λ less. absurd (omega arith));
+    }
