@@ -23,7 +23,7 @@ abbrev pub side : Bool → ℤ → ℕ
 side false z = over z
 side true z = under z
 
--- an error so small that no sum of a few of them goes wrong: unit × 2^mostBits is far below
+-- an error so small that no sum of a few of them goes wrong: unit × 2^most_bits is far below
 pub record Small (z : ℤ) : Type 0 where
   pub small : mag z < 2 ^ 50
 

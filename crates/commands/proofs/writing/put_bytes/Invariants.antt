@@ -1,0 +1,13 @@
+-- `writing::put_bytes` meets its contract. The invariant: once what is left of the text is stored too, the buffer is what it is to be.
+use Prim.Native.Nat.{◌+◌, ◌-◌, ◌≤◌}
+use mathlib.Core.Path.{◌≡◌}
+use lib.ListN.{length, drop}
+use lib.Seq.{sets}
+use Rattle.commands.proofs.writing.put_bytes.Given as goal
+
+abbrev pub invariant-loop-i : goal.invariant-loop-i
+invariant-loop-i l =
+    (l.i ≤ length l.text) × (length l.out ≡ length l.initial.out) × (sets l.initial.out l.at l.text ≡ sets l.out (l.at + l.i) (drop l.i l.text))
+
+abbrev pub decreases-loop-i : goal.decreases-loop-i
+decreases-loop-i l = length l.text - l.i

@@ -1,0 +1,7 @@
+-- `gulmorzon_churn` meets its contract: the answer of `sheets::churn` in plain numbers.
+use mathlib.Core.Path.{ap, ◌∙◌}
+use Rattle.gulmorzon.specs.Answers.{of_answer}
+use Rattle.gulmorzon.proofs.gulmorzon_churn.Goals as goal
+
+pub returns : goal.returns
+returns c = c.of_answer.ensures ∙ ap of_answer c.churn.ensures

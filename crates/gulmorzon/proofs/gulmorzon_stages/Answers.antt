@@ -1,0 +1,16 @@
+-- `gulmorzon_stages` meets its contract: the answer of `stages::stage_places` in plain numbers.
+use mathlib.Core.Path.{ap, ◌∙◌}
+use Rattle.sheets.specs.Calls.{is_value}
+use Rattle.gulmorzon.specs.Answers.{of_answer}
+use Rattle.gulmorzon.proofs.Lent.{lent}
+use Rattle.gulmorzon.proofs.Promised.{promised-row}
+use Rattle.gulmorzon.proofs.gulmorzon_stages.Goals as goal
+
+pub returns : goal.returns
+returns c =
+    let e = c.stage_places.ensures in
+    record {
+      answer = c.of_answer.ensures ∙ ap of_answer e.answer;
+      buffer = lent _ _ (ap is_value e.answer) e.buffer;
+      promise = promised-row c.stage_places.result _ _ _ _ _ _ c.of_answer.ensures e.promise;
+    }

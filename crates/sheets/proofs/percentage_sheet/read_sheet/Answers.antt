@@ -1,0 +1,26 @@
+-- `percentage_sheet::read_sheet` meets its contract: line 1, and the lines behind it.
+use Rattle.sheets.specs.Reading.{then}
+use Rattle.sheets.specs.PercentageSheet.{sheet_line, read_sheet, read_sheet_at}
+use Rattle.sheets.specs.Inner.FirstLine.{read_as}
+use Rattle.sheets.specs.Inner.SheetReader.{sheet_from}
+use Rattle.sheets.proofs.percentage_sheet.read_sheet.Goals as goal
+
+pub read_services-requires : goal.read_services-requires
+read_services-requires c =
+        let line = rw c.in-Line.is at c.read_first_line-read.ensures in
+    record {
+      from_in_bounds = line.1;
+      most_services_in_bounds = c.requires;
+    }
+
+pub returns-in-Refused : goal.returns-in-Refused
+unfolding read_sheet read_sheet_at sheet_line read_as then
+returns-in-Refused c =
+    let line = rw c.in-Refused.is at c.read_first_line-read.ensures in
+    (rw line.0, line.1)
+
+pub returns-in-Line : goal.returns-in-Line
+unfolding read_sheet read_sheet_at sheet_line sheet_from read_as then
+returns-in-Line c =
+        let line = rw c.in-Line.is at c.read_first_line-read.ensures in
+    rw line.0 c.read_services.ensures

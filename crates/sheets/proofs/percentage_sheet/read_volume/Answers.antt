@@ -1,0 +1,91 @@
+-- `percentage_sheet::read_volume` meets its contract: each return by the tests and the field that led to it.
+use Prim.Native.Nat.{ℕ, ◌+◌, ◌<◌, ◌≤◌}
+use mathlib.Core.Path.{◌≡◌, sym, ap, ◌∙◌}
+use mathlib.Core.List.{List}
+use native.Mathlib.Omega.{arith}
+use lib.Dec.{eqb}
+use lib.ListN.{length, drop}
+use lib.Seq.{slice}
+use borrow.Author.Tests.{lt-ltb, le-ltb, lt-leb, le-leb}
+use Rattle.numerals.specs.Decimal.{number}
+use Rattle.numerals.specs.Text.{split}
+use Rattle.numerals.specs.Limits.{most_backends, most_services, most_volume, unit, decimals}
+use Rattle.numerals.specs.declared.refusal.Refusal.TheVariants.{Unbalanced}
+use Rattle.sheets.specs.Reading.{got, then, same, field, unless, on_field}
+use Rattle.sheets.specs.PercentageSheet.{service_word, weight_fields, sum, service_fields}
+use Rattle.sheets.proofs.percentage_sheet.read_volume.Goals as goal
+use Rattle.sheets.proofs.percentage_sheet.read_volume.Goals.{After-is_word, Else-count-gt-MOST_FIELDS, Start}
+
+-- the line's fields
+abbrev fields : Start → List (List ℕ)
+fields s = split 32 (slice s.args.from s.args.to s.args.text.now)
+
+word : (c : After-is_word) → same (field (fields (goal.at.After-is_word c).Start) 0) service_word ≡ c.is_word.result
+word c = ap (λ l. same l service_word) (sym c.field_at-word.ensures.part) ∙ sym c.is_word.ensures
+
+pub returns-then-not-is_word : goal.returns-then-not-is_word
+unfolding service_fields unless
+returns-then-not-is_word c = simp (word (goal.at.returns-then-not-is_word c).After-is_word ∙ c.if-not-is_word.true)
+
+pub returns-then-i-ge-MOST_SERVICES : goal.returns-then-i-ge-MOST_SERVICES
+unfolding service_fields unless
+returns-then-i-ge-MOST_SERVICES c = simp (word (goal.at.returns-then-i-ge-MOST_SERVICES c).After-is_word ∙ c.if-not-is_word.false, le-ltb _ most_services c.if-i-ge-MOST_SERVICES.true)
+
+pub returns-then-count-lt3 : goal.returns-then-count-lt3
+unfolding service_fields unless
+returns-then-count-lt3 c =
+    let few : length (fields (goal.at.returns-then-count-lt3 c).Start) < 3 = omega arith in
+    simp (
+      word (goal.at.returns-then-count-lt3 c).After-is_word ∙ c.if-not-is_word.false,
+      lt-ltb _ most_services c.if-i-ge-MOST_SERVICES.false,
+      lt-leb 3 _ few,
+    )
+
+pub returns-then-count-gt-MOST_FIELDS : goal.returns-then-count-gt-MOST_FIELDS
+unfolding service_fields unless
+returns-then-count-gt-MOST_FIELDS c =
+    let fs = fields (goal.at.returns-then-count-gt-MOST_FIELDS c).Start in
+    let some : 3 ≤ length fs = omega arith in
+    let many : 2 + most_backends < length fs = omega arith in
+    simp (
+      word (goal.at.returns-then-count-gt-MOST_FIELDS c).After-is_word ∙ c.if-not-is_word.false,
+      lt-ltb _ most_services c.if-i-ge-MOST_SERVICES.false,
+      le-leb 3 _ some,
+      lt-leb _ (2 + most_backends) many,
+    )
+
+-- the line once all tests were passed
+line :
+    (c : Else-count-gt-MOST_FIELDS)
+    →     let fs = fields (goal.at.Else-count-gt-MOST_FIELDS c).Start in
+    let i = c.args.i in
+    service_fields decimals unit i fs
+    ≡ on_field (number 0 most_volume (field fs 1)) (i + 2) (λ v.
+    then (weight_fields decimals (i + 2) 0 (drop 2 fs)) (λ ws.
+    unless (eqb (sum ws.weights) unit) Unbalanced (i + 2)
+    (got (record { volume = v; ids = ws.ids; weights = ws.weights }))))
+unfolding service_fields unless
+line c =
+    let fs = fields (goal.at.Else-count-gt-MOST_FIELDS c).Start in
+    let some : 3 ≤ length fs = omega arith in
+    let few : length fs ≤ 2 + most_backends = omega arith in
+    simp (
+      word (goal.at.Else-count-gt-MOST_FIELDS c).After-is_word ∙ c.if-not-is_word.false,
+      lt-ltb _ most_services c.if-i-ge-MOST_SERVICES.false,
+      le-leb 3 _ some,
+      le-leb _ (2 + most_backends) few,
+    )
+
+pub returns-in_default : goal.returns-in_default
+unfolding on_field
+returns-in_default c = line (goal.at.returns-in_default c).Else-count-gt-MOST_FIELDS ∙ rw (sym c.number_in.ensures ∙ c.in_default.is)
+
+pub returns : goal.returns
+unfolding on_field
+returns c =
+    record {
+      place = omega arith;
+      some = omega arith;
+      few = omega arith;
+      rest = line (goal.at.returns c).Else-count-gt-MOST_FIELDS ∙ rw (sym c.number_in.ensures ∙ c.in-Value.is);
+    }

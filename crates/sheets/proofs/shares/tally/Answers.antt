@@ -1,0 +1,50 @@
+-- `shares::tally` meets its contract. The invariant: the suffixes below s are counted.
+use Prim.Native.Nat.{◌^◌}
+use mathlib.Core.Path.{◌≡◌, refl, ap, ◌∙◌}
+use native.Mathlib.Omega.{arith}
+use Rattle.numerals.proofs.Sums.{count-le}
+use Rattle.numerals.proofs.Powers.{shifted}
+use Rattle.numerals.specs.Sums.{sum_to, count_to}
+use Rattle.expansion.specs.FirstMatch.{gives, share}
+use Rattle.packing.specs.Count.{own_rules}
+use Rattle.sheets.specs.Inner.TableNumbers.{lines_in}
+use Rattle.sheets.proofs.Sharing.{given_to, given-more, other-more}
+use Rattle.sheets.proofs.shares.tally.Goals as goal
+use Rattle.sheets.proofs.shares.tally.Goals.{then-first_backend-backend, else-first_backend-backend}
+
+pub overflow_shl-all : goal.overflow_shl-all
+overflow_shl-all c = omega (arith, c.requires.1)
+
+pub loop-s-init : goal.loop-s-init
+unfolding count_to sum_to
+loop-s-init c = (omega arith, refl)
+
+pub first_backend-requires : goal.first_backend-requires
+first_backend-requires c = c.requires.0
+
+pub overflow_add-held : goal.overflow_add-held
+overflow_add-held c =
+    let a = c.args in
+    let l = c.loop-s in
+    omega (
+      arith,
+      l.invariant.1,
+      count-le l.s (λ v. gives (own_rules a.service (lines_in a.table.now a.n)) v a.backend),
+      c.loop-s-test.true,
+    )
+
+pub loop-s-preserved : goal.loop-s-preserved
+loop-s-preserved c =
+    let l = c.loop-s in
+    let a = c.args in
+    let first = c.first_backend.ensures in (
+      omega arith,
+      elim c.if-first_backend-backend.branch [ then-first_backend-backend w ↦ omega (arith, l.invariant.1, w.held-is, given-more _ a.backend l.s _ first w.if-first_backend-backend.true) | else-first_backend-backend w ↦ omega (arith, l.invariant.1, w.held-is, other-more _ a.backend l.s _ first w.if-first_backend-backend.false) ],
+    )
+
+pub returns : goal.returns
+unfolding share
+returns c =
+    let l = c.loop-s in
+        let end : l.s ≡ 2 ^ c.args.k = omega (arith, shifted c.args.k c.requires.1) in
+    l.invariant.1 ∙ ap (given_to (own_rules c.args.service (lines_in c.args.table.now c.args.n)) c.args.backend) end

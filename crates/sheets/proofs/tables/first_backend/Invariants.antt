@@ -1,0 +1,21 @@
+-- `tables::first_backend` meets its contract. The invariant: the first match of all lines is that of the lines that are left.
+use Prim.Native.Nat.{ℕ, ◌-◌, ◌*◌, ◌≤◌}
+use mathlib.Core.Path.{◌≡◌}
+use mathlib.Core.List.{List}
+use lib.Seq.{slice}
+use Rattle.expansion.specs.FirstMatch.{first_match}
+use Rattle.packing.specs.Count.{own_rules}
+use Rattle.sheets.specs.Calls.{lines_from}
+use Rattle.sheets.specs.Inner.TableNumbers.{lines_in}
+use Rattle.sheets.proofs.tables.first_backend.Given as goal
+
+-- the first match from line i on
+abbrev pub from : List ℕ → ℕ → ℕ → ℕ → ℕ → ℕ
+from table n service address i = first_match (own_rules service (lines_from (slice (4 * i) (4 * n) table))) address
+
+abbrev pub invariant-loop-left : goal.invariant-loop-left
+invariant-loop-left l =
+    (l.left ≤ l.n) × (first_match (own_rules l.service (lines_in l.table l.n)) l.address ≡ from l.table l.n l.service l.address (l.n - l.left))
+
+abbrev pub decreases-loop-left : goal.decreases-loop-left
+decreases-loop-left l = l.left
