@@ -7,10 +7,10 @@ use lib.ListN.{length}
 use lib.Seq.{sets}
 use borrow.Author.Tests.{le-leb, leb-true}
 use Rattle.sheets.specs.Reading.{Reading, got, refused, then}
-use Rattle.sheets.specs.PercentageSheet.{Sheet, read_sheet, read_sheet_at}
+use Rattle.sheets.specs.PercentageSheet.{Sheet, read_sheet}
 use Rattle.numerals.specs.Limits.{decimals, unit, text_limit}
 use Rattle.sheets.specs.FirstLine.{first_line}
-use Rattle.sheets.specs.RuleSheet.{Table, table_line, read_table}
+use Rattle.sheets.specs.RuleSheet.{table_line, read_table}
 use Rattle.sheets.specs.Calls.{print_text, print_read, values_of, sheet_text}
 use Rattle.sheets.specs.declared.answer.Refused as answer
 use Rattle.sheets.specs.declared.answer.Answer.TheVariants.{Value, Refused}

@@ -1,6 +1,6 @@
 -- No refusal has number 0, so an answer with number 0 is one that was printed: demand 3 holds of it, and what is promised of stages. And request 03's
 -- promise, by equal answers.
-use Prim.Native.Nat.{ℕ, zero, suc}
+use Prim.Native.Nat.{ℕ}
 use mathlib.Core.Path.{◌≡◌, refl, sym, ap, ◌∙◌, subst, subst⁻¹}
 use mathlib.Core.List.{List}
 use native.Mathlib.Omega.{arith}

@@ -10,13 +10,12 @@ use lib.ListN.{length}
 use lib.Seq.{slice}
 use borrow.Author.Tests.{leb-true, eqb-true, eqb-false, ne_eqb}
 use Rattle.numerals.specs.Pick.{both}
-use Rattle.numerals.specs.Digits.{is_digit, all_digits, value, on_value}
+use Rattle.numerals.specs.Digits.{is_digit, all_digits, value}
 use Rattle.numerals.specs.Decimal.{no_leading_zero, is_numeral, number}
 use Rattle.numerals.specs.Limits.{most_id, decimals, unit}
 use Rattle.numerals.specs.Percentage.{fraction, at_most_all, percent_of, percentage}
 use Rattle.numerals.specs.Refusals.{no2}
 use Rattle.numerals.specs.Text.{onto, split, index_of}
-use Rattle.numerals.specs.declared.digits.Number.{Number}
 use Rattle.numerals.specs.declared.digits.Number.TheVariants.{Value, Bad}
 use Rattle.numerals.proofs.Base.{digit-high, picked, not-value, on_value_lem}
 use Rattle.numerals.proofs.Choice.{by_less, both_left, both_right}

@@ -1,6 +1,6 @@
 -- The first matching line of a service: it is found line by line, and a service of a proper table has one for every suffix, since its last line is a `*`.
 use Prim.Native.Nat.{ℕ, ◌%◌, ◌^◌, ◌≤◌, ◌<◌}
-use mathlib.Core.Path.{◌≡◌, refl, sym, ap, ◌∙◌}
+use mathlib.Core.Path.{◌≡◌, refl, sym, ap}
 use mathlib.Core.Bool.{Bool, true, false}
 use mathlib.Core.List.{List, [], ◌∷◌, reverse_aux}
 use native.Mathlib.Nat.{pow-zero, mod-one}

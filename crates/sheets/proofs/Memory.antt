@@ -1,12 +1,12 @@
 -- The memory of the reader of the percentage sheet: one service more behind those that it holds, and the sheet that it holds after the last.
-use Prim.Native.Nat.{ℕ, ◌+◌, ◌<◌, ◌≤◌}
+use Prim.Native.Nat.{ℕ, ◌+◌, ◌<◌}
 use mathlib.Core.Path.{◌≡◌, refl, sym, ap, ◌∙◌}
 use mathlib.Core.Bool.{Bool, true, false}
 use mathlib.Core.List.{List, [], ◌∷◌, ◌++◌, append_assoc, append-nil}
 use native.Mathlib.Numerals.{add-one}
 use native.Mathlib.Omega.{arith}
 use lib.Dec.{leb, ltb}
-use lib.ListN.{length, take, set, length-append}
+use lib.ListN.{length, set, length-append}
 use lib.Seq.{take-suc-set}
 use Rattle.sheets.specs.Reading.{unless}
 use Rattle.sheets.specs.PercentageSheet.{Service, volumes_of, ids_of, weights_of, whole}

@@ -1,5 +1,5 @@
 -- The table of a percentage sheet is proper: its lines are in order and in their limits, and its total is in its limit.
-use Prim.Native.Nat.{ℕ, suc, ◌-◌, ◌*◌, ◌^◌, ◌≤◌, ◌<◌, min}
+use Prim.Native.Nat.{ℕ, suc, ◌-◌, ◌*◌, ◌≤◌, ◌<◌, min}
 use mathlib.Core.Path.{◌≡◌, refl, sym, ◌∙◌, subst}
 use mathlib.Core.List.{List, [], reverse}
 use native.Mathlib.Nat.{le_trans, mul-le-mul}

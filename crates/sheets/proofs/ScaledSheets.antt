@@ -1,6 +1,6 @@
 -- A percentage sheet read with j more decimals (document 02, Req 07): where none of its percentages has more than before, it is the same sheet in parts
 -- that are 10 ^ j times as small, or has the same refusal.
-use Prim.Native.Nat.{ℕ, zero, suc, ◌+◌, ◌*◌, ◌^◌, ◌<◌}
+use Prim.Native.Nat.{ℕ, suc, ◌+◌, ◌*◌, ◌^◌}
 use mathlib.Core.Path.{◌≡◌, refl, sym, ap, ◌∙◌}
 use mathlib.Core.Bool.{true}
 use mathlib.Core.List.{List, [], ◌∷◌, map}
@@ -9,7 +9,7 @@ use native.Mathlib.Omega.{arith}
 use lib.Dec.{leb, eqb}
 use lib.ListN.{length, drop, length-map}
 use Rattle.numerals.specs.Decimal.{number}
-use Rattle.numerals.specs.Limits.{most_bits, most_backends, most_id, most_services, most_capacity, most_volume, text_limit}
+use Rattle.numerals.specs.Limits.{most_bits, most_capacity, most_volume, text_limit}
 use Rattle.numerals.specs.Percentage.{percentage, few_decimals}
 use Rattle.numerals.specs.Refusals.{no1, no2, no3, no4, no5, no6, no11}
 use Rattle.numerals.specs.Text.{split}

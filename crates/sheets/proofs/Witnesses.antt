@@ -1,5 +1,5 @@
 -- Witnesses: the premises of the round trip and of demand 3 can be met, the bounds of demand 3 are reached, and the one call has each of its answers.
-use Prim.Native.Nat.{ℕ, zero, suc, ◌+◌, ◌<◌, ◌≤◌}
+use Prim.Native.Nat.{ℕ, zero, suc, ◌<◌, ◌≤◌}
 use mathlib.Core.Path.{◌≡◌, refl, subst}
 use mathlib.Core.List.{List, [], ◌∷◌}
 use native.Mathlib.Omega.{arith}
@@ -28,7 +28,7 @@ use Rattle.packing.specs.Demand.{Fitting}
 use Rattle.expansion.specs.Answer.{in_limits}
 use Rattle.packing.specs.Cases.{line, sample as packable, p7_lines}
 use Rattle.packing.proofs.Cases.{lists, lists-are, packs-sample}
-use Rattle.sheets.specs.Reading.{Reading, got, refused, then, unless, on_field, same}
+use Rattle.sheets.specs.Reading.{got, then, unless, on_field, same}
 use Rattle.sheets.specs.PercentageSheet.{Sheet, weight_fields, sum, service_fields, service_lines, volumes_of, ids_of}
 use Rattle.sheets.specs.PercentageSheet.{weights_of as rows_of, whole, sheet_line, read_sheet, read_sheet_at}
 use Rattle.sheets.specs.FirstLine.{opening_fields, opening_lines, first_line}

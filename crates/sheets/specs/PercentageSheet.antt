@@ -1,6 +1,6 @@
 -- The percentage sheet (document 01, under that heading; its backends have ids by document 02, Req 04), with every refusal in its order. It is read with any
 -- number d of decimals, and weights that sum to any number `all` of parts; which they are is said where `read_sheet` stands.
-use Rattle.std.specs.Prelude.{ℕ, zero, suc, ◌+◌, Bool, true, false, List, [], ◌∷◌, leb, ltb, eqb, length, drop}
+use Rattle.std.specs.Prelude.{ℕ, suc, ◌+◌, List, [], ◌∷◌, leb, ltb, eqb, length, drop}
 use Rattle.numerals.specs.Decimal.{number}
 use Rattle.numerals.specs.Percentage.{percentage}
 use Rattle.numerals.specs.Text.{split}

@@ -1,5 +1,5 @@
 -- The rule sheet (document 01, "Rule sheet and program"): its text, and its reading with every refusal in its order.
-use Rattle.std.specs.Prelude.{ℕ, ◌+◌, Bool, true, false, List, [], ◌∷◌, ◌++◌, reverse, leb, ltb, eqb, length}
+use Rattle.std.specs.Prelude.{ℕ, ◌+◌, Bool, true, List, [], ◌∷◌, ◌++◌, reverse, leb, ltb, eqb, length}
 use Rattle.numerals.specs.Pick.{pick, both}
 use Rattle.numerals.specs.Decimal.{number, decimal}
 use Rattle.numerals.specs.Suffix.{suffix, suffix_text}
@@ -13,7 +13,7 @@ use Rattle.expansion.specs.Answer.{in_limits}
 use Rattle.expansion.specs.FirstMatch.{is_rule}
 use Rattle.numerals.specs.Refusals.{no1, no2, no4, no5, no9, no10}
 use Rattle.packing.specs.Count.{Line, own_rules}
-use Rattle.sheets.specs.Reading.{Reading, got, refused, then, unless, on_field, same, field}
+use Rattle.sheets.specs.Reading.{Reading, got, refused, then, unless, on_field, field}
 use Rattle.sheets.specs.FirstLine.{Opening, first_line}
 use Rattle.numerals.specs.Limits.{most_bits, most_id, most_services, most_rules, most_capacity, total_limit}
 

@@ -4,11 +4,10 @@ use mathlib.Core.Bool.{Bool, true, false}
 use mathlib.Core.List.{List}
 use mathlib.Core.Path.{◌≡◌, refl, ap, sym, ◌∙◌, subst}
 use native.Mathlib.Omega.{arith}
-use lib.Dec.{leb, eqb}
+use lib.Dec.{eqb}
 use lib.ListN.{length, take}
 use lib.Seq.{sets}
 use borrow.Author.Tests.{eqb-true, eq-eqb, le-leb}
-use Rattle.numerals.specs.Pick.{both}
 use Rattle.numerals.specs.Buffer.{filled}
 use Rattle.numerals.specs.Limits.{most_backends, most_rules}
 use Rattle.numerals.specs.declared.refusal.Refusal.{Refusal}

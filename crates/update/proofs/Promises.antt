@@ -27,7 +27,6 @@ use Rattle.expansion.proofs.Lowest.{LowestAbove, lowest-found}
 use Rattle.sheets.proofs.OneCall.{take-sets}
 use Rattle.update.specs.Update.{update_answer, is_made}
 use Rattle.update.specs.Promise.{Ends, Least, Kept, Stuck, PromisedFor}
-use Rattle.update.specs.declared.answer.Update as update
 use Rattle.update.specs.declared.answer.Updated.{Updated}
 use Rattle.update.specs.declared.answer.Updated.TheVariants.{Made, Refused}
 use Rattle.update.proofs.UpdateForm.{not-both, same-made, record_updated, update-failed, update-stuck, update_found}

@@ -6,7 +6,7 @@ use mathlib.Core.List.{List, [], ◌∷◌, reverse_aux}
 use mathlib.Core.Path.{◌≡◌, refl, ap, sym, ◌∙◌}
 use native.Mathlib.Omega.{arith}
 use lib.Dec.{leb, ltb, eqb}
-use lib.ListN.{length, get_or}
+use lib.ListN.{length}
 use borrow.Author.Tests.{ltb-true, eq-eqb, ne_eqb, lt-ltb, le-leb}
 use Rattle.numerals.specs.Pick.{both}
 use Rattle.numerals.specs.Limits.{most_bits, most_services, most_rules, unit}

@@ -1,6 +1,5 @@
 -- `gulmorzon_update` meets its contract: the answer of `update::update_sheets` in plain numbers.
 use mathlib.Core.Path.{ap, ◌∙◌}
-use borrow.Author.Rules.{rules}
 use Rattle.update.specs.Sheets.{is_made}
 use Rattle.gulmorzon.specs.Update.{of_update}
 use Rattle.gulmorzon.proofs.Lent.{lent-filled}

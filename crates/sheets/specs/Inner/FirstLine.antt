@@ -10,7 +10,6 @@ use Rattle.sheets.specs.Inner.Fields.{lines_at, fields_at}
 use Rattle.sheets.specs.declared.answer.Refused.{Refused as Why}
 use Rattle.sheets.specs.declared.first_line.Form.{Form}
 use Rattle.sheets.specs.declared.first_line.Form.TheVariants.{Limits, Percentage}
-use Rattle.sheets.specs.declared.first_line.FirstLine.{FirstLine}
 use Rattle.sheets.specs.declared.first_line.FirstRead.{FirstRead}
 use Rattle.sheets.specs.declared.first_line.FirstRead.TheVariants.{Line, Refused}
 

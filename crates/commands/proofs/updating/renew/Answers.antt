@@ -1,6 +1,5 @@
 -- `updating::renew` meets its contract, by what `update::update_sheets` answers and leaves in the numbers lent to it.
 use mathlib.Core.Path.{refl, sym, ◌∙◌}
-use borrow.Author.Rules.{rules}
 use Rattle.commands.proofs.Updates.{made-rules, made-text, refused-text}
 use Rattle.commands.proofs.updating.renew.Goals as goal
 

@@ -6,7 +6,7 @@ use Rattle.gauges.proofs.calls.gauge_reading.Goals as goal
 
 pub returns-in-Made : goal.returns-in-Made
 returns-in-Made c =
-        let a = c.args in
+    let a = c.args in
     let told = sym c.in-Made.is ∙ c.gauge_record-made.ensures.answer in
     let is = ap Read c.read.ensures ∙ sym (reading-made _ _ _ _ a.gauge _ told) in
     record {
@@ -16,7 +16,7 @@ returns-in-Made c =
 
 pub returns-in-Refused : goal.returns-in-Refused
 returns-in-Refused c =
-        let a = c.args in
+    let a = c.args in
     let told = sym c.in-Refused.is ∙ c.gauge_record-made.ensures.answer in
     let is = c.refused_or_absent.ensures ∙ sym (reading-refused _ _ _ _ a.gauge _ told) in
     record {

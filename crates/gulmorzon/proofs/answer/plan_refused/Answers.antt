@@ -1,7 +1,6 @@
 -- `answer::plan_refused` meets its contract: the number is what `refusal_number` answers.
 use Prim.Native.Nat.{ℕ}
 use mathlib.Core.Path.{ap}
-use borrow.Author.Rules.{rules}
 use Rattle.gulmorzon.proofs.answer.plan_refused.Goals as goal
 
 pub returns : goal.returns

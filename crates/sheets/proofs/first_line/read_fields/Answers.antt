@@ -32,7 +32,7 @@ last_two s k = on_field (read_as s.args.second (field (fields_of s) 2)) 1 (last 
 
 word : (c : After-is_word) → same (field (fields_of (goal.at.After-is_word c).Start) 0) c.args.word.now ≡ c.is_word.result
 word c =
-        ap (λ (l : List ℕ). same l c.args.word.now) (sym c.field_at-first.ensures.part) ∙ sym c.is_word.ensures
+    ap (λ (l : List ℕ). same l c.args.word.now) (sym c.field_at-first.ensures.part) ∙ sym c.is_word.ensures
 
 four :
     (c : Else-count_fields-ne4) → whole (goal.at.Else-count_fields-ne4 c).Start
@@ -49,7 +49,7 @@ bits c = four (goal.at.In-Value c).Else-count_fields-ne4 ∙ rw (sym c.number_in
 
 second :
     (c : In-Value-read_form)
-    →     whole (goal.at.In-Value-read_form c).Start ≡ last (goal.at.In-Value-read_form c).Start c.in-Value.k c.in-Value-read_form.x
+    → whole (goal.at.In-Value-read_form c).Start ≡ last (goal.at.In-Value-read_form c).Start c.in-Value.k c.in-Value-read_form.x
 unfolding on_field
 second c = bits (goal.at.In-Value-read_form c).In-Value ∙ rw (sym c.read_form.ensures ∙ c.in-Value-read_form.is)
 

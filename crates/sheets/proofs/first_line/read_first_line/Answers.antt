@@ -12,7 +12,7 @@ returns-then-text-gt-TEXT_LIMIT c =
 pub returns-then-text-end : goal.returns-then-text-end
 unfolding text_limit
 returns-then-text-end c =
-        rw c.refused_at-then-text-end.ensures
+    rw c.refused_at-then-text-end.ensures
     (no_end _ _ _ c.args.text.now c.if-text-gt-TEXT_LIMIT.false _ c.find-end.ensures c.if-text-end.true, refl)
 
 pub read_fields-requires : goal.read_fields-requires
@@ -22,5 +22,5 @@ read_fields-requires c = (c.if-text-end.false, c.if-text-gt-TEXT_LIMIT.false)
 pub returns : goal.returns
 unfolding text_limit
 returns c =
-        rw (ended _ _ _ c.args.text.now c.if-text-gt-TEXT_LIMIT.false _ c.find-end.ensures c.if-text-end.false)
+    rw (ended _ _ _ c.args.text.now c.if-text-gt-TEXT_LIMIT.false _ c.find-end.ensures c.if-text-end.false)
     c.read_fields.ensures

@@ -9,26 +9,28 @@ use Rattle.sheets.specs.Inner.TableNumbers.{line}
 use Rattle.sheets.proofs.Following.{too_many, by_order, behind-next}
 use Rattle.sheets.proofs.order.place_line.Goals as goal
 use Rattle.sheets.proofs.order.place_line.Goals.{
-  Else-n-ge-MOST_RULES, else-not-in_order-via-then-not-in_order+else-n-lt-MOST_RULES, else-not-in_order-via-else-not-in_order
+  Else-n-ge-MOST_RULES,
+  else-not-in_order-via-then-not-in_order+else-n-lt-MOST_RULES,
+  else-not-in_order-via-else-not-in_order,
 }
 
 pub returns-then-n-lt-MOST_RULES : goal.returns-then-n-lt-MOST_RULES
 unfolding unless
 returns-then-n-lt-MOST_RULES c =
-        λ before v b passed.
+    λ before v b passed.
     by_order before _ (omega (arith, ltb-true, c.if-n-lt-MOST_RULES.true-raw, passed.tallied c.args.service (search rules)))
     ∙ rw (sym (c.in_order.ensures before v b passed.is), not-true c.in_order.result c.if-not-in_order.true-raw)
 
 pub returns-then-n-ge-MOST_RULES : goal.returns-then-n-ge-MOST_RULES
 returns-then-n-ge-MOST_RULES c =
-        λ before v b passed. too_many before _ (omega (arith, c.if-n-ge-MOST_RULES.true, passed.tallied c.args.service (search rules)))
+    λ before v b passed. too_many before _ (omega (arith, c.if-n-ge-MOST_RULES.true, passed.tallied c.args.service (search rules)))
 
 -- the line is in order: otherwise there were 32 before it
 sorted : (c : Else-n-ge-MOST_RULES) → c.in_order.result ≡ true
 sorted c =
     elim c.else-not-in_order.branch [
-      else-not-in_order-via-then-not-in_order+else-n-lt-MOST_RULES w ↦ absurd (omega arith)
-    | else-not-in_order-via-else-not-in_order w ↦ w.if-not-in_order.false
+      | else-not-in_order-via-then-not-in_order+else-n-lt-MOST_RULES w ↦ absurd (omega arith)
+      | else-not-in_order-via-else-not-in_order w ↦ w.if-not-in_order.false
     ]
 
 pub returns : goal.returns

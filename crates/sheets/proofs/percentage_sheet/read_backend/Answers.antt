@@ -17,7 +17,7 @@ returns-then-to-colon c =
 
 pub returns-in_default : goal.returns-in_default
 returns-in_default c =
-        let f = c.find-colon in
+    let f = c.find-colon in
     let a = c.args in
     field-no-id a.from a.to f.result a.text.now (omega arith) f.ensures a.before c.if-to-colon.false
     (sym c.read_number.ensures ∙ c.in_default.is)
@@ -25,20 +25,20 @@ returns-in_default c =
 -- the id that was read
 named :
     (c : In-Value)
-    →     let a = c.args in
+    → let a = c.args in
     number (a.before + 1) most_id (slice a.from c.find-colon.result a.text.now) ≡ Value c.in-Value.id
 named c = sym c.read_number.ensures ∙ c.in-Value.is
 
 pub returns-in_default-read_percentage : goal.returns-in_default-read_percentage
 returns-in_default-read_percentage c =
-            let f = c.find-colon in
+    let f = c.find-colon in
     let a = c.args in
     field-no-weight a.from a.to f.result a.text.now (omega arith) f.ensures a.before c.if-to-colon.false _ (named (goal.at.returns-in_default-read_percentage c).In-Value)
     (sym c.read_percentage.ensures ∙ c.in_default-read_percentage.is)
 
 pub returns : goal.returns
 returns c =
-            let f = c.find-colon in
+    let f = c.find-colon in
     let a = c.args in
     field-got a.from a.to f.result a.text.now (omega arith) f.ensures a.before c.if-to-colon.false _ _ (named (goal.at.returns c).In-Value)
     (sym c.read_percentage.ensures ∙ c.in-Value-read_percentage.is)

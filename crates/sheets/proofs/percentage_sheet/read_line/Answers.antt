@@ -49,7 +49,7 @@ pub returns-in-Weights : goal.returns-in-Weights
 unfolding then
 returns-in-Weights c =
     let served = rw c.in-Weights.is at c.read_service-read.ensures in
-        record {
+    record {
       service = served.service;
       read = rw served.read at (line (goal.at.returns-in-Weights c).Else-text-end);
       after = omega (arith, c.find-end.ensures);

@@ -26,12 +26,12 @@ opened c = rw c.in-Volume.is at c.read_volume-opened.ensures
 -- the fields from the third on are the backends
 rest :
     (c : After-field_at-first)
-    →     split 32 (slice c.field_at-first.result.from c.args.to c.args.text.now) ≡ drop 2 (fields (goal.at.After-field_at-first c).Start)
+    → split 32 (slice c.field_at-first.result.from c.args.to c.args.text.now) ≡ drop 2 (fields (goal.at.After-field_at-first c).Start)
 rest c = c.field_at-first.ensures.rest (omega (arith, (opened (goal.at.After-field_at-first c).In-Volume).some))
 
 pub read_weights-read-requires : goal.read_weights-read-requires
 read_weights-read-requires c =
-        let o = opened (goal.at.read_weights-read-requires c).In-Volume in
+    let o = opened (goal.at.read_weights-read-requires c).In-Volume in
     record {
       from_le_to = (omega arith, omega arith);
       to_len_bound = (omega (arith, ap length (rest (goal.at.read_weights-read-requires c).After-field_at-first), length-drop 2 (fields (goal.at.read_weights-read-requires c).Start)), (omega arith, omega arith));
@@ -73,7 +73,7 @@ pub returns-else-sum-ne-UNIT : goal.returns-else-sum-ne-UNIT
 unfolding then unless unit
 returns-else-sum-ne-UNIT c =
     let w = weighed (goal.at.returns-else-sum-ne-UNIT c).In-Weights in
-        let o = opened (goal.at.returns-else-sum-ne-UNIT c).In-Volume in
+    let o = opened (goal.at.returns-else-sum-ne-UNIT c).In-Volume in
     let a = c.args in
     record {
       service = record { volume = c.in-Volume.volume; ids = w.found.ids; weights = w.found.weights };

@@ -7,7 +7,7 @@ use Rattle.sheets.proofs.percentage_sheet.read_sheet.Goals as goal
 
 pub read_services-requires : goal.read_services-requires
 read_services-requires c =
-        let line = rw c.in-Line.is at c.read_first_line-read.ensures in
+    let line = rw c.in-Line.is at c.read_first_line-read.ensures in
     record {
       from_in_bounds = line.1;
       most_services_in_bounds = c.requires;
@@ -22,5 +22,5 @@ returns-in-Refused c =
 pub returns-in-Line : goal.returns-in-Line
 unfolding read_sheet read_sheet_at sheet_line sheet_from read_as then
 returns-in-Line c =
-        let line = rw c.in-Line.is at c.read_first_line-read.ensures in
+    let line = rw c.in-Line.is at c.read_first_line-read.ensures in
     rw line.0 c.read_services.ensures

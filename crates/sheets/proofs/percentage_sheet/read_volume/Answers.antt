@@ -57,7 +57,7 @@ returns-then-count-gt-MOST_FIELDS c =
 -- the line once all tests were passed
 line :
     (c : Else-count-gt-MOST_FIELDS)
-    →     let fs = fields (goal.at.Else-count-gt-MOST_FIELDS c).Start in
+    → let fs = fields (goal.at.Else-count-gt-MOST_FIELDS c).Start in
     let i = c.args.i in
     service_fields decimals unit i fs
     ≡ on_field (number 0 most_volume (field fs 1)) (i + 2) (λ v.

@@ -59,14 +59,14 @@ read_backend-read-requires c = (omega (arith, c.find-end.ensures), (omega (arith
 
 pub returns-in_default : goal.returns-in_default
 returns-in_default c line =
-        let l = c.loop-start in
+    let l = c.loop-start in
     let bad = rw c.in_default.is at c.read_backend-read.ensures in
     l.invariant.whole line ∙ rw (next (goal.at.returns-in_default c).After-find-end, bad line _) (joined-refused l.invariant.done _ line)
 
 -- the backend that was read
 found :
     (c : In-Backend)
-    →     let l = c.loop-start in
+    → let l = c.loop-start in
     let a = c.args in
     Named l.before (slice l.start c.find-end.result a.text.now) c.in-Backend.id c.in-Backend.weight
 found c = rw c.in-Backend.is at c.read_backend-read.ensures
@@ -105,7 +105,7 @@ loop-start-smaller c = omega (arith, ap length (next (goal.at.loop-start-smaller
 pub loop-start-preserved : goal.loop-start-preserved
 unfolding unit
 loop-start-preserved c =
-        let l = c.loop-start in
+    let l = c.loop-start in
     let a = c.args in
     let id = c.in-Backend.id in
     let w = c.in-Backend.weight in

@@ -71,14 +71,14 @@ returns-in-Refused c =
 -- the answer and the buffers, from the packing's
 packed :
     (c : After-pack-packed)
-    →     let a = c.args in
+    → let a = c.args in
     let r = plan_from c.in-Sheet.head.k c.in-Sheet.services c.pack-packed.result in
     let l = c.pack-packed.new in
     (r ≡ plan_answer a.text.now (length a.figures.now) (length a.table.now))
     × ((l.figures ≡ afterwards (is_plan r) a.figures.now (values_of (read_sheet a.text.now) figures_for))
     × (l.table ≡ afterwards (is_plan r) a.table.now (values_of (read_sheet a.text.now) cells_for)))
 packed c =
-        let a = c.args in
+    let a = c.args in
     let text = a.text.now in
     let p = c.pack-packed.result in (
       plan-made text (held (goal.at.After-pack-packed c).In-Sheet) p (length a.figures.now) (length a.table.now) c.pack-packed.ensures.answer,

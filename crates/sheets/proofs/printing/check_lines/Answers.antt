@@ -68,18 +68,18 @@ ends c =
 
 pub returns-then-table-ne0 : goal.returns-then-table-ne0
 returns-then-table-ne0 c =
-        ends (goal.at.returns-then-table-ne0 c).After-loop-i ∙ too_few _ _ c.loop-i.invariant.1.before (λ e. c.if-table-ne0.true (omega (arith, count-broken c.args.table.now)))
+    ends (goal.at.returns-then-table-ne0 c).After-loop-i ∙ too_few _ _ c.loop-i.invariant.1.before (λ e. c.if-table-ne0.true (omega (arith, count-broken c.args.table.now)))
 
 pub returns-then-last-eq0 : goal.returns-then-last-eq0
 returns-then-last-eq0 c =
-        let C = c.loop-i.invariant.1 in
+    let C = c.loop-i.invariant.1 in
     ends (goal.at.returns-then-last-eq0 c).After-loop-i
     ∙ all_sound _ _ C.before (omega (arith, count-broken c.args.table.now, c.if-table-ne0.false))
     (ap (λ (q : Last). q.len) (sym C.behind.is) ∙ c.if-last-eq0.true)
 
 pub returns-else-last-eq0 : goal.returns-else-last-eq0
 returns-else-last-eq0 c =
-        let C = c.loop-i.invariant.1 in
+    let C = c.loop-i.invariant.1 in
     ends (goal.at.returns-else-last-eq0 c).After-loop-i
     ∙ left_open _ _ C.before (omega (arith, count-broken c.args.table.now, c.if-table-ne0.false))
     (λ e. c.if-last-eq0.false (ap (λ (q : Last). q.len) C.behind.is ∙ e))

@@ -63,7 +63,7 @@ returns-then-n-gt-MOST_CAPACITY c =
 pub returns-then-total-gt-TOTAL_LIMIT : goal.returns-then-total-gt-TOTAL_LIMIT
 unfolding total_limit
 returns-then-total-gt-TOTAL_LIMIT c =
-        handed-total _ _ _ (short (goal.at.returns-then-total-gt-TOTAL_LIMIT c).Else-text_width-gt-TEXT_LIMIT)
+    handed-total _ _ _ (short (goal.at.returns-then-total-gt-TOTAL_LIMIT c).Else-text_width-gt-TEXT_LIMIT)
     c.if-k-lt1.false
     c.if-k-gt-MOST_BITS.false
     (omega (arith, c.if-n-lt1.false, c.line_count-n.ensures))

@@ -13,7 +13,7 @@ use Rattle.sheets.proofs.printing.fits.Goals as goal
 pub returns-then-room-ge-TEXT_LIMIT : goal.returns-then-room-ge-TEXT_LIMIT
 unfolding text_limit
 returns-then-room-ge-TEXT_LIMIT c =
-        let short = table-short c.args.table.now c.args.n c.requires.1 c.args.k c.args.total c.requires.0 (omega arith) (omega arith) in
+    let short = table-short c.args.table.now c.args.n c.requires.1 c.args.k c.args.total c.requires.0 (omega arith) (omega arith) in
     sym (le-leb (length (table_text (table_in c.args.k c.args.total c.args.table.now c.args.n))) c.args.room
     (omega (arith, c.if-room-ge-TEXT_LIMIT.true, short)))
 
@@ -22,6 +22,6 @@ text_width-requires c = c.requires.1.room
 
 pub returns : goal.returns
 returns c =
-        ap (λ (w : _). leb w c.args.room)
+    ap (λ (w : _). leb w c.args.room)
     (c.text_width.ensures
     ∙ table_counted c.args.table.now c.args.n c.requires.1 c.args.k c.args.total c.requires.0 (omega arith) (omega arith))

@@ -14,7 +14,7 @@ returns-then-not-fits c =
 
 pub put_table-requires : goal.put_table-requires
 put_table-requires c =
-        (c.requires.0, (c.requires.1, leb-true _ _ (sym c.fits.ensures ∙ c.if-not-fits.false)))
+    (c.requires.0, (c.requires.1, leb-true _ _ (sym c.fits.ensures ∙ c.if-not-fits.false)))
 
 pub returns : goal.returns
 returns c =

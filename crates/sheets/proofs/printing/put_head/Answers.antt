@@ -62,7 +62,7 @@ put_number-a-requires c =
 
 pub put_number-b-requires : goal.put_number-b-requires
 put_number-b-requires c =
-        let a = c.args in
+    let a = c.args in
     let w = c.put_number-a.ensures in
     omega (
       arith,
@@ -75,7 +75,7 @@ put_number-b-requires c =
 
 pub put_number-requires : goal.put_number-requires
 put_number-requires c =
-        let a = c.args in
+    let a = c.args in
     let v = c.put_number-a.ensures in
     let w = c.put_number-b.ensures in
     omega (

@@ -24,11 +24,11 @@ parts s l v b = simp append_assoc
 
 pub put_number-a-requires : goal.put_number-a-requires
 put_number-a-requires c =
-        omega (arith, c.requires.1, length-decimal c.args.service)
+    omega (arith, c.requires.1, length-decimal c.args.service)
 
 pub put_suffix-b-requires : goal.put_suffix-b-requires
 put_suffix-b-requires c =
-        let f = formed most_bits _ c.requires.0 in
+    let f = formed most_bits _ c.requires.0 in
     let w = c.put_number-a.ensures in (
       (f.short, f.bits),
       omega (
@@ -43,7 +43,7 @@ put_suffix-b-requires c =
 
 pub put_number-requires : goal.put_number-requires
 put_number-requires c =
-        let w = c.put_number-a.ensures in
+    let w = c.put_number-a.ensures in
     let v = c.put_suffix-b.ensures in
     let both = chain w v in
     omega (

@@ -4,10 +4,10 @@ use Rattle.sheets.proofs.printing.put_number.Goals as goal
 
 pub separate-requires : goal.separate-requires
 separate-requires c =
-        let w = c.write_number-written in
+    let w = c.write_number-written in
     before-end _ _ _ c.requires _ _ w.ensures.answer w.ensures.buffer
 
 pub returns : goal.returns
 returns c =
-        let w = c.write_number-written in
+    let w = c.write_number-written in
     chain (text _ _ _ c.requires _ _ w.ensures.answer w.ensures.buffer) c.separate.ensures

@@ -42,11 +42,11 @@ module _
 
 pub separate-requires : goal.separate-requires
 separate-requires c =
-        let w = c.write_suffix-written in
+    let w = c.write_suffix-written in
     suffix-before _ _ _ _ (record { short = c.requires.0.0; small = c.requires.0.1 }) c.requires.1 _ _ w.ensures.answer w.ensures.buffer
 
 pub returns : goal.returns
 returns c =
-        let w = c.write_suffix-written in
+    let w = c.write_suffix-written in
     chain (suffix-text _ _ _ _ (record { short = c.requires.0.0; small = c.requires.0.1 }) c.requires.1 _ _ w.ensures.answer w.ensures.buffer)
     c.separate.ensures

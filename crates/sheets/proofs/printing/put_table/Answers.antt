@@ -21,12 +21,12 @@ line-ends l w = omega (arith, w.ends, length-line l)
 
 pub put_head-at-requires : goal.put_head-at-requires
 put_head-at-requires c =
-        let a = c.args in
+    let a = c.args in
     omega (arith, c.requires.1.1, table-width a.table.now a.n c.requires.1.0 a.k a.total)
 
 pub loop-left-init : goal.loop-left-init
 loop-left-init c =
-        let a = c.args in
+    let a = c.args in
     let w = c.put_head-at.ensures in
     let first : a.n - a.n ≡ 0 = omega arith in (
       le_refl a.n,
@@ -40,7 +40,7 @@ loop-left-init c =
 
 pub put_line-at-requires : goal.put_line-at-requires
 put_line-at-requires c =
-        let L = c.requires.1.0 in
+    let L = c.requires.1.0 in
     let l = c.loop-left in
     let i = c.args.n - l.left in
     let h : i < c.args.n = omega (arith, c.loop-left-test.true, l.invariant.0) in (
@@ -50,7 +50,7 @@ put_line-at-requires c =
 
 pub loop-left-preserved : goal.loop-left-preserved
 loop-left-preserved c =
-        let t = c.args.table.now in
+    let t = c.args.table.now in
     let n = c.args.n in
     let L = c.requires.1.0 in
     let l = c.loop-left in
@@ -71,7 +71,7 @@ loop-left-preserved c =
 
 pub returns : goal.returns
 returns c =
-        let a = c.args in
+    let a = c.args in
     let t = a.table.now in
     let L = c.requires.1.0 in
     let l = c.loop-left in

@@ -33,7 +33,7 @@ overflow_add-width-3 c =
 
 pub loop-i-init : goal.loop-i-init
 loop-i-init c =
-        let a = c.args in
+    let a = c.args in
     let cs = slice 0 a.to a.table.now in
     let n = c.line_count.result in
     let size : length cs ≡ a.to = omega (arith, slice-length 0 a.to a.table.now, c.requires) in
@@ -45,7 +45,7 @@ loop-i-init c =
 
 pub loop-i-preserved : goal.loop-i-preserved
 loop-i-preserved c =
-        let l = c.loop-i in
+    let l = c.loop-i in
     let t = c.args.table.now in
     let i = l.i in
     let w = line_width (get_or t (4 * i) 0) (get_or t (4 * i + 1) 0) (get_or t (4 * i + 3) 0) in
@@ -63,18 +63,18 @@ loop-i-preserved c =
 
 pub returns-then-to-eq0 : goal.returns-then-to-eq0
 returns-then-to-eq0 c =
-        let l = c.loop-i in
+    let l = c.loop-i in
     let end : c.args.to ≡ 4 * l.i = omega (arith, c.loop-i-test.false, l.invariant.0, c.if-to-eq0.true) in
     omega (arith, handed-none c.args.table.now c.args.to c.requires l.i end, l.invariant.1, l.invariant.2)
 
 pub overflow_add-decimal_width : goal.overflow_add-decimal_width
 overflow_add-decimal_width c =
-        let i = c.loop-i.i in
+    let i = c.loop-i.i in
     omega (arith, width-least 19 (get_or c.args.table.now (4 * i) 0) (omega (arith, c.type_inv.table (4 * i))))
 
 pub returns : goal.returns
 returns c =
-        let l = c.loop-i in
+    let l = c.loop-i in
     let h = c.loop-i-test.false in
     let some : 4 * l.i < c.args.to = omega (arith, h, l.invariant.0, c.if-to-eq0.false) in
     omega (

@@ -58,7 +58,7 @@ returns-then-out-at c =
 
 pub returns-then-out-at-2 : goal.returns-then-out-at-2
 returns-then-out-at-2 c =
-        let a = c.args in
+    let a = c.args in
     let l = line a.service a.len a.value a.backend in
     record {
       answer = (too_long _ a.at l (passed (goal.at.returns-then-out-at-2 c).Else-not-is_line) (omega (arith, few l (passed (goal.at.returns-then-out-at-2 c).Else-not-is_line), c.line_width.ensures))).0;
@@ -67,14 +67,14 @@ returns-then-out-at-2 c =
 
 pub put_line-requires : goal.put_line-requires
 put_line-requires c =
-        let a = c.args in
+    let a = c.args in
     let l = line a.service a.len a.value a.backend in
     (passed (goal.at.put_line-requires c).Else-not-is_line, omega (arith, few l (passed (goal.at.put_line-requires c).Else-not-is_line), c.line_width.ensures))
 
 pub returns : goal.returns
 unfolding put_line put_line_end
 returns c =
-        let a = c.args in
+    let a = c.args in
     let l = line a.service a.len a.value a.backend in
     let w = c.put_line.ensures in
     let width = c.line_width.ensures in

@@ -56,7 +56,7 @@ bits c =
 
 matched :
     (c : In-Suffix) (before : List Line) (at : ℕ)
-    →     let a = c.args in
+    → let a = c.args in
     let fs = split 32 (slice a.from a.to a.text.now) in
     rule_fields a.k before at fs ≡ giving before at fs c.in-Value.service c.in-Suffix.len c.in-Suffix.value
 unfolding on_suffix
@@ -79,21 +79,21 @@ returns-in_default-number_in c =
 
 service :
     (c : In-Value-number_in)
-    →     let a = c.args in
+    → let a = c.args in
     Numeral 1 most_services c.in-Value.service (field (split 32 (slice a.from a.to a.text.now)) 0)
 service c =
-        only-text _ _ _ _ (sym c.number_in.ensures ∙ c.in-Value.is)
+    only-text _ _ _ _ (sym c.number_in.ensures ∙ c.in-Value.is)
 
 backend :
     (c : In-Value-number_in)
-    →     let a = c.args in
+    → let a = c.args in
     Numeral 1 most_id c.in-Value-number_in.backend (field (split 32 (slice a.from a.to a.text.now)) 2)
 backend c = only-text _ _ _ _ (sym c.number_in-2.ensures ∙ c.in-Value-number_in.is)
 
 pub returns : goal.returns
 unfolding on_field
 returns c =
-        let short = suffix-only _ _ _ _ (bits (goal.at.returns c).After-read_suffix ∙ c.in-Suffix.is) in (
+    let short = suffix-only _ _ _ _ (bits (goal.at.returns c).After-read_suffix ∙ c.in-Suffix.is) in (
       is-formed _ _
           (record {
             numbered = (service c).low;

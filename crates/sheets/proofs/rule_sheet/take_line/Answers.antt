@@ -31,7 +31,7 @@ place_line-placed-requires c =
 -- and as it was placed
 placed-as :
     (c : In-Next)
-    →     let a = c.args in
+    → let a = c.args in
     let l = c.in-Line.line in
     (before : List Line) → Passed a.k before a.last a.tally.now a.table.now
     → PlacedAs before (line_of l) (Next c.in-Next.next) c.place_line-placed.new.tally
@@ -58,7 +58,7 @@ returns-in-Refused-placed c =
 pub returns-in-Next : goal.returns-in-Next
 returns-in-Next c =
     λ before passed.
-        let l = line_of c.in-Line.line in
+    let l = line_of c.in-Line.line in
     let read = read_as_lem (goal.at.returns-in-Next c).In-Line in
     let follows = placed-as (goal.at.returns-in-Next c).In-Next before passed in (
       l,

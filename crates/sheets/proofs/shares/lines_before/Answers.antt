@@ -16,7 +16,7 @@ loop-before-init c = (omega arith, refl)
 pub loop-before-preserved : goal.loop-before-preserved
 loop-before-preserved c =
     let l = c.loop-before in
-        let a = c.args in (
+    let a = c.args in (
       omega arith,
       sym
           (ap (own_rules a.service) (rows_more a.table.now a.n c.requires l.before (omega arith))

@@ -46,5 +46,5 @@ pub returns : goal.returns
 unfolding share
 returns c =
     let l = c.loop-s in
-        let end : l.s ≡ 2 ^ c.args.k = omega (arith, shifted c.args.k c.requires.1) in
+    let end : l.s ≡ 2 ^ c.args.k = omega (arith, shifted c.args.k c.requires.1) in
     l.invariant.1 ∙ ap (given_to (own_rules c.args.service (lines_in c.args.table.now c.args.n)) c.args.backend) end

@@ -5,7 +5,6 @@ use mathlib.Core.List.{List}
 use native.Mathlib.Omega.{arith}
 use lib.ListN.{length, take, drop, length-drop}
 use lib.Seq.{take_all}
-use borrow.Author.Rules.{rules}
 use Rattle.expansion.specs.FirstMatch.{share}
 use Rattle.expansion.specs.declared.rule.Rule.{Rule}
 use Rattle.packing.specs.Count.{own_rules}
@@ -19,7 +18,7 @@ part table i = sym (take_all (length table - i) (drop i table) (omega (arith, le
 
 pub tally-requires : goal.tally-requires
 tally-requires c =
-        let r = c.lines_before-before.result in
+    let r = c.lines_before-before.result in
     let rules = rules-part c.args.table.now r c.args.n c.lines_before-before.ensures.few c.requires.0 in
     (subst (λ (t : List ℕ). RuleLines t (c.args.n - r)) (part c.args.table.now (4 * r)) rules, c.requires.1)
 

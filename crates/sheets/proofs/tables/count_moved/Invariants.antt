@@ -8,7 +8,6 @@ use Rattle.numerals.specs.Sums.{count_to}
 use Rattle.expansion.specs.FirstMatch.{first_match}
 use Rattle.packing.specs.Count.{own_rules}
 use Rattle.sheets.specs.Inner.TableNumbers.{lines_in}
-use Rattle.sheets.specs.Calls.{moved}
 use Rattle.sheets.proofs.tables.count_moved.Given as goal
 
 abbrev pub differs : List ℕ → ℕ → List ℕ → ℕ → ℕ → ℕ → Bool

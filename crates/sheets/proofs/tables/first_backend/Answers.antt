@@ -58,7 +58,7 @@ nonzero_rem-address c = divisor _ (short (goal.at.nonzero_rem-address c).In-loop
 
 pub returns-then-address-all : goal.returns-then-address-all
 returns-then-address-all c =
-        sym (turn (goal.at.returns-then-address-all c).In-loop-left ∙ of-here _ _ _ _ c.if-table-i.true (rw (shifted _ (short (goal.at.returns-then-address-all c).In-loop-left)) at c.if-address-all.true))
+    sym (turn (goal.at.returns-then-address-all c).In-loop-left ∙ of-here _ _ _ _ c.if-table-i.true (rw (shifted _ (short (goal.at.returns-then-address-all c).In-loop-left)) at c.if-address-all.true))
 
 pub loop-left-preserved : goal.loop-left-preserved
 loop-left-preserved c =
@@ -67,8 +67,8 @@ loop-left-preserved c =
     let i : a.n - c.loop-left.left + 1 ≡ a.n - (c.loop-left.left - 1) = omega arith in (
       omega arith,
       elim c.if-table-i.branch [
-        then-table-i+else-address-all w ↦ turn at ∙ of-miss _ _ _ _ (rw (shifted _ (short at)) at w.if-address-all.false)
-      | else-table-i w ↦ turn at ∙ of_other _ _ _ _ w.if-table-i.false
+        | then-table-i+else-address-all w ↦ turn at ∙ of-miss _ _ _ _ (rw (shifted _ (short at)) at w.if-address-all.false)
+        | else-table-i w ↦ turn at ∙ of_other _ _ _ _ w.if-table-i.false
       ]
           ∙ ap (from a.table.now a.n a.service a.address) i,
     )

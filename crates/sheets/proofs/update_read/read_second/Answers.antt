@@ -4,7 +4,6 @@ use mathlib.Core.Path.{refl, sym, ap, ◌∙◌}
 use native.Mathlib.Omega.{arith}
 use lib.ListN.{length}
 use lib.Seq.{length-take-le}
-use borrow.Author.Rules.{rules}
 use Rattle.sheets.specs.PercentageSheet.{read_sheet}
 use Rattle.sheets.specs.Calls.{afterwards}
 use Rattle.sheets.specs.Update.{is_read}
@@ -69,7 +68,7 @@ returns-in-Refused c =
 
 pub returns-in-Sheet : goal.returns-in-Sheet
 returns-in-Sheet c =
-        let a = c.args in
+    let a = c.args in
     let r = c.select in
     let e = r.ensures in
     record {

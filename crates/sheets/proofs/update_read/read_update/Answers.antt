@@ -2,7 +2,6 @@
 use mathlib.Core.Path.{refl, sym, ap, ◌∙◌}
 use native.Mathlib.Omega.{arith}
 use lib.ListN.{length}
-use borrow.Author.Rules.{rules}
 use Rattle.sheets.specs.Calls.{afterwards}
 use Rattle.sheets.specs.Update.{update_read_answer, is_read}
 use Rattle.sheets.specs.declared.answer.UpdateRead.TheVariants.{Refused}
@@ -14,7 +13,7 @@ use Rattle.sheets.proofs.update_read.read_update.Goals.{In-Table}
 -- the rule sheet was read
 has :
     (c : In-Table)
-    →     TableHeld c.args.old.now c.in-Table.table c.read_sheet_lines-read.new.table
+    → TableHeld c.args.old.now c.in-Table.table c.read_sheet_lines-read.new.table
 has c =
     let read = c.read_sheet_lines-read in
     table-held _ _ _ (omega arith) (sym c.in-Table.is ∙ read.ensures.answer) read.ensures.buffer
@@ -36,7 +35,7 @@ returns-in-Refused c =
 
 pub returns-in-Table : goal.returns-in-Table
 returns-in-Table c =
-        let a = c.args in
+    let a = c.args in
     let r = c.read_second in
     let e = r.ensures in
     record {

@@ -21,7 +21,7 @@ loop-i-init c = (omega arith, (refl, (omega (arith, c.requires.1), refl)))
 wide : (c : Then-table-i) → let l = c.loop-i in l.at + 3 ≤ length l.rules
 wide c =
     let l = c.loop-i in
-        let a = c.args in
+    let a = c.args in
     omega (
       arith,
       l.invariant.1.0,
@@ -63,32 +63,35 @@ kept out i a j b k d = simp length-set
 pub loop-i-preserved : goal.loop-i-preserved
 loop-i-preserved c =
     let l = c.loop-i in
-        let a = c.args in
+    let a = c.args in
     let t = a.table.now in
-    elim c.if-table-i.branch [ then-table-i w ↦ let more = own-more t a.n c.requires.0 a.service l.i (omega arith) w.if-table-i.true in (
-      omega arith,
-      (
-        ap length w.rules-is ∙ kept l.rules l.at _ (l.at + 1) _ (l.at + 2) _ ∙ l.invariant.1.0,
+    elim c.if-table-i.branch [
+      | then-table-i w ↦ let more = own-more t a.n c.requires.0 a.service l.i (omega arith) w.if-table-i.true in (
+        omega arith,
         (
-          omega (arith, w.at-is, l.invariant.1.1.0, ap length more),
-          rw (w.rules-is, w.at-is) (own-stored t a.n c.requires.0 a.service l.i l.rules l.at (omega arith) w.if-table-i.true) ∙ l.invariant.1.1.1,
+          ap length w.rules-is ∙ kept l.rules l.at _ (l.at + 1) _ (l.at + 2) _ ∙ l.invariant.1.0,
+          (
+            omega (arith, w.at-is, l.invariant.1.1.0, ap length more),
+            rw (w.rules-is, w.at-is) (own-stored t a.n c.requires.0 a.service l.i l.rules l.at (omega arith) w.if-table-i.true) ∙ l.invariant.1.1.1,
+          ),
         ),
-      ),
-    ) | else-table-i w ↦ let past = own-past t a.n c.requires.0 a.service l.i (omega arith) w.if-table-i.false in (
-      omega arith,
-      (
-        ap length w.rules-is ∙ l.invariant.1.0,
+      )
+      | else-table-i w ↦ let past = own-past t a.n c.requires.0 a.service l.i (omega arith) w.if-table-i.false in (
+        omega arith,
         (
-          omega (arith, w.at-is, l.invariant.1.1.0, ap length past),
-          rw (w.rules-is, w.at-is) (sym (ap (λ (rs : List Rule). sets l.rules l.at (numbers_of rs)) past)) ∙ l.invariant.1.1.1,
+          ap length w.rules-is ∙ l.invariant.1.0,
+          (
+            omega (arith, w.at-is, l.invariant.1.1.0, ap length past),
+            rw (w.rules-is, w.at-is) (sym (ap (λ (rs : List Rule). sets l.rules l.at (numbers_of rs)) past)) ∙ l.invariant.1.1.1,
+          ),
         ),
-      ),
-    ) ]
+      )
+    ]
 
 pub returns : goal.returns
 unfolding numbers_of
 returns c =
     let l = c.loop-i in
-        let a = c.args in
+    let a = c.args in
     sym (ap (λ (rs : List Rule). sets l.rules l.at (numbers_of rs)) (own-none a.table.now a.n c.requires.0 a.service l.i (omega arith)))
     ∙ l.invariant.1.1.1

@@ -44,7 +44,7 @@ module _ (d : In-Row) where
 
 pub returns-then-places-n : goal.returns-then-places-n
 returns-then-places-n c =
-        let room = length c.args.places.now in
+    let room = length c.args.places.now in
     record {
       answer = rw c.refused-then-places-n.ensures (sym (ap (λ (j : Judged). handed j (values (goal.at.returns-then-places-n c).In-Row) room) (is (goal.at.returns-then-places-n c).In-Row) ∙ print-short (values (goal.at.returns-then-places-n c).In-Row) room (omega (arith, (J (goal.at.returns-then-places-n c).In-Row).count, c.if-places-n.true))));
       buffer = rw c.refused-then-places-n.ensures (refl);
@@ -59,7 +59,7 @@ cut-requires c =
 
 pub returns-in-Refused : goal.returns-in-Refused
 returns-in-Refused c =
-        let a = c.args in
+    let a = c.args in
     record {
       answer = rw c.refused.ensures (sym (ap (λ (j : Judged). handed j (row_of a.k (at a.old.now) (at a.new.now) a.limit) (length a.places.now))
           (sym c.judge-judged.ensures.answer ∙ c.in-Refused.is)));
@@ -68,7 +68,7 @@ returns-in-Refused c =
 
 pub returns-else-places-n : goal.returns-else-places-n
 returns-else-places-n c =
-        let room = length c.args.places.now in
+    let room = length c.args.places.now in
     record {
       answer = ap answer.Value (J (goal.at.returns-else-places-n c).In-Row).count
           ∙ sym (ap (λ (j : Judged). handed j (values (goal.at.returns-else-places-n c).In-Row) room) (is (goal.at.returns-else-places-n c).In-Row)

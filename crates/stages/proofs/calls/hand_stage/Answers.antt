@@ -95,7 +95,7 @@ print_stage-requires c =
 
 pub returns-in-Refused : goal.returns-in-Refused
 returns-in-Refused c =
-        let a = c.args in
+    let a = c.args in
     let p = get_or (row_of a.k (at a.old.now) (at a.new.now) a.limit) (a.number - 1) 0 in
     record {
       answer = rw c.refused.ensures (sym (ap (λ (j : Judged). handed j (text_at a.k (at a.old.now) (at a.new.now) a.service p) (length a.out.now))
@@ -105,7 +105,7 @@ returns-in-Refused c =
 
 pub returns-in-Row : goal.returns-in-Row
 returns-in-Row c =
-        let a = c.args in
+    let a = c.args in
     let e = c.print_stage.ensures in
     let text : ℕ → List ℕ = λ p. text_at a.k (old (goal.at.returns-in-Row c).In-Row) (new (goal.at.returns-in-Row c).In-Row) a.service p in
     let p = get_or (places (goal.at.returns-in-Row c).In-Row) (a.number - 1) 0 in

@@ -31,14 +31,14 @@ module _ (d : In-Change) where
 
 pub hand_stage-requires : goal.hand_stage-requires
 hand_stage-requires c =
-        let a = c.args in
+    let a = c.args in
     let before = served-first a.old.now a.new.now a.service (k (goal.at.hand_stage-requires c).In-Change) (first (goal.at.hand_stage-requires c).In-Change) (second (goal.at.hand_stage-requires c).In-Change) (R (goal.at.hand_stage-requires c).In-Change) in
     let after = served-second a.old.now a.new.now a.service (k (goal.at.hand_stage-requires c).In-Change) (first (goal.at.hand_stage-requires c).In-Change) (second (goal.at.hand_stage-requires c).In-Change) (R (goal.at.hand_stage-requires c).In-Change) in
     (few_bits a.old.now a.new.now a.service (k (goal.at.hand_stage-requires c).In-Change) (first (goal.at.hand_stage-requires c).In-Change) (second (goal.at.hand_stage-requires c).In-Change) (R (goal.at.hand_stage-requires c).In-Change), (before, after))
 
 pub returns-in-Refused : goal.returns-in-Refused
 returns-in-Refused c =
-        let a = c.args in
+    let a = c.args in
     let no = subst (λ (b : Both). BothAs a.old.now a.new.now a.service b c.read_both-both.new.before c.read_both-both.new.after) c.in-Refused.is
     c.read_both-both.ensures in
     record {
@@ -49,14 +49,14 @@ returns-in-Refused c =
 
 pub returns-in-Change : goal.returns-in-Change
 returns-in-Change c =
-        let a = c.args in
+    let a = c.args in
     let room = length a.out.now in
     let h = c.hand_stage in
     let e = h.ensures in
     record {
       answer = e.answer ∙ lines-answer a.old.now a.new.now a.service (k (goal.at.returns-in-Change c).In-Change) (first (goal.at.returns-in-Change c).In-Change) (second (goal.at.returns-in-Change c).In-Change) (R (goal.at.returns-in-Change c).In-Change) a.limit a.capacity a.number room;
       buffer = e.buffer ∙ lines-buffer a.old.now a.new.now a.service (k (goal.at.returns-in-Change c).In-Change) (first (goal.at.returns-in-Change c).In-Change) (second (goal.at.returns-in-Change c).In-Change) (R (goal.at.returns-in-Change c).In-Change) a.limit a.capacity a.number room
-            h.result a.out.now e.answer;
+          h.result a.out.now e.answer;
       promise = lines-promised a.old.now a.new.now a.service (k (goal.at.returns-in-Change c).In-Change) (first (goal.at.returns-in-Change c).In-Change) (second (goal.at.returns-in-Change c).In-Change) (R (goal.at.returns-in-Change c).In-Change) a.limit a.capacity a.number room h.result
-            a.out.now _ e.answer refl e.buffer;
+          a.out.now _ e.answer refl e.buffer;
     }

@@ -36,11 +36,11 @@ offset_bounds-new-i c = omega (arith, all-is (goal.at.offset_bounds-new-i c).Sta
 
 pub bounds-new-i : goal.bounds-new-i
 bounds-new-i c =
-        omega (arith, all-is (goal.at.bounds-new-i c).Start, few (goal.at.bounds-new-i c).Start, c.requires.k_le_most_bits.1.1, c.requires.k_le_most_bits.1.0, c.requires.nodes_2.held_long)
+    omega (arith, all-is (goal.at.bounds-new-i c).Start, few (goal.at.bounds-new-i c).Start, c.requires.k_le_most_bits.1.1, c.requires.k_le_most_bits.1.0, c.requires.nodes_2.held_long)
 
 pub loop-i-init : goal.loop-i-init
 loop-i-init c =
-        let a = c.args in
+    let a = c.args in
     subst (λ (x : ℕ). Up a.k a.p (leaves a.k a.old.now) (leaves a.k a.new.now) x 1) (sym (last-is (goal.at.loop-i-init c).Start))
     (up_start a.k a.p (leaves a.k a.old.now) (leaves a.k a.new.now) c.requires.k_le_most_bits.1.0 c.requires.k_le_most_bits.1.1)
 
@@ -85,7 +85,7 @@ offset_bounds-old_lines-i c = let b = below (goal.at.offset_bounds-old_lines-i c
 
 pub bounds-old_lines-i : goal.bounds-old_lines-i
 bounds-old_lines-i c =
-        let b = below (goal.at.bounds-old_lines-i c).In-loop-i in
+    let b = below (goal.at.bounds-old_lines-i c).In-loop-i in
     omega (arith, b.2, next (goal.at.bounds-old_lines-i c).In-loop-i c.if-i-eq0.true, c.requires.nodes.lines_long)
 
 pub overflow_add-i-then-i-eq0-2 : goal.overflow_add-i-then-i-eq0-2
@@ -96,12 +96,12 @@ offset_bounds-old-i c = let b = below (goal.at.offset_bounds-old-i c).In-loop-i 
 
 pub bounds-old-i : goal.bounds-old-i
 bounds-old-i c =
-        let b = below (goal.at.bounds-old-i c).In-loop-i in
+    let b = below (goal.at.bounds-old-i c).In-loop-i in
     omega (arith, b.2, next (goal.at.bounds-old-i c).In-loop-i c.if-i-eq0.true, c.requires.nodes.held_long)
 
 pub join-n-requires : goal.join-n-requires
 join-n-requires c =
-            let a = c.args in
+    let a = c.args in
     let inside = next (goal.at.join-n-requires c).In-loop-i c.if-i-eq0.true in
     omega (
       arith,
@@ -117,7 +117,7 @@ offset_bounds-new_lines-i c = let b = below (goal.at.offset_bounds-new_lines-i c
 
 pub bounds-new_lines-i : goal.bounds-new_lines-i
 bounds-new_lines-i c =
-        let b = below (goal.at.bounds-new_lines-i c).In-loop-i in
+    let b = below (goal.at.bounds-new_lines-i c).In-loop-i in
     omega (arith, b.0, b.1, b.2, c.requires.nodes_2.lines_long)
 
 pub overflow_sub-i-else-i-eq0-2 : goal.overflow_sub-i-else-i-eq0-2
@@ -128,12 +128,12 @@ offset_bounds-new-i-else-i-eq0 c = let b = below (goal.at.offset_bounds-new-i-el
 
 pub bounds-new-i-else-i-eq0 : goal.bounds-new-i-else-i-eq0
 bounds-new-i-else-i-eq0 c =
-        let b = below (goal.at.bounds-new-i-else-i-eq0 c).In-loop-i in
+    let b = below (goal.at.bounds-new-i-else-i-eq0 c).In-loop-i in
     omega (arith, b.0, b.1, b.2, c.requires.nodes_2.held_long)
 
 pub join-n-requires-else-i-eq0 : goal.join-n-requires-else-i-eq0
 join-n-requires-else-i-eq0 c =
-            let a = c.args in
+    let a = c.args in
     let b = below (goal.at.join-n-requires-else-i-eq0 c).In-loop-i in
     let some : 1 ≤ i (goal.at.join-n-requires-else-i-eq0 c).In-loop-i - 1 = omega (arith, b.0) in
     let inside : i (goal.at.join-n-requires-else-i-eq0 c).In-loop-i - 1 < 2 * 2 ^ k (goal.at.join-n-requires-else-i-eq0 c).In-loop-i = omega (arith, b.1) in
@@ -148,7 +148,7 @@ loop-i-smaller c = let b = (below (goal.at.loop-i-smaller c).In-loop-i).0 in ome
 
 pub loop-i-preserved : goal.loop-i-preserved
 loop-i-preserved c =
-            let a = c.args in
+    let a = c.args in
     let l = c.loop-i in
     let b = c.requires.k_le_most_bits.1 in
     let f = leaves a.k a.old.now in
@@ -161,15 +161,15 @@ loop-i-preserved c =
     subst (Up a.k a.p f g (l.i / 2))
     (sym (e ∙ ap (λ (x : ℕ). joined l.n (get_or lines j 0) (eqb x (get_or held j 0))) (backend-is (goal.at.loop-i-preserved c).In-loop-i))) U in
     elim c.if-i-eq0.branch [
-      then-i-eq0 w ↦ to c.if-i-eq0.n (l.i + 1) a.old_lines.now a.old.now (w.n-is ∙ w.join-n.ensures)
-      (up-old a.k a.p f g b.0 b.1 l.i l.n l.invariant a.old.now a.old_lines.now c.requires.nodes c.loop-i-test.true w.if-i-eq0.true)
-    | else-i-eq0 w ↦ to c.if-i-eq0.n (l.i - 1) a.new_lines.now a.new.now (w.n-is ∙ w.join-n-else-i-eq0.ensures)
-      (up-new a.k a.p f g b.0 b.1 l.i l.n l.invariant a.new.now a.new_lines.now c.requires.nodes_2 c.loop-i-test.true w.if-i-eq0.false)
+      | then-i-eq0 w ↦ to c.if-i-eq0.n (l.i + 1) a.old_lines.now a.old.now (w.n-is ∙ w.join-n.ensures)
+          (up-old a.k a.p f g b.0 b.1 l.i l.n l.invariant a.old.now a.old_lines.now c.requires.nodes c.loop-i-test.true w.if-i-eq0.true)
+      | else-i-eq0 w ↦ to c.if-i-eq0.n (l.i - 1) a.new_lines.now a.new.now (w.n-is ∙ w.join-n-else-i-eq0.ensures)
+          (up-new a.k a.p f g b.0 b.1 l.i l.n l.invariant a.new.now a.new_lines.now c.requires.nodes_2 c.loop-i-test.true w.if-i-eq0.false)
     ]
 
 pub returns : goal.returns
 returns c =
-        let a = c.args in
+    let a = c.args in
     let l = c.loop-i in
     let b = c.requires.k_le_most_bits.1 in
     up-end a.k a.p (leaves a.k a.old.now) (leaves a.k a.new.now) b.0 b.1 l.i l.n l.invariant c.loop-i-test.false

@@ -25,7 +25,7 @@ overflow_mul-i c = omega (arith, all-is (goal.at.overflow_mul-i c).Start, few (g
 
 pub loop-i-init : goal.loop-i-init
 loop-i-init c =
-        let a = c.args in (
+    let a = c.args in (
       omega (arith, all-is (goal.at.loop-i-init c).Start, pow_pos a.k),
       omega (arith, all-is (goal.at.loop-i-init c).Start),
       nodes-none a.k (at a.holder.now) _ a.held.now a.lines.now (omega (arith, all-is (goal.at.loop-i-init c).Start)) c.requires.held_len.0 c.requires.held_len.1,
@@ -33,10 +33,10 @@ loop-i-init c =
 
 -- the number that the loop has come to, and its halves'
 inside : (t : In-loop-i)
-    →     let i = t.loop-i.i in
+    → let i = t.loop-i.i in
     (1 ≤ i - 1) × (i ≤ i - 1 + 1) × (i - 1 < 2 * 2 ^ t.args.k) × (i - 1 < node_count)
 inside t =
-        let test = t.loop-i-test.true in
+    let test = t.loop-i-test.true in
     (omega arith, omega arith, omega (arith, t.loop-i.invariant.1), omega (arith, t.loop-i.invariant.1, few (goal.at.In-loop-i t).Start))
 
 pub offset_bounds-holder-i : goal.offset_bounds-holder-i
@@ -44,7 +44,7 @@ offset_bounds-holder-i c = omega (arith, (inside (goal.at.offset_bounds-holder-i
 
 pub bounds-holder-i : goal.bounds-holder-i
 bounds-holder-i c =
-            omega (arith, all-is (goal.at.bounds-holder-i c).Start, few (goal.at.bounds-holder-i c).Start, (inside (goal.at.bounds-holder-i c).In-loop-i).2, c.requires.k_le_most_bits.1, c.if-all-i.true)
+    omega (arith, all-is (goal.at.bounds-holder-i c).Start, few (goal.at.bounds-holder-i c).Start, (inside (goal.at.bounds-holder-i c).In-loop-i).2, c.requires.k_le_most_bits.1, c.if-all-i.true)
 
 pub offset_bounds-held-i : goal.offset_bounds-held-i
 offset_bounds-held-i c = omega (arith, (inside (goal.at.offset_bounds-held-i c).In-loop-i).3)
@@ -60,8 +60,8 @@ bounds-lines-i c = omega (arith, (inside (goal.at.bounds-lines-i c).In-loop-i).3
 
 pub loop-i-preserved-then-all-i : goal.loop-i-preserved-then-all-i
 loop-i-preserved-then-all-i c =
-        let l = c.loop-i in
-        let a = c.args in
+    let l = c.loop-i in
+    let a = c.args in
     let g = at a.holder.now in
     let i = inside (goal.at.loop-i-preserved-then-all-i c).In-loop-i in (
       i.0,
@@ -73,9 +73,9 @@ loop-i-preserved-then-all-i c =
 
 -- the halves of a node
 low : (c : Else-all-i)
-    →         (c.loop-i.i - 1 < 2 ^ c.args.k) × (2 * (c.loop-i.i - 1) + 1 < node_count)
+    → (c.loop-i.i - 1 < 2 ^ c.args.k) × (2 * (c.loop-i.i - 1) + 1 < node_count)
 low c =
-            (omega (arith, all-is (goal.at.Else-all-i c).Start, c.if-all-i.false), omega (arith, all-is (goal.at.Else-all-i c).Start, c.if-all-i.false, few (goal.at.Else-all-i c).Start))
+    (omega (arith, all-is (goal.at.Else-all-i c).Start, c.if-all-i.false), omega (arith, all-is (goal.at.Else-all-i c).Start, c.if-all-i.false, few (goal.at.Else-all-i c).Start))
 
 pub overflow_mul-low : goal.overflow_mul-low
 overflow_mul-low c = omega (arith, (low c).1)
@@ -125,8 +125,8 @@ halves-few : (c : Else-all-i)
     → let l = c.loop-i in
     (get_or l.lines (2 * (l.i - 1)) 0 ≤ most_suffixes) × (get_or l.lines (2 * (l.i - 1) + 1) 0 ≤ most_suffixes)
 halves-few c =
-        let l = c.loop-i in
-        let a = c.args in
+    let l = c.loop-i in
+    let a = c.args in
     let g = at a.holder.now in
     let some = (inside (goal.at.Else-all-i c).In-loop-i).0 in
     let inner = (low c).0 in (
@@ -156,8 +156,8 @@ loop-i-smaller c = let test = c.loop-i-test.true in omega arith
 
 pub loop-i-preserved : goal.loop-i-preserved
 loop-i-preserved c =
-            let l = c.loop-i in
-        let a = c.args in
+    let l = c.loop-i in
+    let a = c.args in
     let g = at a.holder.now in
     let i = inside (goal.at.loop-i-preserved c).In-loop-i in (
       i.0,

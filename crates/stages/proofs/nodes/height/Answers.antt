@@ -32,7 +32,7 @@ above : (c : In-loop-i)
     let l = c.loop-i in
     (l.n < a.k) × (l.i / 2 ≡ 2 ^ (a.k - suc l.n) + a.p / 2 ^ suc l.n) × (l.i / 2 < node_count)
 above c =
-        let a = c.args in
+    let a = c.args in
     let l = c.loop-i in
     let less : l.n < a.k = not_top a.k l.n a.p l.i l.invariant.0 c.requires.1.0 l.invariant.1 c.loop-i-test.true in (
       less,
@@ -47,7 +47,7 @@ counted : (c : In-loop-i)
     (g : ℕ → ℕ) (held : List ℕ) → Nodes a.k g 1 held a.lines.now
     → get_or a.lines.now (l.i / 2) 0 ≡ lines_at g (suc l.n) (a.p / 2 ^ suc l.n)
 counted c g held N =
-        let a = c.args in
+    let a = c.args in
     let l = c.loop-i in
     path-node a.k g held a.lines.now N (suc l.n) a.p (l.i / 2) (above c).0 c.requires.1.0 (above c).1
 
@@ -62,7 +62,7 @@ overflow_add-n c = omega (arith, (above (goal.at.overflow_add-n c).In-loop-i).0)
 
 pub loop-i-preserved : goal.loop-i-preserved
 loop-i-preserved c =
-        let a = c.args in
+    let a = c.args in
     let n = c.loop-i.n in
     let next : suc n ≡ n + 1 = omega arith in (
       omega (arith, (above (goal.at.loop-i-preserved c).In-loop-i).0),
@@ -74,7 +74,7 @@ loop-i-preserved c =
 
 pub returns-else-lines-i-eq1 : goal.returns-else-lines-i-eq1
 returns-else-lines-i-eq1 c =
-        let a = c.args in
+    let a = c.args in
     let l = c.loop-i in
     record {
       few = l.invariant.0;

@@ -18,7 +18,7 @@ loop-q-init c = (omega arith, (c.requires.stage_len, λ y l. absurd (omega arith
 -- the place that the loop has come to
 below : (t : In-loop-q) → (t.loop-q.q < 2 ^ t.args.k) × (t.loop-q.q < most_suffixes)
 below t =
-        (omega (arith, shifted t.args.k t.requires.k_le_most_bits.0), omega (arith, shifted t.args.k t.requires.k_le_most_bits.0, pow-few t.args.k t.requires.k_le_most_bits.0))
+    (omega (arith, shifted t.args.k t.requires.k_le_most_bits.0), omega (arith, shifted t.args.k t.requires.k_le_most_bits.0, pow-few t.args.k t.requires.k_le_most_bits.0))
 
 pub offset_bounds-new-q : goal.offset_bounds-new-q
 offset_bounds-new-q c = omega (arith, below (goal.at.offset_bounds-new-q c).In-loop-q)
@@ -73,13 +73,13 @@ loop-q-preserved c =
     let a = c.args in
     let l = c.loop-q in
     elim c.if-q-p.branch [
-      then-q-p w ↦ stored c (get_or a.new.now l.q 0) w.stage-is (sym (cut_below a.p (at a.old.now) (at a.new.now) l.q (omega (arith, w.if-q-p.true))))
-    | else-q-p w ↦ stored c (get_or a.old.now l.q 0) w.stage-is (sym (cut-from a.p (at a.old.now) (at a.new.now) l.q (omega (arith, w.if-q-p.false))))
+      | then-q-p w ↦ stored c (get_or a.new.now l.q 0) w.stage-is (sym (cut_below a.p (at a.old.now) (at a.new.now) l.q (omega (arith, w.if-q-p.true))))
+      | else-q-p w ↦ stored c (get_or a.old.now l.q 0) w.stage-is (sym (cut-from a.p (at a.old.now) (at a.new.now) l.q (omega (arith, w.if-q-p.false))))
     ]
 
 pub returns : goal.returns
 returns c =
-        let l = c.loop-q in
+    let l = c.loop-q in
     record {
       long = l.invariant.1.0;
       stage = λ y m. l.invariant.1.1 y (omega (arith, shifted c.args.k c.requires.k_le_most_bits.0));

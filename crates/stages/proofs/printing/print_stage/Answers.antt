@@ -63,7 +63,7 @@ module _ (w : After-put_lines-end) where
 
 pub put_lines-end-requires : goal.put_lines-end-requires
 put_lines-end-requires c =
-        let filled = c.fill in
+    let filled = c.fill in
     let few = subst (λ (rs : List Rule). length rs ≤ most_capacity) (sym (same_lines (goal.at.put_lines-end-requires c).After-compose)) c.requires.k_len_bound in
     record {
       k_le_most_bits = (c.requires.k_le_most_bits.0, (served (goal.at.put_lines-end-requires c).After-compose, c.all_places-places.ensures));
@@ -79,19 +79,18 @@ returns-then-out-end c =
     }
 
 pub copy_text-requires : goal.copy_text-requires
-copy_text-requires c =
-    (
-      omega (arith, (wrote (goal.at.copy_text-requires c).After-put_lines-end).ends, length-kept (wrote (goal.at.copy_text-requires c).After-put_lines-end), length-replicate {A = ℕ} text_room 0, short (goal.at.copy_text-requires c).After-compose),
-      omega (arith, c.if-out-end.false),
-    )
+copy_text-requires c = (
+  omega (arith, (wrote (goal.at.copy_text-requires c).After-put_lines-end).ends, length-kept (wrote (goal.at.copy_text-requires c).After-put_lines-end), length-replicate {A = ℕ} text_room 0, short (goal.at.copy_text-requires c).After-compose),
+  omega (arith, c.if-out-end.false),
+)
 
 pub returns : goal.returns
 returns c =
-            let out = c.args.out.now in
+    let out = c.args.out.now in
     let fits : length (bytes (goal.at.returns c).After-compose) ≤ length out = omega (arith, c.if-out-end.false, (wrote (goal.at.returns c).After-put_lines-end).ends) in
     record {
       answer = (printed (bytes (goal.at.returns c).After-compose) out c.copy_text.new.to c.put_lines-end.result fits
-    (record { ends = (wrote (goal.at.returns c).After-put_lines-end).ends; holds = c.copy_text.ensures ∙ ap (sets out 0) (first (goal.at.returns c).After-put_lines-end) })).0;
+          (record { ends = (wrote (goal.at.returns c).After-put_lines-end).ends; holds = c.copy_text.ensures ∙ ap (sets out 0) (first (goal.at.returns c).After-put_lines-end) })).0;
       buffer = (printed (bytes (goal.at.returns c).After-compose) out c.copy_text.new.to c.put_lines-end.result fits
-    (record { ends = (wrote (goal.at.returns c).After-put_lines-end).ends; holds = c.copy_text.ensures ∙ ap (sets out 0) (first (goal.at.returns c).After-put_lines-end) })).1;
+          (record { ends = (wrote (goal.at.returns c).After-put_lines-end).ends; holds = c.copy_text.ensures ∙ ap (sets out 0) (first (goal.at.returns c).After-put_lines-end) })).1;
     }

@@ -34,26 +34,26 @@ loop-p-init c =
 below : (t : In-loop-p)
     → (t.loop-p.p < 2 ^ t.args.k) × (t.loop-p.p < most_suffixes)
 below t =
-        let all = shifted t.args.k t.requires.k_le_most_bits.0 in
+    let all = shifted t.args.k t.requires.k_le_most_bits.0 in
     (omega (arith, t.loop-p-test.true, all), omega (arith, t.loop-p-test.true, all, pow-few t.args.k t.requires.k_le_most_bits.0))
 
 pub height-n-requires : goal.height-n-requires
 height-n-requires c =
-        (c.requires.k_le_most_bits.0, ((below c).0, c.requires.by_index.1.lines_long))
+    (c.requires.k_le_most_bits.0, ((below c).0, c.requires.by_index.1.lines_long))
 
 -- the height of its node
 high : (c : After-height-n)
     → let a = c.args in
     c.height-n.result ≡ height_at (at a.stage.now) a.k c.loop-p.p
 high c =
-        c.height-n.ensures.height (at c.args.stage.now) c.requires.by_index.0 c.requires.by_index.1
+    c.height-n.ensures.height (at c.args.stage.now) c.requires.by_index.0 c.requires.by_index.1
 
 -- its suffix
 suffix : (t : In-loop-p)
     → let a = t.args in
     get_or a.places.now t.loop-p.p 0 / 2 ^ (most_bits - a.k) ≡ place a.k t.loop-p.p
 suffix t =
-        ap (λ (x : ℕ). x / 2 ^ (most_bits - t.args.k)) (t.requires.k_le_most_bits.1.1.at t.loop-p.p (below t).1)
+    ap (λ (x : ℕ). x / 2 ^ (most_bits - t.args.k)) (t.requires.k_le_most_bits.1.1.at t.loop-p.p (below t).1)
     ∙ place-first t.args.k most_bits t.loop-p.p t.requires.k_le_most_bits.0 (below t).0
 
 pub offset_bounds-places-p : goal.offset_bounds-places-p
@@ -61,7 +61,7 @@ offset_bounds-places-p c = omega (arith, (below (goal.at.offset_bounds-places-p 
 
 pub bounds-places-p : goal.bounds-places-p
 bounds-places-p c =
-            omega (arith, (below (goal.at.bounds-places-p c).In-loop-p).1, c.requires.k_le_most_bits.1.1.long)
+    omega (arith, (below (goal.at.bounds-places-p c).In-loop-p).1, c.requires.k_le_most_bits.1.1.long)
 
 pub overflow_cast-value : goal.overflow_cast-value
 overflow_cast-value c = omega (arith, c.type_inv.places c.loop-p.p)
@@ -74,7 +74,7 @@ offset_bounds-stage-p c = omega (arith, (below (goal.at.offset_bounds-stage-p c)
 
 pub bounds-stage-p : goal.bounds-stage-p
 bounds-stage-p c =
-            omega (arith, (below (goal.at.bounds-stage-p c).In-loop-p).1, c.requires.k_le_most_bits.1.0.long)
+    omega (arith, (below (goal.at.bounds-stage-p c).In-loop-p).1, c.requires.k_le_most_bits.1.0.long)
 
 pub overflow_cast-backend : goal.overflow_cast-backend
 overflow_cast-backend c = omega (arith, c.type_inv.stage c.loop-p.p)
@@ -84,12 +84,12 @@ overflow_sub-k c = omega (arith, c.height-n.ensures.few)
 
 -- its line is written
 stepped : (c : After-write_line-written)
-    →     let a = c.args in
+    → let a = c.args in
     let w = c.write_line-written in
     Before w.result (end_at w.result + 1)
     × Going a.stage.now a.k a.service a.text.now w.new.out (end_at w.result) (c.loop-p.p + 2 ^ c.height-n.result)
 stepped c =
-                let a = c.args in
+    let a = c.args in
     let l = c.loop-p in
     let w = c.write_line-written in (
       line-ended a.stage.now a.text.now l.text a.k a.service l.end l.p c.requires.k_le_most_bits.0 c.requires.k_le_most_bits.1.0 c.requires.k_len_bound.0
@@ -101,31 +101,31 @@ stepped c =
 -- how many places its node has
 size : (c : After-height-n) → (1 * 2 ^ c.height-n.result) % 2 ^ 64 ≡ 2 ^ c.height-n.result
 size c =
-        shifted c.height-n.result (omega (arith, c.height-n.ensures.few, c.requires.k_le_most_bits.0))
+    shifted c.height-n.result (omega (arith, c.height-n.ensures.few, c.requires.k_le_most_bits.0))
 
 pub overflow_shl-p : goal.overflow_shl-p
 overflow_shl-p c =
-            omega (arith, c.height-n.ensures.few, c.requires.k_le_most_bits.0)
+    omega (arith, c.height-n.ensures.few, c.requires.k_le_most_bits.0)
 
 pub overflow_add-p : goal.overflow_add-p
 overflow_add-p c =
-                omega (arith, size (goal.at.overflow_add-p c).After-height-n, (stepped (goal.at.overflow_add-p c).After-write_line-written).1.within, pow-few c.args.k c.requires.k_le_most_bits.0)
+    omega (arith, size (goal.at.overflow_add-p c).After-height-n, (stepped (goal.at.overflow_add-p c).After-write_line-written).1.within, pow-few c.args.k c.requires.k_le_most_bits.0)
 
 pub loop-p-smaller : goal.loop-p-smaller
 loop-p-smaller c =
-            omega (arith, size (goal.at.loop-p-smaller c).After-height-n, (stepped (goal.at.loop-p-smaller c).After-write_line-written).1.within, (below (goal.at.loop-p-smaller c).In-loop-p).0, pow_pos c.height-n.result)
+    omega (arith, size (goal.at.loop-p-smaller c).After-height-n, (stepped (goal.at.loop-p-smaller c).After-write_line-written).1.within, (below (goal.at.loop-p-smaller c).In-loop-p).0, pow_pos c.height-n.result)
 
 -- where the line ends: it is never refused
 end_is : (c : Joined-written) → c.match-written.end ≡ end_at c.write_line-written.result
 end_is c =
     elim c.match-written.branch [
-      in-End w ↦ w.end-is ∙ sym (ap end_at w.in-End.is)
-    | in_default w ↦ absurd (rw w.in_default.is at (stepped (goal.at.Joined-written c).After-write_line-written).0)
+      | in-End w ↦ w.end-is ∙ sym (ap end_at w.in-End.is)
+      | in_default w ↦ absurd (rw w.in_default.is at (stepped (goal.at.Joined-written c).After-write_line-written).0)
     ]
 
 pub loop-p-preserved : goal.loop-p-preserved
 loop-p-preserved c =
-            let a = c.args in
+    let a = c.args in
     let p = c.loop-p.p in
     subst (λ (x : ℕ). Going a.stage.now a.k a.service a.text.now c.write_line-written.new.out c.match-written.end (p + x)) (sym (size (goal.at.loop-p-preserved c).After-height-n))
     (subst (λ (e : ℕ). Going a.stage.now a.k a.service a.text.now c.write_line-written.new.out e (p + 2 ^ c.height-n.result))
@@ -133,7 +133,7 @@ loop-p-preserved c =
 
 pub returns : goal.returns
 returns c =
-        let a = c.args in
+    let a = c.args in
     let l = c.loop-p in
     let all : l.p ≡ 2 ^ a.k = omega (arith, c.loop-p-test.false, l.invariant.within, shifted a.k c.requires.k_le_most_bits.0) in
     subst (λ (x : ℕ). Wrote a.text.now l.text 0 l.end (lines_text (lines_of a.service (starts_to (at a.stage.now) a.k x)))) all l.invariant.wrote

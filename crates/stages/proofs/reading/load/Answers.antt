@@ -23,22 +23,21 @@ module _ (d : In-Made) where
 
 pub spread-requires : goal.spread-requires
 spread-requires c =
-        let h = has (goal.at.spread-requires c).In-Made in
+    let h = has (goal.at.spread-requires c).In-Made in
     record {
       k_le_most_bits = (omega (arith, h.bits, h.proper.few_bits), (h.ruled, c.all_places-places.ensures));
       holder_value = c.requires;
     }
 
 pub returns-in-Refused : goal.returns-in-Refused
-returns-in-Refused c =
-        (
-      not-loaded c.args.text.now c.in-Refused.why c.read_table-read.result c.read_table-read.ensures.answer c.in-Refused.is,
-      ap length c.requires ∙ length-replicate {A = ℕ} most_suffixes nobody,
-    )
+returns-in-Refused c = (
+  not-loaded c.args.text.now c.in-Refused.why c.read_table-read.result c.read_table-read.ensures.answer c.in-Refused.is,
+  ap length c.requires ∙ length-replicate {A = ℕ} most_suffixes nobody,
+)
 
 pub returns-in-Made : goal.returns-in-Made
 returns-in-Made c =
-        let h = has (goal.at.returns-in-Made c).In-Made in (
+    let h = has (goal.at.returns-in-Made c).In-Made in (
       h.table,
       h.read,
       sym h.bits,

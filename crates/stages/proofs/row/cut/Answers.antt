@@ -44,7 +44,7 @@ few-moved : (c : In-loop-p)
     let l = c.loop-p in
     (l.moved ≤ l.p) × (l.moved ≤ a.limit)
 few-moved c =
-        let a = c.args in
+    let a = c.args in
     let l = c.loop-p in
     let d : ℕ → Bool = unlike (at a.old.now) (at a.new.now) in (
       cut_moved d a.limit a.row.now l.p l.n l.moved l.row l.invariant.1,
@@ -56,9 +56,9 @@ overflow_add-moved c = omega (arith, few-moved (goal.at.overflow_add-moved c).In
 
 -- the place differs, and is cut at: the row has room for it
 full : (c : Then-limit-moved)
-    →     (c.loop-p.n + 1 ≤ most_suffixes) × (c.loop-p.n < length c.loop-p.row)
+    → (c.loop-p.n + 1 ≤ most_suffixes) × (c.loop-p.n < length c.loop-p.row)
 full c =
-            let a = c.args in
+    let a = c.args in
     let l = c.loop-p in
     let d : ℕ → Bool = unlike (at a.old.now) (at a.new.now) in
     let differs : d l.p ≡ true = ap not (ne_eqb _ _ c.if-old-p.true) in
@@ -99,25 +99,25 @@ loop-p-smaller c = omega (arith, inside (goal.at.loop-p-smaller c).In-loop-p)
 
 pub loop-p-preserved : goal.loop-p-preserved
 loop-p-preserved c =
-        let a = c.args in
+    let a = c.args in
     let l = c.loop-p in
     let d : ℕ → Bool = unlike (at a.old.now) (at a.new.now) in (
       omega (arith, inside (goal.at.loop-p-preserved c).In-loop-p),
       elim c.if-old-p.branch [
-        then-old-p w ↦
-          let differs : d l.p ≡ true = ap not (ne_eqb _ _ w.if-old-p.true) in
-          rw (w.row-is, w.n-is, w.moved-is)
-          (elim w.if-limit-moved.branch [
-            then-limit-moved v ↦
-              rw (v.row-is, v.n-is, v.moved-is)
-              (cut-here d a.limit a.row.now l.p l.n l.moved l.row l.invariant.1 differs (omega (arith, few-moved (goal.at.loop-p-preserved c).In-loop-p, v.if-limit-moved.true)))
-          | else-limit-moved v ↦
-              rw (v.row-is, v.n-is, v.moved-is)
-              (cut-more d a.limit a.row.now l.p l.n l.moved l.row l.invariant.1 differs (λ e. omega (arith, v.if-limit-moved.false)))
-          ])
-      | else-old-p w ↦
-          rw (w.row-is, w.n-is, w.moved-is)
-          (cut-alike d a.limit a.row.now l.p l.n l.moved l.row l.invariant.1 (ap not (eq-eqb _ _ w.if-old-p.false)))
+        | then-old-p w ↦
+            let differs : d l.p ≡ true = ap not (ne_eqb _ _ w.if-old-p.true) in
+            rw (w.row-is, w.n-is, w.moved-is)
+            (elim w.if-limit-moved.branch [
+              | then-limit-moved v ↦
+                  rw (v.row-is, v.n-is, v.moved-is)
+                  (cut-here d a.limit a.row.now l.p l.n l.moved l.row l.invariant.1 differs (omega (arith, few-moved (goal.at.loop-p-preserved c).In-loop-p, v.if-limit-moved.true)))
+              | else-limit-moved v ↦
+                  rw (v.row-is, v.n-is, v.moved-is)
+                  (cut-more d a.limit a.row.now l.p l.n l.moved l.row l.invariant.1 differs (λ e. omega (arith, v.if-limit-moved.false)))
+            ])
+        | else-old-p w ↦
+            rw (w.row-is, w.n-is, w.moved-is)
+            (cut-alike d a.limit a.row.now l.p l.n l.moved l.row l.invariant.1 (ap not (eq-eqb _ _ w.if-old-p.false)))
       ],
     )
 
@@ -138,7 +138,7 @@ walked c =
 last : (c : After-loop-p)
     → let l = c.loop-p in (l.n < most_suffixes) × (l.n < length l.row)
 last c =
-        let a = c.args in
+    let a = c.args in
     let l = c.loop-p in
     let d : ℕ → Bool = unlike (at a.old.now) (at a.new.now) in
     let long : l.n ≡ length (cuts_to d a.limit (2 ^ a.k)) = (walked c).long in (
@@ -162,7 +162,7 @@ overflow_add-result c = omega (arith, last c)
 
 pub returns : goal.returns
 returns c =
-        let a = c.args in
+    let a = c.args in
     let l = c.loop-p in
     record {
       long = omega (arith, (walked c).long, row-long a.k (at a.old.now) (at a.new.now) a.limit);

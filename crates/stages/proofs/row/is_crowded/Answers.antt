@@ -12,12 +12,12 @@ use Rattle.stages.proofs.row.is_crowded.Goals.{After-count_lines-lines, At-loop-
 
 -- the nodes that were filled
 old-nodes : (m : At-loop-left)
-    →     let a = m.args in
+    → let a = m.args in
     Nodes a.k (at a.old.now) 1 m.fill.new.held m.fill.new.lines
 old-nodes m = m.fill.ensures
 
 new-nodes : (m : At-loop-left)
-    →     let a = m.args in
+    → let a = m.args in
     Nodes a.k (at a.new.now) 1 m.fill-2.new.held m.fill-2.new.lines
 new-nodes m = m.fill-2.ensures
 
@@ -37,17 +37,17 @@ count_lines-lines-requires c =
 
 -- what was counted are the lines of the stage
 counted : (c : After-count_lines-lines)
-    →     let a = c.args in
+    → let a = c.args in
     c.count_lines-lines.result ≡ lines_at (cut_at (get_or a.row.now (a.n - c.loop-left.left) 0) (at a.old.now) (at a.new.now)) a.k 0
 counted c =
-        let a = c.args in
+    let a = c.args in
     c.count_lines-lines.ensures
     ∙ sym (stage-lines a.k (get_or a.row.now (a.n - c.loop-left.left) 0) (at a.old.now) (at a.new.now) _ _
     (nodes-leaf _ _ _ _ (old-nodes (goal.at.After-count_lines-lines c).At-loop-left)) (nodes-leaf _ _ _ _ (new-nodes (goal.at.After-count_lines-lines c).At-loop-left)))
 
 pub returns-then-capacity-lines : goal.returns-then-capacity-lines
 returns-then-capacity-lines c =
-            let a = c.args in
+    let a = c.args in
     sym
     (c.loop-left.invariant.1
     ∙ crowded-here a.k (at a.old.now) (at a.new.now) a.capacity a.row.now (a.n - c.loop-left.left) a.n
@@ -56,7 +56,7 @@ returns-then-capacity-lines c =
 
 pub loop-left-preserved : goal.loop-left-preserved
 loop-left-preserved c =
-            let a = c.args in
+    let a = c.args in
     let left = c.loop-left.left in
     let some : 0 < left = omega (arith, c.loop-left-test.true) in
     let next : a.n - left + 1 ≡ a.n - (left - 1) = omega (arith, c.loop-left.invariant.0, some) in (
@@ -69,7 +69,7 @@ loop-left-preserved c =
 
 pub returns : goal.returns
 returns c =
-            let a = c.args in
+    let a = c.args in
     let all : a.n - c.loop-left.left ≡ a.n = omega (arith, c.loop-left-test.false) in
     sym
     (c.loop-left.invariant.1

@@ -32,7 +32,7 @@ module _ (s : Start) where
 
 pub returns-then-limit-lt1 : goal.returns-then-limit-lt1
 returns-then-limit-lt1 c =
-        let a = c.args in
+    let a = c.args in
     let low = below-least 1 most_suffixes a.limit c.if-limit-lt1.true in
     record {
       answer = sym (judged-limit a.k (old (goal.at.returns-then-limit-lt1 c).Start) (new (goal.at.returns-then-limit-lt1 c).Start) a.limit a.capacity a.number low);
@@ -41,7 +41,7 @@ returns-then-limit-lt1 c =
 
 pub returns-then-limit-gt-MOST_SUFFIXES : goal.returns-then-limit-gt-MOST_SUFFIXES
 returns-then-limit-gt-MOST_SUFFIXES c =
-        let a = c.args in
+    let a = c.args in
     let high = above_most 1 most_suffixes a.limit c.if-limit-gt-MOST_SUFFIXES.true in
     record {
       answer = sym (judged-limit a.k (old (goal.at.returns-then-limit-gt-MOST_SUFFIXES c).Start) (new (goal.at.returns-then-limit-gt-MOST_SUFFIXES c).Start) a.limit a.capacity a.number high);
@@ -55,7 +55,7 @@ limited c =
 
 pub returns-then-capacity-lt1 : goal.returns-then-capacity-lt1
 returns-then-capacity-lt1 c =
-        let a = c.args in
+    let a = c.args in
     let low = below-least 1 most_capacity a.capacity c.if-capacity-lt1.true in
     record {
       answer = sym (judged-capacity a.k (old (goal.at.returns-then-capacity-lt1 c).Start) (new (goal.at.returns-then-capacity-lt1 c).Start) a.limit a.capacity a.number (limited (goal.at.returns-then-capacity-lt1 c).Else-limit-gt-MOST_SUFFIXES) low);
@@ -64,7 +64,7 @@ returns-then-capacity-lt1 c =
 
 pub returns-then-capacity-gt-MOST_CAPACITY : goal.returns-then-capacity-gt-MOST_CAPACITY
 returns-then-capacity-gt-MOST_CAPACITY c =
-        let a = c.args in
+    let a = c.args in
     let high = above_most 1 most_capacity a.capacity c.if-capacity-gt-MOST_CAPACITY.true in
     record {
       answer = sym (judged-capacity a.k (old (goal.at.returns-then-capacity-gt-MOST_CAPACITY c).Start) (new (goal.at.returns-then-capacity-gt-MOST_CAPACITY c).Start) a.limit a.capacity a.number (limited (goal.at.returns-then-capacity-gt-MOST_CAPACITY c).Else-limit-gt-MOST_SUFFIXES) high);
@@ -79,7 +79,7 @@ module _ (c : Else-capacity-gt-MOST_CAPACITY) where
   -- the listing has room for the row
   room : (1 ≤ c.args.limit) × (length (places (goal.at.Else-capacity-gt-MOST_CAPACITY c).Start) ≤ length c.args.row.now)
   room =
-          let a = c.args in
+      let a = c.args in
       let some : 1 ≤ a.limit = omega (arith, c.if-limit-lt1.false) in
       (some, omega (arith, row-few a.k (old (goal.at.Else-capacity-gt-MOST_CAPACITY c).Start) (new (goal.at.Else-capacity-gt-MOST_CAPACITY c).Start) a.limit some, pow-few a.k c.requires.k_le_most_bits.0, c.requires.row_len))
 
@@ -109,7 +109,7 @@ module _ (w : After-cut-n) where
 
 pub returns-then-number-lt1 : goal.returns-then-number-lt1
 returns-then-number-lt1 c =
-        let s = (goal.at.returns-then-number-lt1 c).Start in
+    let s = (goal.at.returns-then-number-lt1 c).Start in
     let a = s.args in
     let low = below-least 1 (length (places s)) a.number c.if-number-lt1.true in
     record {
@@ -119,7 +119,7 @@ returns-then-number-lt1 c =
 
 pub returns-then-n-number : goal.returns-then-n-number
 returns-then-n-number c =
-        let s = (goal.at.returns-then-n-number c).Start in
+    let s = (goal.at.returns-then-n-number c).Start in
     let a = s.args in
     let more = subst (λ (n : ℕ). n < a.number) c.cut-n.ensures.long c.if-n-number.true in
     let high = above_most 1 (length (places s)) a.number more in
@@ -131,12 +131,12 @@ returns-then-n-number c =
 numbered : (c : Else-n-number)
     → let s = (goal.at.Else-n-number c).Start in in_limits 1 (length (places s)) s.args.number ≡ true
 numbered c =
-        let s = (goal.at.Else-n-number c).Start in
+    let s = (goal.at.Else-n-number c).Start in
     is_within_lem 1 (length (places s)) s.args.number (omega (arith, c.if-number-lt1.false)) (omega (arith, c.if-n-number.false, c.cut-n.ensures.long))
 
 pub is_crowded-requires : goal.is_crowded-requires
 is_crowded-requires c =
-        let s = (goal.at.is_crowded-requires c).Start in
+    let s = (goal.at.is_crowded-requires c).Start in
     let a = s.args in
     let long = c.cut-n.ensures.long in
     record {
@@ -155,12 +155,12 @@ crowded-is : (c : After-is_crowded)
     → let s = (goal.at.After-is_crowded c).Start in
     c.is_crowded.result ≡ crowded_at s.args.k (old s) (new s) s.args.capacity (places s)
 crowded-is c =
-        let s = (goal.at.After-is_crowded c).Start in
+    let s = (goal.at.After-is_crowded c).Start in
     c.is_crowded.ensures ∙ ap (crowded_at s.args.k (old s) (new s) s.args.capacity) (stands (goal.at.After-is_crowded c).After-cut-n)
 
 pub returns-then-is_crowded : goal.returns-then-is_crowded
 returns-then-is_crowded c =
-        let s = (goal.at.returns-then-is_crowded c).Start in
+    let s = (goal.at.returns-then-is_crowded c).Start in
     let a = s.args in
     let n = numbered (goal.at.returns-then-is_crowded c).Else-n-number in
     let crowded = sym (crowded-is (goal.at.returns-then-is_crowded c).After-is_crowded) ∙ c.if-is_crowded.true in
@@ -171,7 +171,7 @@ returns-then-is_crowded c =
 
 pub returns : goal.returns
 returns c =
-        let s = (goal.at.returns c).Start in
+    let s = (goal.at.returns c).Start in
     let a = s.args in
     let n = numbered (goal.at.returns c).Else-n-number in
     let roomy = sym (crowded-is (goal.at.returns c).After-is_crowded) ∙ c.if-is_crowded.false in

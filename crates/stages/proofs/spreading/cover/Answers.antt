@@ -58,7 +58,7 @@ overflow_cast-at c = omega (arith, c.type_inv.places c.args.value)
 
 pub overflow_mul-at : goal.overflow_mul-at
 overflow_mul-at c =
-        omega (arith, at-is (goal.at.overflow_mul-at c).Start, inside (goal.at.overflow_mul-at c).Start 0 (pow_pos (k (goal.at.overflow_mul-at c).Start - len (goal.at.overflow_mul-at c).Start)))
+    omega (arith, at-is (goal.at.overflow_mul-at c).Start, inside (goal.at.overflow_mul-at c).Start 0 (pow_pos (k (goal.at.overflow_mul-at c).Start - len (goal.at.overflow_mul-at c).Start)))
 
 pub loop-i-init : goal.loop-i-init
 loop-i-init c = (omega arith, given-none _ _ c.args.holder.now)
@@ -67,7 +67,7 @@ loop-i-init c = (omega arith, given-none _ _ c.args.holder.now)
 below : (t : In-loop-i)
     → place (len (goal.at.In-loop-i t).Start) (value (goal.at.In-loop-i t).Start) * 2 ^ (k (goal.at.In-loop-i t).Start - len (goal.at.In-loop-i t).Start) + t.loop-i.i < most_suffixes
 below t =
-        inside (goal.at.In-loop-i t).Start t.loop-i.i (omega (arith, size_is (goal.at.In-loop-i t).Start))
+    inside (goal.at.In-loop-i t).Start t.loop-i.i (omega (arith, size_is (goal.at.In-loop-i t).Start))
 
 pub overflow_add-holder : goal.overflow_add-holder
 overflow_add-holder c = omega (arith, below c, at-is (goal.at.overflow_add-holder c).Start)
@@ -80,7 +80,7 @@ bounds-holder-at c = omega (arith, below c, at-is (goal.at.bounds-holder-at c).S
 
 pub loop-i-preserved : goal.loop-i-preserved
 loop-i-preserved c =
-        let a = c.args in
+    let a = c.args in
     let l = c.loop-i in
     let at : ℕ = place (len (goal.at.loop-i-preserved c).Start) (value (goal.at.loop-i-preserved c).Start) * 2 ^ (k (goal.at.loop-i-preserved c).Start - len (goal.at.loop-i-preserved c).Start) in (
       omega arith,
@@ -90,7 +90,7 @@ loop-i-preserved c =
 
 pub returns : goal.returns
 returns c =
-        let a = c.args in
+    let a = c.args in
     let l = c.loop-i in
     let all : l.i ≡ 2 ^ (k (goal.at.returns c).Start - len (goal.at.returns c).Start) = omega (arith, size_is (goal.at.returns c).Start) in
     let rule : Rule = record { len = len (goal.at.returns c).Start; value = value (goal.at.returns c).Start; backend = a.backend } in

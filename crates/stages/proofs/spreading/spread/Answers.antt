@@ -12,7 +12,7 @@ use Rattle.stages.proofs.spreading.spread.Goals.{In-loop-left}
 
 pub loop-left-init : goal.loop-left-init
 loop-left-init c =
-        let a = c.args in (
+    let a = c.args in (
       omega arith,
       subst (Spread a.k (own_from a.table.now a.n a.service a.n)) (sym c.requires.holder_value)
           (spread-start a.k a.table.now a.n a.service c.requires.k_le_most_bits.1.0.room c.requires.k_le_most_bits.0),
@@ -62,11 +62,11 @@ bounds-table-c-then-table-c-3 c = omega (arith, room (goal.at.bounds-table-c-the
 line-formed : (c : In-loop-left)
     → let a = c.args in Formed a.k (line_at a.table.now (c.loop-left.left - 1))
 line-formed c =
-        formed c.args.k _ (c.requires.k_le_most_bits.1.0.each (c.loop-left.left - 1) (omega arith))
+    formed c.args.k _ (c.requires.k_le_most_bits.1.0.each (c.loop-left.left - 1) (omega arith))
 
 pub cover-requires : goal.cover-requires
 cover-requires c =
-            let f = line-formed (goal.at.cover-requires c).In-loop-left in
+    let f = line-formed (goal.at.cover-requires c).In-loop-left in
     record {
       k_le_most_bits = (c.requires.k_le_most_bits.0, (f.short, (f.bits, omega (arith, f.backend))));
       holder_len = (c.loop-left.invariant.1.long, c.requires.k_le_most_bits.1.1);
@@ -74,7 +74,7 @@ cover-requires c =
 
 pub loop-left-preserved-then-table-c : goal.loop-left-preserved-then-table-c
 loop-left-preserved-then-table-c c =
-            let a = c.args in
+    let a = c.args in
     let l = c.loop-left in (
       omega arith,
       spread-own a.k a.table.now a.n a.service c.requires.k_le_most_bits.1.0.room l.left (omega arith) l.invariant.0 l.holder _ l.invariant.1
@@ -83,7 +83,7 @@ loop-left-preserved-then-table-c c =
 
 pub loop-left-preserved : goal.loop-left-preserved
 loop-left-preserved c =
-            let a = c.args in
+    let a = c.args in
     let l = c.loop-left in (
       omega arith,
       spread-other a.k a.table.now a.n a.service c.requires.k_le_most_bits.1.0.room l.left (omega arith) l.invariant.0 l.holder l.invariant.1

@@ -6,7 +6,6 @@ use mathlib.Core.Path.{◌≡◌, refl, ap, sym, ◌∙◌}
 use native.Mathlib.Omega.{arith}
 use lib.ListN.{length, replicate, length-replicate}
 use lib.Seq.{length-sets, length-take-le}
-use borrow.Author.Rules.{rules}
 use Rattle.numerals.specs.Limits.{most_backends}
 use Rattle.expansion.specs.OldList.{numbers_of}
 use Rattle.sheets.specs.RuleSheet.{read_table}
@@ -110,7 +109,7 @@ slice_bounds-update-end-in-Made-2 c = sym (length-take-le (m (goal.at.slice_boun
 
 pub returns-in-Refused : goal.returns-in-Refused
 returns-in-Refused c =
-        let a = c.args in
+    let a = c.args in
     let r = c.in-Refused.r in
     let e = sym c.read_update-read.ensures.answer ∙ c.in-Refused.is in
     record {
@@ -121,7 +120,7 @@ returns-in-Refused c =
 
 pub returns-in-Made : goal.returns-in-Made
 returns-in-Made c =
-            let a = c.args in
+    let a = c.args in
     let e = c.update-updated.ensures in
     let v = c.of_updated.result in
     let long = length-replicate {A = ℕ} list_room 0 in
@@ -131,9 +130,9 @@ returns-in-Made c =
           (listed (goal.at.returns-in-Made c).In-Made) (named (goal.at.returns-in-Made c).In-Made) (weighed (goal.at.returns-in-Made c).In-Made)
           (length a.rules.now) c.update-updated.result e.answer v c.of_updated.ensures;
       rules = text-buffer a.old.now a.sheet.now a.service (m (goal.at.returns-in-Made c).In-Made) (X (goal.at.returns-in-Made c).In-Made) list₀ (list (goal.at.returns-in-Made c).In-Made) row₀ (names (goal.at.returns-in-Made c).In-Made) row₀ (row (goal.at.returns-in-Made c).In-Made) long wide wide
-            (listed (goal.at.returns-in-Made c).In-Made) (named (goal.at.returns-in-Made c).In-Made) (weighed (goal.at.returns-in-Made c).In-Made)
-            (length a.rules.now) c.update-updated.result e.answer v c.of_updated.ensures a.rules.now _ e.rules;
+          (listed (goal.at.returns-in-Made c).In-Made) (named (goal.at.returns-in-Made c).In-Made) (weighed (goal.at.returns-in-Made c).In-Made)
+          (length a.rules.now) c.update-updated.result e.answer v c.of_updated.ensures a.rules.now _ e.rules;
       promise = text-promised a.old.now a.sheet.now a.service (m (goal.at.returns-in-Made c).In-Made) (X (goal.at.returns-in-Made c).In-Made) list₀ (list (goal.at.returns-in-Made c).In-Made) row₀ (names (goal.at.returns-in-Made c).In-Made) row₀ (row (goal.at.returns-in-Made c).In-Made) long wide wide
-            (listed (goal.at.returns-in-Made c).In-Made) (named (goal.at.returns-in-Made c).In-Made) (weighed (goal.at.returns-in-Made c).In-Made)
-            (length a.rules.now) c.update-updated.result e.answer v c.of_updated.ensures _ e.promise;
+          (listed (goal.at.returns-in-Made c).In-Made) (named (goal.at.returns-in-Made c).In-Made) (weighed (goal.at.returns-in-Made c).In-Made)
+          (length a.rules.now) c.update-updated.result e.answer v c.of_updated.ensures _ e.promise;
     }

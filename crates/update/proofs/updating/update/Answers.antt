@@ -4,7 +4,6 @@ use mathlib.Core.Bool.{Bool}
 use mathlib.Core.List.{List}
 use mathlib.Core.Path.{◌≡◌, refl, ap, sym, ◌∙◌}
 use lib.ListN.{length}
-use borrow.Author.Rules.{rules}
 use Rattle.numerals.specs.Buffer.{filled}
 use Rattle.expansion.specs.Resume.{numbers_resumed, is_resumed}
 use Rattle.expansion.specs.declared.resuming.Resumed.{Resumed}
