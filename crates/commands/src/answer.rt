@@ -1,6 +1,6 @@
 // What a command is, and what it comes to.
 
-#[derive(Drop)]
+#[derive(Clone, Copy)]
 pub enum Command {
     Split,
     Lookup,

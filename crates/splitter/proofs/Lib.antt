@@ -1,2 +1,2 @@
--- Laws that the functions' proofs share.
+-- What the proofs of the functions that read a text share.
 pub mod Judged

@@ -4,103 +4,109 @@ use crate::part::start;
 use crate::{arguments, input, output};
 use commands::{Command, Outcome};
 
-fn split_text(text: &[u8]) {
+fn split_text(rt: &HostRuntime, text: &[u8]) {
     let mut out = [0u8; commands::ROOM];
     let n = commands::split(text, &mut out);
-    output::print(output::text(&out, n));
+    output::print(rt, output::text(&out, n));
 }
 
 // splitter: a sheet on standard input
-pub fn split_input() {
+pub fn split_input(rt: &HostRuntime) {
     let mut text = [0u8; TEXT];
-    let read = input::read_input(&mut text);
+    let read = input::read_input(rt, &mut text);
     if let Read::Bytes(n) = read {
-        split_text(start(&text, n));
+        split_text(rt, start(&text, n));
     }
 }
 
 // splitter split SHEET
-pub fn split() {
-    if !arguments::are(1, Command::Split) {
+pub fn split(rt: &HostRuntime) {
+    if !arguments::are(rt, 1, Command::Split) {
         return;
     }
     let mut text = [0u8; TEXT];
-    let read = input::read_file(2, &mut text);
+    let read = input::read_file(rt, 2, &mut text);
     match read {
-        Read::Bytes(n) => split_text(start(&text, n)),
-        Read::Failed => output::usage(Command::Split),
+        Read::Bytes(n) => split_text(rt, start(&text, n)),
+        Read::Failed(_) => output::usage(rt, Command::Split),
     }
 }
 
-fn print_outcome(outcome: Outcome, out: &[u8; commands::LINES_ROOM], command: Command) {
+fn print_outcome(
+    rt: &HostRuntime,
+    outcome: Outcome,
+    out: &[u8; commands::LINES_ROOM],
+    command: Command,
+) {
     match outcome {
-        Outcome::Answer(n) => output::print(start(out, n)),
-        Outcome::NoNumber(place) => arguments::no_number(place, command),
+        Outcome::Answer(n) => output::print(rt, start(out, n)),
+        Outcome::NoNumber(place) => arguments::no_number(rt, place, command),
     }
 }
 
 // The service and the address are the third and the fourth argument.
-fn look(table: &[u8]) {
+fn look(rt: &HostRuntime, table: &[u8]) {
     let mut service = [0u8; arguments::ROOM];
-    let s = os::arg(3, &mut service);
+    let s = arguments::read(rt, 3, &mut service);
     let mut address = [0u8; arguments::ROOM];
-    let a = os::arg(4, &mut address);
+    let a = arguments::read(rt, 4, &mut address);
     let mut out = [0u8; commands::LINES_ROOM];
     let outcome = commands::lookup(table, start(&service, s), start(&address, a), &mut out);
-    print_outcome(outcome, &out, Command::Lookup);
+    print_outcome(rt, outcome, &out, Command::Lookup);
 }
 
 // splitter lookup TABLE SERVICE ADDRESS
-pub fn lookup() {
-    if !arguments::are(3, Command::Lookup) {
+pub fn lookup(rt: &HostRuntime) {
+    if !arguments::are(rt, 3, Command::Lookup) {
         return;
     }
     let mut table = [0u8; TEXT];
-    let read = input::read_file(2, &mut table);
+    let read = input::read_file(rt, 2, &mut table);
     match read {
-        Read::Bytes(n) => look(start(&table, n)),
-        Read::Failed => output::usage(Command::Lookup),
+        Read::Bytes(n) => look(rt, start(&table, n)),
+        Read::Failed(_) => output::usage(rt, Command::Lookup),
     }
 }
 
 // The answer about two texts and a service.
-fn answer_two(old: &[u8], new: &[u8], service: &[u8], command: Command) {
+fn answer_two(rt: &HostRuntime, old: &[u8], new: &[u8], service: &[u8], command: Command) {
     let mut out = [0u8; commands::LINES_ROOM];
     let outcome = if let Command::Update = command {
         commands::update(old, new, service, &mut out)
     } else {
         commands::churn(old, new, service, &mut out)
     };
-    print_outcome(outcome, &out, command);
+    print_outcome(rt, outcome, &out, command);
 }
 
 // The same where the service, the fourth argument, may have any length.
-fn answer_long(old: &[u8], new: &[u8], command: Command) {
+fn answer_long(rt: &HostRuntime, old: &[u8], new: &[u8], command: Command) {
     let mut service = [0u8; arguments::ROOM];
-    let n = os::arg(4, &mut service);
-    answer_two(old, new, start(&service, n), command);
+    let n = arguments::read(rt, 4, &mut service);
+    answer_two(rt, old, new, start(&service, n), command);
 }
 
 // The service is the fourth argument, and mostly short.
-fn read_service(old: &[u8], new: &[u8], command: Command) {
+fn read_service(rt: &HostRuntime, old: &[u8], new: &[u8], command: Command) {
     let mut service = [0u8; arguments::SHORT];
-    let n = os::arg(4, &mut service);
+    let n = arguments::read(rt, 4, &mut service);
     if n == 0 {
-        answer_long(old, new, command);
+        answer_long(rt, old, new, command);
     } else {
-        answer_two(old, new, start(&service, n), command);
+        answer_two(rt, old, new, start(&service, n), command);
     }
 }
 
-fn print_staged(outcome: Outcome, out: &[u8; commands::ROOM], command: Command) {
+fn print_staged(rt: &HostRuntime, outcome: Outcome, out: &[u8; commands::ROOM], command: Command) {
     match outcome {
-        Outcome::Answer(n) => output::print(output::text(out, n)),
-        Outcome::NoNumber(place) => arguments::no_number(place, command),
+        Outcome::Answer(n) => output::print(rt, output::text(out, n)),
+        Outcome::NoNumber(place) => arguments::no_number(rt, place, command),
     }
 }
 
 // The answer about a change from one text to another, cut into stages; the number is that of a stage.
 fn answer_staged(
+    rt: &HostRuntime,
     old: &[u8],
     new: &[u8],
     service: &[u8],
@@ -115,20 +121,21 @@ fn answer_staged(
     } else {
         commands::stages(old, new, service, limit, capacity, &mut out)
     };
-    print_staged(outcome, &out, command);
+    print_staged(rt, outcome, &out, command);
 }
 
 // The same where the words may have any length.
-fn staged_long(old: &[u8], new: &[u8], command: Command) {
+fn staged_long(rt: &HostRuntime, old: &[u8], new: &[u8], command: Command) {
     let mut service = [0u8; arguments::ROOM];
-    let s = os::arg(4, &mut service);
+    let s = arguments::read(rt, 4, &mut service);
     let mut limit = [0u8; arguments::ROOM];
-    let l = os::arg(5, &mut limit);
+    let l = arguments::read(rt, 5, &mut limit);
     let mut capacity = [0u8; arguments::ROOM];
-    let c = os::arg(6, &mut capacity);
+    let c = arguments::read(rt, 6, &mut capacity);
     let mut number = [0u8; arguments::ROOM];
-    let i = os::arg(7, &mut number);
+    let i = arguments::read(rt, 7, &mut number);
     answer_staged(
+        rt,
         old,
         new,
         start(&service, s),
@@ -140,15 +147,15 @@ fn staged_long(old: &[u8], new: &[u8], command: Command) {
 }
 
 // The words are the fourth argument and those behind it, and mostly short. `stages` has no number.
-fn read_words(old: &[u8], new: &[u8], command: Command) {
+fn read_words(rt: &HostRuntime, old: &[u8], new: &[u8], command: Command) {
     let mut service = [0u8; arguments::SHORT];
-    let s = os::arg(4, &mut service);
+    let s = arguments::read(rt, 4, &mut service);
     let mut limit = [0u8; arguments::SHORT];
-    let l = os::arg(5, &mut limit);
+    let l = arguments::read(rt, 5, &mut limit);
     let mut capacity = [0u8; arguments::SHORT];
-    let c = os::arg(6, &mut capacity);
+    let c = arguments::read(rt, 6, &mut capacity);
     let mut number = [0u8; arguments::SHORT];
-    let i = os::arg(7, &mut number);
+    let i = arguments::read(rt, 7, &mut number);
     let numbered = if let Command::Stage = command {
         i != 0
     } else {
@@ -156,6 +163,7 @@ fn read_words(old: &[u8], new: &[u8], command: Command) {
     };
     if s != 0 && l != 0 && c != 0 && numbered {
         answer_staged(
+            rt,
             old,
             new,
             start(&service, s),
@@ -165,74 +173,74 @@ fn read_words(old: &[u8], new: &[u8], command: Command) {
             command,
         );
     } else {
-        staged_long(old, new, command);
+        staged_long(rt, old, new, command);
     }
 }
 
 // What is asked of two texts that were read.
-fn ask_two(old: &[u8], new: &[u8], command: Command) {
+fn ask_two(rt: &HostRuntime, old: &[u8], new: &[u8], command: Command) {
     match command {
-        Command::Stages => read_words(old, new, command),
-        Command::Stage => read_words(old, new, command),
-        _ => read_service(old, new, command),
+        Command::Stages => read_words(rt, old, new, command),
+        Command::Stage => read_words(rt, old, new, command),
+        _ => read_service(rt, old, new, command),
     }
 }
 
 // The second text is the third argument.
-fn read_second(old: &[u8], command: Command) {
+fn read_second(rt: &HostRuntime, old: &[u8], command: Command) {
     let mut new = [0u8; TEXT];
-    let read = input::read_file(3, &mut new);
+    let read = input::read_file(rt, 3, &mut new);
     match read {
-        Read::Bytes(n) => ask_two(old, start(&new, n), command),
-        Read::Failed => output::usage(command),
+        Read::Bytes(n) => ask_two(rt, old, start(&new, n), command),
+        Read::Failed(_) => output::usage(rt, command),
     }
 }
 
 // A command of two texts and n arguments in all: standard input can only be one of the texts.
-fn read_two(n: usize, command: Command) {
-    if !arguments::are(n, command) {
+fn read_two(rt: &HostRuntime, n: usize, command: Command) {
+    if !arguments::are(rt, n, command) {
         return;
     }
-    if arguments::is_input(2) && arguments::is_input(3) {
-        output::complain(b"splitter: standard input is read only once\n", command);
+    if arguments::is_input(rt, 2) && arguments::is_input(rt, 3) {
+        output::complain(rt, b"splitter: standard input is read only once\n", command);
         return;
     }
     let mut old = [0u8; TEXT];
-    let read = input::read_file(2, &mut old);
+    let read = input::read_file(rt, 2, &mut old);
     match read {
-        Read::Bytes(n) => read_second(start(&old, n), command),
-        Read::Failed => output::usage(command),
+        Read::Bytes(n) => read_second(rt, start(&old, n), command),
+        Read::Failed(_) => output::usage(rt, command),
     }
 }
 
 // splitter churn OLD NEW SERVICE
-pub fn churn() {
-    read_two(3, Command::Churn);
+pub fn churn(rt: &HostRuntime) {
+    read_two(rt, 3, Command::Churn);
 }
 
 // splitter update OLD SHEET SERVICE
-pub fn update() {
-    read_two(3, Command::Update);
+pub fn update(rt: &HostRuntime) {
+    read_two(rt, 3, Command::Update);
 }
 
 // splitter stages OLD NEW SERVICE LIMIT CAPACITY
-pub fn stages() {
-    read_two(5, Command::Stages);
+pub fn stages(rt: &HostRuntime) {
+    read_two(rt, 5, Command::Stages);
 }
 
 // splitter stage OLD NEW SERVICE LIMIT CAPACITY NUMBER
-pub fn stage() {
-    read_two(6, Command::Stage);
+pub fn stage(rt: &HostRuntime) {
+    read_two(rt, 6, Command::Stage);
 }
 
 // The service, the volume and the backend are the third to the fifth argument.
-fn measure(table: &[u8]) {
+fn measure(rt: &HostRuntime, table: &[u8]) {
     let mut service = [0u8; arguments::ROOM];
-    let s = os::arg(3, &mut service);
+    let s = arguments::read(rt, 3, &mut service);
     let mut volume = [0u8; arguments::ROOM];
-    let v = os::arg(4, &mut volume);
+    let v = arguments::read(rt, 4, &mut volume);
     let mut backend = [0u8; arguments::ROOM];
-    let b = os::arg(5, &mut backend);
+    let b = arguments::read(rt, 5, &mut backend);
     let mut out = [0u8; commands::LINES_ROOM];
     let outcome = commands::gauge(
         table,
@@ -241,28 +249,28 @@ fn measure(table: &[u8]) {
         start(&backend, b),
         &mut out,
     );
-    print_outcome(outcome, &out, Command::Gauge);
+    print_outcome(rt, outcome, &out, Command::Gauge);
 }
 
 // splitter gauge TABLE SERVICE VOLUME BACKEND
-pub fn gauge() {
-    if !arguments::are(4, Command::Gauge) {
+pub fn gauge(rt: &HostRuntime) {
+    if !arguments::are(rt, 4, Command::Gauge) {
         return;
     }
     let mut table = [0u8; TEXT];
-    let read = input::read_file(2, &mut table);
+    let read = input::read_file(rt, 2, &mut table);
     match read {
-        Read::Bytes(n) => measure(start(&table, n)),
-        Read::Failed => output::usage(Command::Gauge),
+        Read::Bytes(n) => measure(rt, start(&table, n)),
+        Read::Failed(_) => output::usage(rt, Command::Gauge),
     }
 }
 
 // splitter help
-pub fn help() {
-    if !arguments::are(0, Command::Help) {
+pub fn help(rt: &HostRuntime) {
+    if !arguments::are(rt, 0, Command::Help) {
         return;
     }
     let mut out = [0u8; commands::ROOM];
     let n = commands::help(&mut out);
-    output::print(output::text(&out, n));
+    output::print(rt, output::text(&out, n));
 }

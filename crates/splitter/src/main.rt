@@ -9,21 +9,21 @@ mod part;
 
 use commands::Command;
 
-fn main() {
-    if os::arg_count() < 2 {
-        calls::split_input();
+fn main(rt: HostRuntime) {
+    if arguments::count(&rt) < 2 {
+        calls::split_input(&rt);
         return;
     }
-    let command = arguments::command();
+    let command = arguments::command(&rt);
     match command {
-        Command::Split => calls::split(),
-        Command::Lookup => calls::lookup(),
-        Command::Churn => calls::churn(),
-        Command::Update => calls::update(),
-        Command::Stages => calls::stages(),
-        Command::Stage => calls::stage(),
-        Command::Gauge => calls::gauge(),
-        Command::Help => calls::help(),
-        Command::Unknown => output::complain(b"splitter: no such command\n", Command::Unknown),
+        Command::Split => calls::split(&rt),
+        Command::Lookup => calls::lookup(&rt),
+        Command::Churn => calls::churn(&rt),
+        Command::Update => calls::update(&rt),
+        Command::Stages => calls::stages(&rt),
+        Command::Stage => calls::stage(&rt),
+        Command::Gauge => calls::gauge(&rt),
+        Command::Help => calls::help(&rt),
+        Command::Unknown => output::complain(&rt, b"splitter: no such command\n", Command::Unknown),
     }
 }

@@ -4,13 +4,13 @@ use sheets::ShareRead;
 use vectors::header::Header;
 use vectors::print;
 
-pub fn count(h: Header, text: &[u8]) {
+pub fn count(rt: &impl Print, h: Header, text: &[u8]) {
     match sheets::count_share(text, h.first as usize, h.second as usize) {
         ShareRead::Made(counted) => {
-            print::bytes(b"share");
-            print::field(counted.k as u64);
-            print::field(counted.share);
+            print::bytes(rt, b"share");
+            print::field(rt, counted.k as u64);
+            print::field(rt, counted.share);
         }
-        ShareRead::Refused(r) => shown::refused(r),
+        ShareRead::Refused(r) => shown::refused(rt, r),
     }
 }

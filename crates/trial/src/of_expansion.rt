@@ -4,18 +4,18 @@ use expansion::{Ended, Expanded, Record};
 use vectors::header::Header;
 use vectors::{print, walk};
 
-fn ending(list: Record) {
-    let ended = list.ended;
-    match ended {
-        Ended::Within => print::bytes(b"within"),
-        Ended::NoGain => print::bytes(b"nogain"),
-        Ended::Budget => print::bytes(b"budget"),
+fn ending(rt: &impl Print, list: &Record) {
+    match list.ended {
+        Ended::Within => print::bytes(rt, b"within"),
+        Ended::NoGain => print::bytes(rt, b"nogain"),
+        Ended::Budget => print::bytes(rt, b"budget"),
     }
-    print::field(list.rules as u64);
+    print::field(rt, list.rules as u64);
 }
 
 // Rule i, and the stair after it.
 fn show_rule(
+    rt: &impl Print,
     i: usize,
     lens: &[usize; numerals::MOST_RULES],
     values: &[usize; numerals::MOST_RULES],
@@ -23,16 +23,17 @@ fn show_rule(
     stairs: &[u64; numerals::MOST_RULES],
 ) {
     if i < numerals::MOST_RULES {
-        print::bytes(b" ");
-        print::suffix(lens[i], values[i]);
-        print::bytes(b">");
-        print::number(backends[i] as u64);
-        print::bytes(b":");
-        print::number(stairs[i]);
+        print::bytes(rt, b" ");
+        print::suffix(rt, lens[i], values[i]);
+        print::bytes(rt, b">");
+        print::number(rt, backends[i] as u64);
+        print::bytes(rt, b":");
+        print::number(rt, stairs[i]);
     }
 }
 
 fn show_rules(
+    rt: &impl Print,
     n: usize,
     lens: &[usize; numerals::MOST_RULES],
     values: &[usize; numerals::MOST_RULES],
@@ -40,12 +41,12 @@ fn show_rules(
     stairs: &[u64; numerals::MOST_RULES],
 ) {
     for i in 0..n {
-        show_rule(i, lens, values, backends, stairs);
+        show_rule(rt, i, lens, values, backends, stairs);
     }
 }
 
 // Two rows, a line each: the ids and the weights.
-fn expand(h: Header, text: &[u8]) {
+fn expand(rt: &impl Print, h: Header, text: &[u8]) {
     let mut ids = [0usize; 8200];
     let mut weights = [0u64; 64];
     let first = walk::part(text, 0, 10);
@@ -53,11 +54,11 @@ fn expand(h: Header, text: &[u8]) {
     let n = walk::fields(first);
     writes::read_cells(first, n, &mut ids);
     let m = walk::numbers(second, &mut weights);
-    expand_backends(h, &ids, n, walk::first_numbers(&weights, m));
+    expand_backends(rt, h, &ids, n, walk::first_numbers(&weights, m));
 }
 
 // So many of the ids, and the weights.
-fn expand_backends(h: Header, ids: &[usize; 8200], n: usize, weights: &[u64]) {
+fn expand_backends(rt: &impl Print, h: Header, ids: &[usize; 8200], n: usize, weights: &[u64]) {
     let mut lens = [0usize; numerals::MOST_RULES];
     let mut values = [0usize; numerals::MOST_RULES];
     let mut backends = [0usize; numerals::MOST_RULES];
@@ -76,17 +77,17 @@ fn expand_backends(h: Header, ids: &[usize; 8200], n: usize, weights: &[u64]) {
     );
     match made {
         Expanded::Made(list) => {
-            ending(list);
-            show_rules(list.rules, &lens, &values, &backends, &stairs);
+            ending(rt, &list);
+            show_rules(rt, list.rules, &lens, &values, &backends, &stairs);
         }
-        Expanded::Refused(why) => print::refused(why),
+        Expanded::Refused(why) => print::refused(rt, why),
     }
 }
 
-pub fn answer(h: Header, text: &[u8]) {
+pub fn answer(rt: &impl Print, h: Header, text: &[u8]) {
     let kind = h.kind;
     match kind {
-        b'E' => expand(h, text),
-        _ => print::bytes(b"unknown vector"),
+        b'E' => expand(rt, h, text),
+        _ => print::bytes(rt, b"unknown vector"),
     }
 }

@@ -5,63 +5,63 @@ use vectors::header::Header;
 use vectors::print;
 
 // The 64 bits of a double as a number, behind a space. Which bits a NaN has isn't known, and no gauge is one.
-fn show_bits(x: f64) {
+fn show_bits(rt: &impl Print, x: f64) {
     if x != x {
-        print::bytes(b" nan");
+        print::bytes(rt, b" nan");
         return;
     }
-    print::field(f64::to_bits(x));
+    print::field(rt, f64::to_bits(x));
 }
 
-fn show_reading(r: Reading) {
+fn show_reading(rt: &impl Print, r: Reading) {
     match r {
         Reading::Share(x) => {
-            print::bytes(b"share");
-            show_bits(x);
+            print::bytes(rt, b"share");
+            show_bits(rt, x);
         }
         Reading::Load(x) => {
-            print::bytes(b"load");
-            show_bits(x);
+            print::bytes(rt, b"load");
+            show_bits(rt, x);
         }
-        Reading::Absent => print::bytes(b"absent"),
+        Reading::Absent => print::bytes(rt, b"absent"),
     }
 }
 
-fn read(h: Header, text: &[u8], gauge: Gauge) {
+fn read(rt: &impl Print, h: Header, text: &[u8], gauge: Gauge) {
     match gauges::gauge_reading(text, h.first as usize, h.second, h.third as usize, gauge) {
-        ReadingAnswer::Read(r) => show_reading(r),
-        ReadingAnswer::Refused(r) => shown::refused(r),
+        ReadingAnswer::Read(r) => show_reading(rt, r),
+        ReadingAnswer::Refused(r) => shown::refused(rt, r),
     }
 }
 
 // One gauge: 1 is the share, 2 the load.
-fn reading(h: Header, text: &[u8]) {
+fn reading(rt: &impl Print, h: Header, text: &[u8]) {
     let which = h.fourth;
     match which {
-        1 => read(h, text, Gauge::Share),
-        2 => read(h, text, Gauge::Load),
-        _ => print::bytes(b"unknown vector"),
+        1 => read(rt, h, text, Gauge::Share),
+        2 => read(rt, h, text, Gauge::Load),
+        _ => print::bytes(rt, b"unknown vector"),
     }
 }
 
-fn show_gauges(g: Gauges) {
-    print::bytes(b"gauges");
-    show_bits(g.share);
-    show_bits(g.load);
+fn show_gauges(rt: &impl Print, g: Gauges) {
+    print::bytes(rt, b"gauges");
+    show_bits(rt, g.share);
+    show_bits(rt, g.load);
 }
 
-fn record(h: Header, text: &[u8]) {
+fn record(rt: &impl Print, h: Header, text: &[u8]) {
     match gauges::gauge_record(text, h.first as usize, h.second, h.third as usize) {
-        GaugesAnswer::Made(g) => show_gauges(g),
-        GaugesAnswer::Refused(r) => shown::refused(r),
+        GaugesAnswer::Made(g) => show_gauges(rt, g),
+        GaugesAnswer::Refused(r) => shown::refused(rt, r),
     }
 }
 
-pub fn answer(h: Header, text: &[u8]) {
+pub fn answer(rt: &impl Print, h: Header, text: &[u8]) {
     let kind = h.kind;
     match kind {
-        b'R' => reading(h, text),
-        b'G' => record(h, text),
-        _ => print::bytes(b"unknown vector"),
+        b'R' => reading(rt, h, text),
+        b'G' => record(rt, h, text),
+        _ => print::bytes(rt, b"unknown vector"),
     }
 }

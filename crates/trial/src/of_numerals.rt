@@ -3,49 +3,49 @@ use numerals::{Number, Refusal, SuffixRead, Written};
 use vectors::header::Header;
 use vectors::{print, walk};
 
-fn value(read: Number) {
+fn value(rt: &impl Print, read: Number) {
     match read {
         Number::Value(v) => {
-            print::bytes(b"value");
-            print::field(v);
+            print::bytes(rt, b"value");
+            print::field(rt, v);
         }
-        Number::Bad => print::bytes(b"bad"),
+        Number::Bad => print::bytes(rt, b"bad"),
     }
 }
 
 // Why a writer wrote nothing.
-fn refused(why: Refusal) {
+fn refused(rt: &impl Print, why: Refusal) {
     match why {
-        Refusal::BadField => print::bytes(b"bad"),
-        Refusal::ShortLoan => print::bytes(b"short"),
-        _ => print::refused(why),
+        Refusal::BadField => print::bytes(rt, b"bad"),
+        Refusal::ShortLoan => print::bytes(rt, b"short"),
+        _ => print::refused(rt, why),
     }
 }
 
 // What a writer answered, and the buffer afterwards.
-fn written(answer: Written, buffer: &[u8]) {
+fn written(rt: &impl Print, answer: Written, buffer: &[u8]) {
     match answer {
         Written::End(end) => {
-            print::bytes(b"end");
-            print::field(end as u64);
+            print::bytes(rt, b"end");
+            print::field(rt, end as u64);
         }
-        Written::Refused(why) => refused(why),
+        Written::Refused(why) => refused(rt, why),
     }
-    print::bytes(b" ");
-    print::bytes(buffer);
+    print::bytes(rt, b" ");
+    print::bytes(rt, buffer);
 }
 
-fn write_number(h: Header) {
+fn write_number(rt: &impl Print, h: Header) {
     let mut space = [b'.'; 40];
     let len = h.third as usize;
     if len <= 40 {
         let out = &mut space[0..len];
         let answer = numerals::write_number(out, h.second as usize, h.first);
-        written(answer, out);
+        written(rt, answer, out);
     }
 }
 
-fn write_suffix(h: Header) {
+fn write_suffix(rt: &impl Print, h: Header) {
     let mut space = [b'.'; 40];
     let len = h.fourth as usize;
     if len <= 40 {
@@ -56,77 +56,80 @@ fn write_suffix(h: Header) {
             h.first as usize,
             h.second as usize,
         );
-        written(answer, out);
+        written(rt, answer, out);
     }
 }
 
-fn read_suffix(text: &[u8], k: usize) {
+fn read_suffix(rt: &impl Print, text: &[u8], k: usize) {
     match numerals::read_suffix(text, 0, text.len(), k) {
         SuffixRead::Suffix { len, value } => {
-            print::bytes(b"suffix");
-            print::field(len as u64);
-            print::field(value as u64);
+            print::bytes(rt, b"suffix");
+            print::field(rt, len as u64);
+            print::field(rt, value as u64);
             if let Number::Value(place) = numerals::suffix_place(len, value) {
-                print::field(place);
+                print::field(rt, place);
             }
         }
-        SuffixRead::Bad => print::bytes(b"bad"),
+        SuffixRead::Bad => print::bytes(rt, b"bad"),
     }
 }
 
-fn place(h: Header) {
+fn place(rt: &impl Print, h: Header) {
     match numerals::suffix_place(h.first as usize, h.second as usize) {
         Number::Value(place) => {
-            print::bytes(b"place");
-            print::field(place);
+            print::bytes(rt, b"place");
+            print::field(rt, place);
         }
-        Number::Bad => print::bytes(b"bad"),
+        Number::Bad => print::bytes(rt, b"bad"),
     }
 }
 
-fn next_line_feed(payload: &[u8], from: usize) {
+fn next_line_feed(rt: &impl Print, payload: &[u8], from: usize) {
     let at = numerals::find(payload, from, payload.len(), 10);
     if at < payload.len() {
-        print::bytes(b"at");
-        print::field(at as u64);
+        print::bytes(rt, b"at");
+        print::field(rt, at as u64);
     } else {
-        print::bytes(b"none");
+        print::bytes(rt, b"none");
     }
 }
 
 // Prints where a field starts and ends, and says where the next one starts.
-fn show_field(line: &[u8], from: usize) -> usize {
-    print::field(from as u64);
-    print::bytes(b"-");
-    print::number(numerals::find(line, from, line.len(), 32) as u64);
+fn show_field(rt: &impl Print, line: &[u8], from: usize) -> usize {
+    print::field(rt, from as u64);
+    print::bytes(rt, b"-");
+    print::number(rt, numerals::find(line, from, line.len(), 32) as u64);
     walk::after(line, from, 32)
 }
 
-fn show_fields(line: &[u8], count: usize) {
+fn show_fields(rt: &impl Print, line: &[u8], count: usize) {
     let mut from = 0;
     for _ in 0..count {
-        from = show_field(line, from);
+        from = show_field(rt, line, from);
     }
 }
 
-fn fields(line: &[u8]) {
+fn fields(rt: &impl Print, line: &[u8]) {
     let count = numerals::count_fields(line, 0, line.len(), 32);
-    print::bytes(b"fields");
-    print::field(count as u64);
-    show_fields(line, count);
+    print::bytes(rt, b"fields");
+    print::field(rt, count as u64);
+    show_fields(rt, line, count);
 }
 
-pub fn answer(h: Header, text: &[u8]) {
+pub fn answer(rt: &impl Print, h: Header, text: &[u8]) {
     let kind = h.kind;
     match kind {
-        b'N' => value(numerals::read_number(text, 0, text.len(), h.first, h.second)),
-        b'P' => value(numerals::read_percentage(text, 0, text.len())),
-        b'W' => write_number(h),
-        b'S' => read_suffix(text, h.first as usize),
-        b'T' => write_suffix(h),
-        b'X' => place(h),
-        b'L' => next_line_feed(text, h.first as usize),
-        b'F' => fields(text),
-        _ => print::bytes(b"unknown vector"),
+        b'N' => value(
+            rt,
+            numerals::read_number(text, 0, text.len(), h.first, h.second),
+        ),
+        b'P' => value(rt, numerals::read_percentage(text, 0, text.len())),
+        b'W' => write_number(rt, h),
+        b'S' => read_suffix(rt, text, h.first as usize),
+        b'T' => write_suffix(rt, h),
+        b'X' => place(rt, h),
+        b'L' => next_line_feed(rt, text, h.first as usize),
+        b'F' => fields(rt, text),
+        _ => print::bytes(rt, b"unknown vector"),
     }
 }

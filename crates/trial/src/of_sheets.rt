@@ -4,18 +4,18 @@ use sheets::{Answer, TableRead, TableRecord};
 use vectors::header::Header;
 use vectors::{print, walk};
 
-fn split_into(text: &[u8], out: &mut [u8]) {
+fn split_into(rt: &impl Print, text: &[u8], out: &mut [u8]) {
     match sheets::split_sheet(text, out) {
-        Answer::Value(n) => shown::sheet(walk::start(out, n)),
-        Answer::Refused(r) => shown::refused(r),
+        Answer::Value(n) => shown::sheet(rt, walk::start(out, n)),
+        Answer::Refused(r) => shown::refused(rt, r),
     }
 }
 
 // The rule sheet of a percentage sheet, into a buffer of so many bytes.
-fn split(text: &[u8], room: usize) {
+fn split(rt: &impl Print, text: &[u8], room: usize) {
     let mut array = [0u8; numerals::TEXT_LIMIT];
     if room <= numerals::TEXT_LIMIT {
-        split_into(text, &mut array[0..room]);
+        split_into(rt, text, &mut array[0..room]);
     }
 }
 
@@ -43,53 +43,58 @@ fn same(a: &[u8], b: &[u8]) -> bool {
     true
 }
 
-fn written(back: bool) {
+fn written(rt: &impl Print, back: bool) {
     if back {
-        print::bytes(b"ok");
+        print::bytes(rt, b"ok");
     } else {
-        print::bytes(b"not written back");
+        print::bytes(rt, b"not written back");
     }
 }
 
 // Whether the table that was read from a text is written to the same bytes again.
-fn write_back(text: &[u8], read: TableRecord, table: &[usize; crate::shown::CELLS]) {
+fn write_back(
+    rt: &impl Print,
+    text: &[u8],
+    read: TableRecord,
+    table: &[usize; crate::shown::CELLS],
+) {
     let mut array = [0u8; numerals::TEXT_LIMIT];
     let space: &mut [u8] = &mut array;
     let n = read.rules;
     if numerals::MOST_CAPACITY < n {
-        written(false);
+        written(rt, false);
         return;
     }
     let cells = walk::first_places(table, 4 * n);
     match sheets::write_table(read.k, read.total, cells, space) {
-        Answer::Value(end) => written(same(walk::start(space, end), text)),
-        Answer::Refused(_) => written(false),
+        Answer::Value(end) => written(rt, same(walk::start(space, end), text)),
+        Answer::Refused(_) => written(rt, false),
     }
 }
 
-fn read(text: &[u8]) {
+fn read(rt: &impl Print, text: &[u8]) {
     let mut table = [0usize; crate::shown::CELLS];
     match sheets::read_table(text, &mut table) {
-        TableRead::Made(made) => write_back(text, made, &table),
-        TableRead::Refused(r) => shown::refused(r),
+        TableRead::Made(made) => write_back(rt, text, made, &table),
+        TableRead::Refused(r) => shown::refused(rt, r),
     }
 }
 
-fn lookup(h: Header, text: &[u8]) {
+fn lookup(rt: &impl Print, h: Header, text: &[u8]) {
     let address = h.second;
     if (u32::MAX as u64) < address {
         return;
     }
     match sheets::lookup(text, h.first as usize, address as u32) {
         Answer::Value(b) => {
-            print::bytes(b"backend");
-            print::field(b as u64);
+            print::bytes(rt, b"backend");
+            print::field(rt, b as u64);
         }
-        Answer::Refused(r) => shown::refused(r),
+        Answer::Refused(r) => shown::refused(rt, r),
     }
 }
 
-fn churn(h: Header, text: &[u8]) {
+fn churn(rt: &impl Print, h: Header, text: &[u8]) {
     let cut = h.second as usize;
     match sheets::churn(
         walk::start(text, cut),
@@ -97,27 +102,27 @@ fn churn(h: Header, text: &[u8]) {
         h.first as usize,
     ) {
         Answer::Value(n) => {
-            print::bytes(b"churn");
-            print::field(n as u64);
+            print::bytes(rt, b"churn");
+            print::field(rt, n as u64);
         }
         Answer::Refused(r) => {
-            shown::refused(r);
-            print::field(r.of as u64);
+            shown::refused(rt, r);
+            print::field(rt, r.of as u64);
         }
     }
 }
 
-pub fn answer(h: Header, text: &[u8]) {
+pub fn answer(rt: &impl Print, h: Header, text: &[u8]) {
     let kind = h.kind;
     match kind {
-        b'R' => split(text, numerals::TEXT_LIMIT),
-        b'B' => split(text, h.first as usize),
-        b'U' => read(text),
-        b'L' => lookup(h, text),
-        b'H' => churn(h, text),
-        b'P' => plans::plan(h, text),
-        b'W' => writes::write(h, text),
-        b'C' => counts::count(h, text),
-        _ => print::bytes(b"unknown vector"),
+        b'R' => split(rt, text, numerals::TEXT_LIMIT),
+        b'B' => split(rt, text, h.first as usize),
+        b'U' => read(rt, text),
+        b'L' => lookup(rt, h, text),
+        b'H' => churn(rt, h, text),
+        b'P' => plans::plan(rt, h, text),
+        b'W' => writes::write(rt, h, text),
+        b'C' => counts::count(rt, h, text),
+        _ => print::bytes(rt, b"unknown vector"),
     }
 }

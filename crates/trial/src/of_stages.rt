@@ -9,15 +9,15 @@ const SHOWN: usize = 60;
 
 const SHOWN_TEXT: usize = 300;
 
-fn show_answer(answer: Answer) {
+fn show_answer(rt: &impl Print, answer: Answer) {
     match answer {
         Answer::Value(n) => {
-            print::bytes(b"made");
-            print::field(n as u64);
+            print::bytes(rt, b"made");
+            print::field(rt, n as u64);
         }
         Answer::Refused(r) => {
-            shown::refused(r);
-            print::field(r.of as u64);
+            shown::refused(rt, r);
+            print::field(rt, r.of as u64);
         }
     }
 }
@@ -79,40 +79,43 @@ fn text_sum(text: &[u8]) -> u64 {
     sums.total
 }
 
-fn show_row(row: &[usize; 4100], room: usize) {
+fn show_row(rt: &impl Print, row: &[usize; 4100], room: usize) {
     let lent = walk::first_places(row, std::num::wrapping_add_usize(room, 4));
     if room <= SHOWN {
-        print::bytes(b" row");
-        shown::places(lent);
+        print::bytes(rt, b" row");
+        shown::places(rt, lent);
     } else {
-        print::bytes(b" sum");
-        print::field(row_sum(lent));
+        print::bytes(rt, b" sum");
+        print::field(rt, row_sum(lent));
     }
 }
 
-fn show_text(out: &[u8; 65540], room: usize) {
+fn show_text(rt: &impl Print, out: &[u8; 65540], room: usize) {
     let lent = walk::start(out, std::num::wrapping_add_usize(room, 4));
     if room <= SHOWN_TEXT {
-        print::bytes(b" ");
-        shown::sheet(lent);
+        print::bytes(rt, b" ");
+        shown::sheet(rt, lent);
     } else {
-        print::bytes(b" sum");
-        print::field(text_sum(lent));
+        print::bytes(rt, b" sum");
+        print::field(rt, text_sum(lent));
     }
 }
 
 // The limit and the capacity stand on the payload's first line, the number of the stage behind them; then come the sheets.
-fn places_of(h: Header, numbers: &[u8], text: &[u8], places: &mut [usize]) {
+fn places_of(rt: &impl Print, h: Header, numbers: &[u8], text: &[u8], places: &mut [usize]) {
     let cut = h.second as usize;
     let second = walk::after(numbers, 0, 32);
     let limit = walk::number(numbers, 0) as usize;
     let capacity = walk::number(numbers, second) as usize;
     let old = walk::start(text, cut);
     let new = walk::rest(text, cut);
-    show_answer(stages::stage_places(old, new, h.first as usize, limit, capacity, places));
+    show_answer(
+        rt,
+        stages::stage_places(old, new, h.first as usize, limit, capacity, places),
+    );
 }
 
-fn lines_of(h: Header, numbers: &[u8], text: &[u8], out: &mut [u8]) {
+fn lines_of(rt: &impl Print, h: Header, numbers: &[u8], text: &[u8], out: &mut [u8]) {
     let cut = h.second as usize;
     let second = walk::after(numbers, 0, 32);
     let third = walk::after(numbers, second, 32);
@@ -121,39 +124,42 @@ fn lines_of(h: Header, numbers: &[u8], text: &[u8], out: &mut [u8]) {
     let number = walk::number(numbers, third) as usize;
     let old = walk::start(text, cut);
     let new = walk::rest(text, cut);
-    show_answer(stages::stage_lines(old, new, h.first as usize, limit, capacity, number, out));
+    show_answer(
+        rt,
+        stages::stage_lines(old, new, h.first as usize, limit, capacity, number, out),
+    );
 }
 
 // Lends a buffer of so many places, filled with a number that no place of a vector is. Four places behind it are not
 // lent, and shown too.
-fn lend_row(h: Header, numbers: &[u8], text: &[u8]) {
+fn lend_row(rt: &impl Print, h: Header, numbers: &[u8], text: &[u8]) {
     let mut places = [77777usize; 4100];
     let room = h.third as usize;
     if numerals::MOST_SUFFIXES < room {
         return;
     }
-    places_of(h, numbers, text, &mut places[0..room]);
-    show_row(&places, room);
+    places_of(rt, h, numbers, text, &mut places[0..room]);
+    show_row(rt, &places, room);
 }
 
 // The same for bytes, filled with dots.
-fn lend_text(h: Header, numbers: &[u8], text: &[u8]) {
+fn lend_text(rt: &impl Print, h: Header, numbers: &[u8], text: &[u8]) {
     let mut out = [46u8; 65540];
     let room = h.third as usize;
     if numerals::TEXT_LIMIT < room {
         return;
     }
-    lines_of(h, numbers, text, &mut out[0..room]);
-    show_text(&out, room);
+    lines_of(rt, h, numbers, text, &mut out[0..room]);
+    show_text(rt, &out, room);
 }
 
-pub fn answer(h: Header, text: &[u8]) {
+pub fn answer(rt: &impl Print, h: Header, text: &[u8]) {
     let numbers = walk::part(text, 0, 10);
     let sheets = walk::rest(text, walk::after(text, 0, 10));
     let kind = h.kind;
     match kind {
-        b'P' => lend_row(h, numbers, sheets),
-        b'L' => lend_text(h, numbers, sheets),
-        _ => print::bytes(b"unknown vector"),
+        b'P' => lend_row(rt, h, numbers, sheets),
+        b'L' => lend_text(rt, h, numbers, sheets),
+        _ => print::bytes(rt, b"unknown vector"),
     }
 }

@@ -5,55 +5,69 @@ use vectors::header::Header;
 use vectors::{print, walk};
 
 // How many rules were kept, how many the new list has, and the churn.
-fn show_update(u: Update) {
-    print::field(u.kept as u64);
-    print::field(u.rules as u64);
-    print::field(u.churn as u64);
+fn show_update(rt: &impl Print, u: Update) {
+    print::field(rt, u.kept as u64);
+    print::field(rt, u.rules as u64);
+    print::field(rt, u.churn as u64);
 }
 
-fn show_buffer(rules: &[usize; 104], n: usize) {
-    print::bytes(b" rules");
-    shown::places(walk::first_places(rules, n));
+fn show_buffer(rt: &impl Print, rules: &[usize; 104], n: usize) {
+    print::bytes(rt, b" rules");
+    shown::places(rt, walk::first_places(rules, n));
 }
 
-fn update_list(h: Header, old: &[usize], ids: &[usize], weights: &[u64], rules: &mut [usize]) {
+fn update_list(
+    rt: &impl Print,
+    h: Header,
+    old: &[usize],
+    ids: &[usize],
+    weights: &[u64],
+    rules: &mut [usize],
+) {
     match update::update(h.first as usize, h.second, old, ids, weights, rules) {
         Updated::Made(u) => {
-            print::bytes(b"made");
-            show_update(u);
+            print::bytes(rt, b"made");
+            show_update(rt, u);
         }
-        Updated::Refused(why) => print::refused(why),
+        Updated::Refused(why) => print::refused(rt, why),
     }
 }
 
 // Lends a buffer of so many places, filled with a number that nothing in the list of a vector is. Four places behind it
 // are not lent, and shown too.
-fn lend_list(h: Header, old: &[usize], ids: &[usize; 8200], n: usize, weights: &[u64]) {
+fn lend_list(
+    rt: &impl Print,
+    h: Header,
+    old: &[usize],
+    ids: &[usize; 8200],
+    n: usize,
+    weights: &[u64],
+) {
     let mut rules = [77777usize; 104];
     let room = h.third as usize;
     if 100 < room {
         return;
     }
     let named = walk::first_places(ids, n);
-    update_list(h, old, named, weights, &mut rules[0..room]);
-    show_buffer(&rules, room + 4);
+    update_list(rt, h, old, named, weights, &mut rules[0..room]);
+    show_buffer(rt, &rules, room + 4);
 }
 
 // Three rows, a line each: the old list, three numbers for each rule, the ids and the weights.
-fn update_rows(h: Header, text: &[u8]) {
+fn update_rows(rt: &impl Print, h: Header, text: &[u8]) {
     let mut cells = [0usize; 8200];
     let first = walk::part(text, 0, 10);
     let n = walk::fields(first);
     writes::read_cells(first, n, &mut cells);
-    update_listed(h, &cells, n, walk::rest(text, walk::after(text, 0, 10)));
+    update_listed(rt, h, &cells, n, walk::rest(text, walk::after(text, 0, 10)));
 }
 
 // So many numbers of the old list, and the last two of the rows.
-fn update_listed(h: Header, old: &[usize; 8200], n: usize, text: &[u8]) {
-    update_backends(h, walk::first_places(old, n), text);
+fn update_listed(rt: &impl Print, h: Header, old: &[usize; 8200], n: usize, text: &[u8]) {
+    update_backends(rt, h, walk::first_places(old, n), text);
 }
 
-fn update_backends(h: Header, old: &[usize], text: &[u8]) {
+fn update_backends(rt: &impl Print, h: Header, old: &[usize], text: &[u8]) {
     let mut ids = [0usize; 8200];
     let mut weights = [0u64; 64];
     let first = walk::part(text, 0, 10);
@@ -61,42 +75,42 @@ fn update_backends(h: Header, old: &[usize], text: &[u8]) {
     let n = walk::fields(first);
     writes::read_cells(first, n, &mut ids);
     let m = walk::numbers(second, &mut weights);
-    lend_list(h, old, &ids, n, walk::first_numbers(&weights, m));
+    lend_list(rt, h, old, &ids, n, walk::first_numbers(&weights, m));
 }
 
-fn update_sheets(h: Header, text: &[u8], rules: &mut [usize]) {
+fn update_sheets(rt: &impl Print, h: Header, text: &[u8], rules: &mut [usize]) {
     let cut = h.second as usize;
     let old = walk::start(text, cut);
     let sheet = walk::rest(text, cut);
     match update::update_sheets(old, sheet, h.first as usize, rules) {
         SheetUpdated::Made(u) => {
-            print::bytes(b"made");
-            print::field(u.k as u64);
-            show_update(u);
+            print::bytes(rt, b"made");
+            print::field(rt, u.k as u64);
+            show_update(rt, u);
         }
         SheetUpdated::Refused(r) => {
-            shown::refused(r);
-            print::field(r.of as u64);
+            shown::refused(rt, r);
+            print::field(rt, r.of as u64);
         }
     }
 }
 
 // Lends a buffer in the same way.
-fn update_texts(h: Header, text: &[u8]) {
+fn update_texts(rt: &impl Print, h: Header, text: &[u8]) {
     let mut rules = [77777usize; 104];
     let room = h.third as usize;
     if 100 < room {
         return;
     }
-    update_sheets(h, text, &mut rules[0..room]);
-    show_buffer(&rules, room + 4);
+    update_sheets(rt, h, text, &mut rules[0..room]);
+    show_buffer(rt, &rules, room + 4);
 }
 
-pub fn answer(h: Header, text: &[u8]) {
+pub fn answer(rt: &impl Print, h: Header, text: &[u8]) {
     let kind = h.kind;
     match kind {
-        b'L' => update_rows(h, text),
-        b'T' => update_texts(h, text),
-        _ => print::bytes(b"unknown vector"),
+        b'L' => update_rows(rt, h, text),
+        b'T' => update_texts(rt, h, text),
+        _ => print::bytes(rt, b"unknown vector"),
     }
 }

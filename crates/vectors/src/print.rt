@@ -1,48 +1,47 @@
-// Parts of an answer, on standard output.
+// Parts of an answer, on standard output. A piece that can't be written is left out, and the answers are then not those awaited.
 use crate::walk;
-use libc::STDOUT_FILENO;
 use numerals::{Refusal, Written};
 
-pub fn bytes(s: &[u8]) {
-    io::write_all(STDOUT_FILENO, s);
+pub fn bytes(rt: &impl Print, s: &[u8]) {
+    let _ = rt.write_all(s);
 }
 
-pub fn number(n: u64) {
-    io::print_decimal(STDOUT_FILENO, n);
+pub fn number(rt: &impl Print, n: u64) {
+    let _ = rt.print(n);
 }
 
 // A number behind a space.
-pub fn field(n: u64) {
-    bytes(b" ");
-    number(n);
+pub fn field(rt: &impl Print, n: u64) {
+    bytes(rt, b" ");
+    number(rt, n);
 }
 
-fn element(row: &[u64], i: usize) {
+fn element(rt: &impl Print, row: &[u64], i: usize) {
     if i < row.len() {
-        field(row[i]);
+        field(rt, row[i]);
     }
 }
 
 // Each number of a row, behind a space.
-pub fn fields(row: &[u64]) {
+pub fn fields(rt: &impl Print, row: &[u64]) {
     let n = row.len();
     for i in 0..n {
-        element(row, i);
+        element(rt, row, i);
     }
 }
 
 // The text of a suffix.
-pub fn suffix(len: usize, value: usize) {
+pub fn suffix(rt: &impl Print, len: usize, value: usize) {
     let mut array = [0u8; 13];
     let text: &mut [u8] = &mut array;
     match numerals::write_suffix(text, 0, len, value) {
-        Written::End(end) => bytes(walk::start(text, end)),
-        Written::Refused(why) => refused(why),
+        Written::End(end) => bytes(rt, walk::start(text, end)),
+        Written::Refused(why) => refused(rt, why),
     }
 }
 
 // The answer to numbers that are refused.
-pub fn refused(why: Refusal) {
-    bytes(b"refused");
-    field(numerals::refusal_number(why));
+pub fn refused(rt: &impl Print, why: Refusal) {
+    bytes(rt, b"refused");
+    field(rt, numerals::refusal_number(why));
 }

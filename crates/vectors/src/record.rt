@@ -2,8 +2,8 @@
 // header line of fields, and a payload.
 ghost use Rattle.std.specs.Prelude.{◌≤◌, length};
 
-use libc::STDIN_FILENO;
 use numerals::Number;
+use std::io::Read;
 
 // The number that eight digits are. They are read behind a 1, since no number has leading zeros.
 fn body_length(head: &[u8; 8]) -> Number {
@@ -17,23 +17,22 @@ fn body_length(head: &[u8; 8]) -> Number {
 }
 
 // Fills a buffer, and says how many bytes it has, or 0 where the input ends before.
-fn fill(body: &mut [u8]) -> usize
+fn fill(input: &mut impl Read, body: &mut [u8]) -> usize
     ensures { result ≤ length body.old }
 {
-    if io::read_full(STDIN_FILENO, body) < body.len() {
-        0
-    } else {
-        body.len()
+    match input.read_exact(body) {
+        Ok(()) => body.len(),
+        Err(_) => 0,
     }
 }
 
 // Reads the body of the next record to the start of a buffer and says how many bytes it has; 0 where no whole record
 // that fits is left.
-pub fn next(space: &mut [u8]) -> usize
+pub fn next(input: &mut impl Read, space: &mut [u8]) -> usize
     ensures { result ≤ length space.old }
 {
     let mut head = [0u8; 8];
-    if io::read_full(STDIN_FILENO, &mut head) < 8 {
+    if input.read_exact(&mut head).is_err() {
         return 0;
     }
     let Number::Value(length) = body_length(&head) else {
@@ -43,5 +42,5 @@ pub fn next(space: &mut [u8]) -> usize
     if space.len() < len {
         return 0;
     }
-    fill(&mut space[0..len])
+    fill(input, &mut space[0..len])
 }
