@@ -1,7 +1,7 @@
 /* Gulmorzon for C: split a percentage sheet, look an address up, count the churn between two rule sheets, read the gauges
  * of a backend, put new weights on a service's rules, cut a change into stages.
  *
- * Link target/staticlib/libgulmorzon.a, which `rt staticlib gulmorzon` proves and builds for x86-64 Linux. It needs memcpy
+ * Link target/staticlib/libgulmorzon.a, which `tools/build gulmorzon` proves and builds for x86-64 Linux. It needs memcpy
  * and memset and nothing else. What each call answers and writes is proved for every input; the contracts stand in
  * crates/gulmorzon/src/lib.rt. Nothing compares this header with them but examples/caller.
  *

@@ -55,7 +55,7 @@ unfoldable pub sum : List ℕ → ℕ
 sum [] = 0
 sum (w ∷ ws) = w + sum ws
 
--- the line of service i from 0, by its fields: SERVICE volume id1:p1 .. id_m:p_m; ids are from 1 on, so that the first is above 0
+-- the line of service i from 0, by its fields: SERVICE volume id1:p1 .. idM:pM; ids are from 1 on, so that the first is above 0
 unfoldable pub service_fields : ℕ → ℕ → ℕ → List (List ℕ) → Reading Service
 service_fields d all i fs =
     unless (same (field fs 0) service_word) no1 (i + 2)

@@ -163,7 +163,7 @@ fn read_volume(text: &[u8], from: usize, to: usize, i: usize) -> VolumeRead
     VolumeRead::Volume(volume)
 }
 
-// The line of service i: SERVICE volume id1:p1 .. id_m:p_m.
+// The line of service i: SERVICE volume id1:p1 .. idM:pM.
 fn read_service(
     text: &[u8],
     from: usize,

@@ -1,10 +1,11 @@
-// The arguments of a call. They are read as bytes: a word need not be UTF-8.
+// The arguments of a call. They are read as bytes: a word need not be UTF-8, unless it names a file.
 ghost use Rattle.std.specs.Prelude.{◌≤◌, length};
 
 use crate::output;
 use crate::part::start;
 use commands::Command;
 use std::env::FillError;
+use std::process::ExitCode;
 use std::rt::Env;
 
 // The longest argument that Linux hands to a program, without its closing 0.
@@ -71,9 +72,9 @@ pub fn is_input(rt: &impl Env, i: usize) -> bool {
 }
 
 // Says that an argument, counted from 1 behind the command, is no number.
-pub fn no_number(rt: &HostRuntime, place: usize, command: Command) {
+pub fn no_number(rt: &HostRuntime, place: usize, command: Command) -> ExitCode {
     let mut word = [0u8; ROOM];
     let n = read(rt, place.wrapping_add(1), &mut word);
     output::tell(rt, start(&word, n));
-    output::complain(rt, b": not a number\n", command);
+    output::complain(rt, b": not a number\n", command)
 }

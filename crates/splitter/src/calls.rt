@@ -3,26 +3,29 @@ use crate::input::{Read, TEXT};
 use crate::part::start;
 use crate::{arguments, input, output};
 use commands::{Command, Outcome};
+use std::process::ExitCode;
 
-fn split_text(rt: &HostRuntime, text: &[u8]) {
+fn split_text(rt: &HostRuntime, text: &[u8]) -> ExitCode {
     let mut out = [0u8; commands::ROOM];
     let n = commands::split(text, &mut out);
-    output::print(rt, output::text(&out, n));
+    output::print(rt, output::text(&out, n))
 }
 
 // splitter: a sheet on standard input
-pub fn split_input(rt: &HostRuntime) {
+pub fn split_input(rt: &HostRuntime) -> ExitCode {
     let mut text = [0u8; TEXT];
     let read = input::read_input(rt, &mut text);
     if let Read::Bytes(n) = read {
-        split_text(rt, start(&text, n));
+        split_text(rt, start(&text, n))
+    } else {
+        ExitCode::SUCCESS
     }
 }
 
 // splitter split SHEET
-pub fn split(rt: &HostRuntime) {
+pub fn split(rt: &HostRuntime) -> ExitCode {
     if !arguments::are(rt, 1, Command::Split) {
-        return;
+        return ExitCode::SUCCESS;
     }
     let mut text = [0u8; TEXT];
     let read = input::read_file(rt, 2, &mut text);
@@ -37,7 +40,7 @@ fn print_outcome(
     outcome: Outcome,
     out: &[u8; commands::LINES_ROOM],
     command: Command,
-) {
+) -> ExitCode {
     match outcome {
         Outcome::Answer(n) => output::print(rt, start(out, n)),
         Outcome::NoNumber(place) => arguments::no_number(rt, place, command),
@@ -45,20 +48,20 @@ fn print_outcome(
 }
 
 // The service and the address are the third and the fourth argument.
-fn look(rt: &HostRuntime, table: &[u8]) {
+fn look(rt: &HostRuntime, table: &[u8]) -> ExitCode {
     let mut service = [0u8; arguments::ROOM];
     let s = arguments::read(rt, 3, &mut service);
     let mut address = [0u8; arguments::ROOM];
     let a = arguments::read(rt, 4, &mut address);
     let mut out = [0u8; commands::LINES_ROOM];
     let outcome = commands::lookup(table, start(&service, s), start(&address, a), &mut out);
-    print_outcome(rt, outcome, &out, Command::Lookup);
+    print_outcome(rt, outcome, &out, Command::Lookup)
 }
 
 // splitter lookup TABLE SERVICE ADDRESS
-pub fn lookup(rt: &HostRuntime) {
+pub fn lookup(rt: &HostRuntime) -> ExitCode {
     if !arguments::are(rt, 3, Command::Lookup) {
-        return;
+        return ExitCode::SUCCESS;
     }
     let mut table = [0u8; TEXT];
     let read = input::read_file(rt, 2, &mut table);
@@ -69,35 +72,46 @@ pub fn lookup(rt: &HostRuntime) {
 }
 
 // The answer about two texts and a service.
-fn answer_two(rt: &HostRuntime, old: &[u8], new: &[u8], service: &[u8], command: Command) {
+fn answer_two(
+    rt: &HostRuntime,
+    old: &[u8],
+    new: &[u8],
+    service: &[u8],
+    command: Command,
+) -> ExitCode {
     let mut out = [0u8; commands::LINES_ROOM];
     let outcome = if let Command::Update = command {
         commands::update(old, new, service, &mut out)
     } else {
         commands::churn(old, new, service, &mut out)
     };
-    print_outcome(rt, outcome, &out, command);
+    print_outcome(rt, outcome, &out, command)
 }
 
 // The same where the service, the fourth argument, may have any length.
-fn answer_long(rt: &HostRuntime, old: &[u8], new: &[u8], command: Command) {
+fn answer_long(rt: &HostRuntime, old: &[u8], new: &[u8], command: Command) -> ExitCode {
     let mut service = [0u8; arguments::ROOM];
     let n = arguments::read(rt, 4, &mut service);
-    answer_two(rt, old, new, start(&service, n), command);
+    answer_two(rt, old, new, start(&service, n), command)
 }
 
 // The service is the fourth argument, and mostly short.
-fn read_service(rt: &HostRuntime, old: &[u8], new: &[u8], command: Command) {
+fn read_service(rt: &HostRuntime, old: &[u8], new: &[u8], command: Command) -> ExitCode {
     let mut service = [0u8; arguments::SHORT];
     let n = arguments::read(rt, 4, &mut service);
     if n == 0 {
-        answer_long(rt, old, new, command);
+        answer_long(rt, old, new, command)
     } else {
-        answer_two(rt, old, new, start(&service, n), command);
+        answer_two(rt, old, new, start(&service, n), command)
     }
 }
 
-fn print_staged(rt: &HostRuntime, outcome: Outcome, out: &[u8; commands::ROOM], command: Command) {
+fn print_staged(
+    rt: &HostRuntime,
+    outcome: Outcome,
+    out: &[u8; commands::ROOM],
+    command: Command,
+) -> ExitCode {
     match outcome {
         Outcome::Answer(n) => output::print(rt, output::text(out, n)),
         Outcome::NoNumber(place) => arguments::no_number(rt, place, command),
@@ -114,18 +128,18 @@ fn answer_staged(
     capacity: &[u8],
     number: &[u8],
     command: Command,
-) {
+) -> ExitCode {
     let mut out = [0u8; commands::ROOM];
     let outcome = if let Command::Stage = command {
         commands::stage(old, new, service, limit, capacity, number, &mut out)
     } else {
         commands::stages(old, new, service, limit, capacity, &mut out)
     };
-    print_staged(rt, outcome, &out, command);
+    print_staged(rt, outcome, &out, command)
 }
 
 // The same where the words may have any length.
-fn staged_long(rt: &HostRuntime, old: &[u8], new: &[u8], command: Command) {
+fn staged_long(rt: &HostRuntime, old: &[u8], new: &[u8], command: Command) -> ExitCode {
     let mut service = [0u8; arguments::ROOM];
     let s = arguments::read(rt, 4, &mut service);
     let mut limit = [0u8; arguments::ROOM];
@@ -143,11 +157,11 @@ fn staged_long(rt: &HostRuntime, old: &[u8], new: &[u8], command: Command) {
         start(&capacity, c),
         start(&number, i),
         command,
-    );
+    )
 }
 
 // The words are the fourth argument and those behind it, and mostly short. `stages` has no number.
-fn read_words(rt: &HostRuntime, old: &[u8], new: &[u8], command: Command) {
+fn read_words(rt: &HostRuntime, old: &[u8], new: &[u8], command: Command) -> ExitCode {
     let mut service = [0u8; arguments::SHORT];
     let s = arguments::read(rt, 4, &mut service);
     let mut limit = [0u8; arguments::SHORT];
@@ -171,14 +185,14 @@ fn read_words(rt: &HostRuntime, old: &[u8], new: &[u8], command: Command) {
             start(&capacity, c),
             start(&number, i),
             command,
-        );
+        )
     } else {
-        staged_long(rt, old, new, command);
+        staged_long(rt, old, new, command)
     }
 }
 
 // What is asked of two texts that were read.
-fn ask_two(rt: &HostRuntime, old: &[u8], new: &[u8], command: Command) {
+fn ask_two(rt: &HostRuntime, old: &[u8], new: &[u8], command: Command) -> ExitCode {
     match command {
         Command::Stages => read_words(rt, old, new, command),
         Command::Stage => read_words(rt, old, new, command),
@@ -187,7 +201,7 @@ fn ask_two(rt: &HostRuntime, old: &[u8], new: &[u8], command: Command) {
 }
 
 // The second text is the third argument.
-fn read_second(rt: &HostRuntime, old: &[u8], command: Command) {
+fn read_second(rt: &HostRuntime, old: &[u8], command: Command) -> ExitCode {
     let mut new = [0u8; TEXT];
     let read = input::read_file(rt, 3, &mut new);
     match read {
@@ -197,13 +211,13 @@ fn read_second(rt: &HostRuntime, old: &[u8], command: Command) {
 }
 
 // A command of two texts and n arguments in all: standard input can only be one of the texts.
-fn read_two(rt: &HostRuntime, n: usize, command: Command) {
+fn read_two(rt: &HostRuntime, n: usize, command: Command) -> ExitCode {
     if !arguments::are(rt, n, command) {
-        return;
+        return ExitCode::SUCCESS;
     }
     if arguments::is_input(rt, 2) && arguments::is_input(rt, 3) {
         output::complain(rt, b"splitter: standard input is read only once\n", command);
-        return;
+        return ExitCode::SUCCESS;
     }
     let mut old = [0u8; TEXT];
     let read = input::read_file(rt, 2, &mut old);
@@ -214,27 +228,27 @@ fn read_two(rt: &HostRuntime, n: usize, command: Command) {
 }
 
 // splitter churn OLD NEW SERVICE
-pub fn churn(rt: &HostRuntime) {
-    read_two(rt, 3, Command::Churn);
+pub fn churn(rt: &HostRuntime) -> ExitCode {
+    read_two(rt, 3, Command::Churn)
 }
 
 // splitter update OLD SHEET SERVICE
-pub fn update(rt: &HostRuntime) {
-    read_two(rt, 3, Command::Update);
+pub fn update(rt: &HostRuntime) -> ExitCode {
+    read_two(rt, 3, Command::Update)
 }
 
 // splitter stages OLD NEW SERVICE LIMIT CAPACITY
-pub fn stages(rt: &HostRuntime) {
-    read_two(rt, 5, Command::Stages);
+pub fn stages(rt: &HostRuntime) -> ExitCode {
+    read_two(rt, 5, Command::Stages)
 }
 
 // splitter stage OLD NEW SERVICE LIMIT CAPACITY NUMBER
-pub fn stage(rt: &HostRuntime) {
-    read_two(rt, 6, Command::Stage);
+pub fn stage(rt: &HostRuntime) -> ExitCode {
+    read_two(rt, 6, Command::Stage)
 }
 
 // The service, the volume and the backend are the third to the fifth argument.
-fn measure(rt: &HostRuntime, table: &[u8]) {
+fn measure(rt: &HostRuntime, table: &[u8]) -> ExitCode {
     let mut service = [0u8; arguments::ROOM];
     let s = arguments::read(rt, 3, &mut service);
     let mut volume = [0u8; arguments::ROOM];
@@ -249,13 +263,13 @@ fn measure(rt: &HostRuntime, table: &[u8]) {
         start(&backend, b),
         &mut out,
     );
-    print_outcome(rt, outcome, &out, Command::Gauge);
+    print_outcome(rt, outcome, &out, Command::Gauge)
 }
 
 // splitter gauge TABLE SERVICE VOLUME BACKEND
-pub fn gauge(rt: &HostRuntime) {
+pub fn gauge(rt: &HostRuntime) -> ExitCode {
     if !arguments::are(rt, 4, Command::Gauge) {
-        return;
+        return ExitCode::SUCCESS;
     }
     let mut table = [0u8; TEXT];
     let read = input::read_file(rt, 2, &mut table);
@@ -266,11 +280,11 @@ pub fn gauge(rt: &HostRuntime) {
 }
 
 // splitter help
-pub fn help(rt: &HostRuntime) {
+pub fn help(rt: &HostRuntime) -> ExitCode {
     if !arguments::are(rt, 0, Command::Help) {
-        return;
+        return ExitCode::SUCCESS;
     }
     let mut out = [0u8; commands::ROOM];
     let n = commands::help(&mut out);
-    output::print(rt, output::text(&out, n));
+    output::print(rt, output::text(&out, n))
 }

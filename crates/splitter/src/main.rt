@@ -8,11 +8,11 @@ mod output;
 mod part;
 
 use commands::Command;
+use std::process::ExitCode;
 
-fn main(rt: HostRuntime) {
+fn main(rt: HostRuntime) -> ExitCode {
     if arguments::count(&rt) < 2 {
-        calls::split_input(&rt);
-        return;
+        return calls::split_input(&rt);
     }
     let command = arguments::command(&rt);
     match command {

@@ -2,18 +2,27 @@
 use crate::part::start;
 use commands::Command;
 use std::io;
-use std::io::{Cursor, Write};
+use std::io::{Cursor, ErrorKind, Write};
+use std::process::ExitCode;
 
 // The first n bytes of a text's buffer. An array, not a slice, whose length each caller would have to prove.
 pub fn text(out: &[u8; commands::ROOM], n: usize) -> &[u8] {
     start(out, n)
 }
 
-// Prints an answer. The program ends with status 0 all the same, so an answer that can't be written is told on standard error.
-pub fn print(rt: &HostRuntime, answer: &[u8]) {
-    if rt.write_all(answer).is_err() {
+// The status that a shell shows of a program that a pipe without a reader ended.
+const NO_READER: u8 = 141;
+
+// Prints an answer, and says with which status the program ends: 0, so an answer that can't be written is told on standard error. Where nobody reads
+// any more, it is not told: today's programs see that as a failed write, where a signal once ended them.
+pub fn print(rt: &HostRuntime, answer: &[u8]) -> ExitCode {
+    if let Err(e) = rt.write_all(answer) {
+        if e.kind() == ErrorKind::BrokenPipe {
+            return ExitCode::from(NO_READER);
+        }
         tell(rt, b"splitter: the answer can't be written\n");
     }
+    ExitCode::SUCCESS
 }
 
 // Bytes on standard error. Where that can't be written to either, nothing is left to be told.
@@ -21,16 +30,18 @@ pub fn tell(rt: &HostRuntime, message: &[u8]) {
     let _ = rt.stderr().write_all(message);
 }
 
-pub fn usage(rt: &HostRuntime, command: Command) {
+// The command's usage on standard error. The program then ends with status 0.
+pub fn usage(rt: &HostRuntime, command: Command) -> ExitCode {
     let mut out = [0u8; commands::ROOM];
     let n = commands::usage(command, &mut out);
     tell(rt, text(&out, n));
+    ExitCode::SUCCESS
 }
 
 // A message on standard error, with the command's usage.
-pub fn complain(rt: &HostRuntime, message: &[u8], command: Command) {
+pub fn complain(rt: &HostRuntime, message: &[u8], command: Command) -> ExitCode {
     tell(rt, message);
-    usage(rt, command);
+    usage(rt, command)
 }
 
 // What stands before the number of a system's error, and before the zeros behind a text.
