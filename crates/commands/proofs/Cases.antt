@@ -105,7 +105,8 @@ pub record Churns : Type 0 where
   pub not_a_number : churns cut cut "-1" ≡ no_number 3
 
 pub all-churns : Churns
-unfolding churn_says on_number numeral churned_text number_text refused_of_text refusal number_of decimal width width_in lowest churn_answer churn_of moved differing
+unfolding churn_says on_number numeral churned_text number_text refused_of_text refusal number_of decimal width width_in lowest churn_answer churn_of moved
+    differing
     sum_to count_to has_service first_match own_rules matches bytes read_table text_limit table_line first_line opening_lines opening_fields
     whole_table closed rule_lines rule_fields placed in_order count_of on_suffix total_limit same on_field unless then number is_numeral
     no_leading_zero all_digits is_digit value value_from suffix split onto
@@ -135,7 +136,8 @@ pub record Gauges : Type 0 where
   pub not_a_number : gauges cut "1" "05" "x" ≡ no_number 3
 
 pub all-gauges : Gauges
-unfolding gauge_says on_number numeral gauges_text float_text dyadic_text decimals_of dotted gauges_answer gauges_in gauges_of held in_range in_limits share gives
+unfolding gauge_says on_number numeral gauges_text float_text dyadic_text decimals_of dotted gauges_answer gauges_in gauges_of held in_range in_limits share
+    gives
     dyadic bits biased_exponent fraction_field of_bits of_fields odd size span climb count_trailing_zeros refused_text refusal number_of decimal width width_in
     lowest sum_to count_to has_service first_match own_rules matches bytes read_table text_limit table_line first_line opening_lines opening_fields
     whole_table closed rule_lines rule_fields placed in_order count_of on_suffix total_limit same on_field unless then number is_numeral

@@ -67,7 +67,8 @@ unfolding update_text updated_text sheets_answer sheets_in
 update-capped old sheet n = capped_same (λ (m : ℕ). update_text old sheet m) most_services n (λ h. go h _ _ (read_table old) (read_sheet sheet) refl)
   where
     go : most_services < n → (a b : List Rule) (r : Reading Table) (s : Reading Sheet) → read_table old ≡ r
-        → updated_text (answered updates.Refused 1 r (λ t. answered updates.Refused 2 s (λ S. sheets_in t S (most_services + 1) list_room))) (most_services + 1) a
+        → updated_text (answered updates.Refused 1 r (λ t. answered updates.Refused 2 s (λ S. sheets_in t S (most_services + 1) list_room)))
+        (most_services + 1) a
         ≡ updated_text (answered updates.Refused 1 r (λ t. answered updates.Refused 2 s (λ S. sheets_in t S n list_room))) n b
     go h a b (refused why line) s e = refl
     go h a b (got t) (refused why line) e = refl

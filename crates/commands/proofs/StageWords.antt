@@ -112,7 +112,8 @@ module _ (old new : List ℕ) where
       (λ t u e. (over-capacity _ limit (most_capacity + 1) 1 _ _ (omega arith), over-capacity _ limit capacity 1 _ _ h)))
 
   stages-capped : (n limit capacity : ℕ)
-      → stages_text old new (min n (most_services + 1)) (min limit (most_suffixes + 1)) (min capacity (most_capacity + 1)) ≡ stages_text old new n limit capacity
+      → stages_text old new (min n (most_services + 1)) (min limit (most_suffixes + 1)) (min capacity (most_capacity + 1)) ≡ stages_text old new n limit
+      capacity
   stages-capped n limit capacity =
       stages-service n (min limit (most_suffixes + 1)) (min capacity (most_capacity + 1))
       ∙ stages-limit n limit (min capacity (most_capacity + 1))

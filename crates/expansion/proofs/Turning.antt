@@ -300,7 +300,12 @@ module _ (k tolerance : ℕ) (labels ws : List ℕ) (valid : Valid k tolerance l
   -- the list of the first rule
   pub listed-first : (sum : ℕ) → sum ≡ imbalance (frame k unit tolerance labels ws).targets (after (frame k unit tolerance labels ws) 0)
       → Listed (frame k unit tolerance labels ws) 0
-      (record { rules = replicate most_rules (record { len = 0; value = 0; backend = get_or labels first nobody }); stairs = replicate most_rules sum; count = 1 })
+      (record {
+        rules = replicate most_rules (record { len = 0; value = 0; backend = get_or labels first nobody });
+        stairs = replicate most_rules sum;
+        count =
+            1;
+      })
   unfolding frame after first_rule newest_first
   listed-first sum s =
       record {

@@ -47,7 +47,8 @@ pub record Readings : Type 0 where
   pub cut : read "TABLE 1 1 0\n1 * 1" 2 10001 10000 which.Load ≡ Refused (refused_at no1 2)
 
 pub all-readings : Readings
-unfolding reading_answer reading_in reading_of gauges_of held in_range in_limits share gives dyadic bits biased_exponent fraction_field of_bits of_fields odd size
+unfolding reading_answer reading_in reading_of gauges_of held in_range in_limits share gives dyadic bits biased_exponent fraction_field of_bits of_fields odd
+    size
     span climb count_trailing_zeros sum_to count_to has_service first_match own_rules matches bytes read_table text_limit table_line first_line opening_lines
     opening_fields whole_table closed rule_lines rule_fields placed in_order count_of on_suffix total_limit same on_field unless then number is_numeral
     no_leading_zero all_digits is_digit value value_from suffix split onto

@@ -130,7 +130,8 @@ module _ (volumes sizes ids ws : List ℕ) (s at : ℕ)
   pub services-end :
       length volumes ≤ s → length sizes ≤ s
       → check_services volumes sizes ids ws
-      ≡ and_then (and_then (or_else (eqb (length ids - at) 0) Malformed) (or_else (eqb (length ws - at) 0) Malformed)) (or_else (ltb 0 (length volumes)) NoService)
+      ≡ and_then (and_then (or_else (eqb (length ids - at) 0) Malformed) (or_else (eqb (length ws - at) 0) Malformed))
+      (or_else (ltb 0 (length volumes)) NoService)
   services-end l m =
       services-left
       ∙ rw (

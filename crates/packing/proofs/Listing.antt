@@ -259,7 +259,8 @@ module _ (k tolerance : ℕ) (sizes ids ws : List ℕ) (s : ℕ) (lens values ba
       go :
           (t : ℕ) → t < s + 1 → Dec (t ≡ s)
           → Entry k tolerance (part sizes ids t) (part sizes ws t) t (sets lens (place_of s 1) (lens_made k tolerance most_rules ids' ws'))
-          (sets values (place_of s 1) (values_made k tolerance most_rules ids' ws')) (sets backends (place_of s 1) (backends_made k tolerance most_rules ids' ws'))
+          (sets values (place_of s 1) (values_made k tolerance most_rules ids' ws')) (sets backends (place_of s 1)
+          (backends_made k tolerance most_rules ids' ws'))
           (set (sets stairs (place_of s 1) (stairs_made k tolerance most_rules ids' ws')) (stride * s) 0)
           (set counts s (record_made k tolerance most_rules ids' ws').rules)
           (set ends s (end_number (record_made k tolerance most_rules ids' ws').ended))

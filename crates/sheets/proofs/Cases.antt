@@ -15,4 +15,40 @@ pub right : AllRight cases
 unfolding bytes cases read_sheet read_sheet_at text_limit sheet_line first_line opening_lines opening_fields whole volumes_of ids_of weights_of
     service_lines service_fields sum weight_fields same on_field unless then unit percentage percent_of split onto number is_numeral no_leading_zero
     all_digits is_digit value value_from on_value fraction at_most_all
-right = (refl, (refl, (refl, (refl, (refl, (refl, (refl, (refl, (refl, (refl, (refl, (refl, (refl, (refl, (refl, (refl, (refl, (refl, (refl, (refl, (refl, (refl, (refl, (refl, tt))))))))))))))))))))))))
+right = (
+  refl,
+  (
+    refl,
+    (
+      refl,
+      (
+        refl,
+        (
+          refl,
+          (
+            refl,
+            (
+              refl,
+              (
+                refl,
+                (
+                  refl,
+                  (
+                    refl,
+                    (
+                      refl,
+                      (
+                        refl,
+                        (refl, (refl, (refl, (refl, (refl, (refl, (refl, (refl, (refl, (refl, (refl, (refl, tt)))))))))))),
+                      ),
+                    ),
+                  ),
+                ),
+              ),
+            ),
+          ),
+        ),
+      ),
+    ),
+  ),
+)

@@ -75,7 +75,8 @@ none-checked k table =
       before = [];
       passed = refl;
       behind = (passed_none k (replicate (4 * most_capacity) 0) (length-replicate {A = ℕ} (4 * most_capacity) 0)).behind;
-      left = ap (λ (cs : List ℕ). checked_from k (length (broken_from table)) [] (lines_from cs)) (sym (take_all (length table) table (le_refl (length table))));
+      left = ap (λ (cs : List ℕ). checked_from k (length (broken_from table)) [] (lines_from cs))
+          (sym (take_all (length table) table (le_refl (length table))));
     }
 
 -- not more lines than n were

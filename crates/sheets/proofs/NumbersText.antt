@@ -106,7 +106,8 @@ module _ (table : List ℕ) (n : ℕ) (room : 4 * n ≤ length table) where
       ap length (rows_more table n room i (omega arith)) ∙ ap suc (rest-length m (i + 1) (omega arith))
 
   first_two :
-      (k : ℕ) (before : List Line) (i : ℕ) → i < n → InOrder k before (rest i) → Formed k (line_at table i) × InOrder k (line_at table i ∷ before) (rest (i + 1))
+      (k : ℕ) (before : List Line) (i : ℕ) → i < n → InOrder k before (rest i) → Formed k (line_at table i) × InOrder k (line_at table i ∷ before)
+      (rest (i + 1))
   unfolding InOrder
   first_two k before i h s =
       let all = rw (rows_more table n room i h) at s in (formed k (line_at table i) all.0.form, all.1)

@@ -151,7 +151,8 @@ stored-for text r p S buffer read is = rw (is, read)
 
 pub plan-left :
     (text : List ℕ) (r : Planned) (p : Plan) (buffer after : List ℕ) → length buffer ≡ most_cells
-    → r ≡ plan_answer text most_figures most_cells → r ≡ Made p → after ≡ afterwards (is_plan r) buffer (values_of (read_sheet text) cells_for) → Left text p after
+    → r ≡ plan_answer text most_figures most_cells → r ≡ Made p → after ≡ afterwards (is_plan r) buffer (values_of (read_sheet text) cells_for) → Left text p
+    after
 plan-left text r p buffer after long answer is filled =
     let M = plan-made text p (sym answer ∙ is) in
     left-for text p M.sheet buffer after M.read M.is long (filled ∙ stored-for text r p M.sheet buffer M.read is)

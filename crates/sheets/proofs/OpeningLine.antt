@@ -60,7 +60,8 @@ module _ (word : List ℕ) (second third : List ℕ → Number) where
           }
 
   -- a text by its first two lines and those behind them
-  pub lines_more : (l : List ℕ) (ls : List (List ℕ)) → 1 ≤ length ls → opening_lines word second third (l ∷ ls) ≡ opening_fields word second third (split 32 l) ls
+  pub lines_more : (l : List ℕ) (ls : List (List ℕ)) → 1 ≤ length ls → opening_lines word second third (l ∷ ls) ≡ opening_fields word second third
+      (split 32 l) ls
   unfolding opening_lines
   lines_more l [] h = absurd (omega arith)
   lines_more l (m ∷ ls) h = refl

@@ -213,7 +213,8 @@ module _
 
 -- before the first line
 pub passed_none :
-    (k : ℕ) (table : List ℕ) → length table ≡ 4 * most_capacity → Passed k [] (record { count = 0; service = 0; len = 0 }) (replicate (1 + most_services) 0) table
+    (k : ℕ) (table : List ℕ) → length table ≡ 4 * most_capacity → Passed k [] (record { count = 0; service = 0; len = 0 }) (replicate (1 + most_services) 0)
+    table
 unfolding last_of count_of own_rules check_lines cells
 passed_none k table e =
     record {

@@ -140,7 +140,8 @@ abbrev thirds_table : Table
 thirds_table = record { k = 1; total = 66666600; lines = line 1 1 0 2 ∷ line 1 0 0 1 ∷ [] }
 
 pub thirds-read : read_sheet (bytes "SHEET 1 0 2\nSERVICE 1 1:33.3334 2:33.3333 3:33.3333\n") ≡ got thirds
-unfolding bytes read_sheet read_sheet_at text_limit sheet_line first_line opening_lines opening_fields whole volumes_of ids_of rows_of service_lines service_fields sum
+unfolding bytes read_sheet read_sheet_at text_limit sheet_line first_line opening_lines opening_fields whole volumes_of ids_of rows_of service_lines
+    service_fields sum
     weight_fields same on_field unless then unit percentage percent_of split onto number is_numeral no_leading_zero all_digits is_digit value
     value_from on_value fraction at_most_all
 thirds-read = refl

@@ -21,10 +21,14 @@ use Rattle.stages.specs.Calls.{change_of, crowded, in_range, of_change, of_sheet
 use Rattle.stages.specs.Cases.{Shown}
 
 pub cases-shown : Shown
-unfolding is_digit all_digits value value_from lowest no_leading_zero is_numeral number width_in width decimal suffix suffix_text place onto split text_limit total_limit
-    sum_to count_to all_to largest_to in_limits matches first_match own_rules lines_of bytes then unless on_field same first_line opening_lines opening_fields on_suffix
-    count_of in_order placed rule_fields rule_lines closed whole_table table_line read_table line_text lines_text print_text has_service stage_at stage_churn next_place
-    row_from row one_holds largest_of stage_rules stage_text change_of crowded in_range of_change of_sheets places_answer places_written place_of lines_answer lines_written
+unfolding is_digit all_digits value value_from lowest no_leading_zero is_numeral number width_in width decimal suffix suffix_text place onto split text_limit
+    total_limit
+    sum_to count_to all_to largest_to in_limits matches first_match own_rules lines_of bytes then unless on_field same first_line opening_lines opening_fields
+    on_suffix
+    count_of in_order placed rule_fields rule_lines closed whole_table table_line read_table line_text lines_text print_text has_service stage_at stage_churn
+    next_place
+    row_from row one_holds largest_of stage_rules stage_text change_of crowded in_range of_change of_sheets places_answer places_written place_of lines_answer
+    lines_written
 cases-shown =
     record {
       row = refl;

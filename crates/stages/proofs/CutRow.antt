@@ -186,7 +186,8 @@ module _ (k : ℕ) (old new : ℕ → ℕ) (capacity : ℕ) (row : List ℕ) whe
   unfolding crowded_at
   crowded-later i n l m h =
       ap (crowded_at k old new capacity) (slice-cons i n row 0 l m)
-      ∙ rw (le-ltb capacity (lines_at (cut_at (get_or row i 0) old new) k 0) h) (ap (λ (j : ℕ). crowded_at k old new capacity (slice j n row)) (sym (add-one i)))
+      ∙ rw (le-ltb capacity (lines_at (cut_at (get_or row i 0) old new) k 0) h) (ap (λ (j : ℕ). crowded_at k old new capacity (slice j n row))
+      (sym (add-one i)))
 
   pub crowded-none : (n : ℕ) → crowded_at k old new capacity (slice n n row) ≡ false
   unfolding crowded_at

@@ -83,7 +83,8 @@ unfolding crowded_at
 sparse-at k old new capacity [] e i l = absurd (omega arith)
 sparse-at k old new capacity (p ∷ ps) e i l = go (ltb capacity (lines_at (cut_at p old new) k 0)) refl e i l (λ d j m. sparse-at k old new capacity ps d j m)
   where
-    go : (t : Bool) → ltb capacity (lines_at (cut_at p old new) k 0) ≡ t → pick t true (crowded_at k old new capacity ps) ≡ false → (i : ℕ) → i < length (p ∷ ps)
+    go : (t : Bool) → ltb capacity (lines_at (cut_at p old new) k 0) ≡ t → pick t true (crowded_at k old new capacity ps) ≡ false → (i : ℕ) → i < length
+        (p ∷ ps)
         → (crowded_at k old new capacity ps ≡ false → (j : ℕ) → j < length ps → lines_at (cut_at (get_or ps j 0) old new) k 0 ≤ capacity)
         → lines_at (cut_at (get_or (p ∷ ps) i 0) old new) k 0 ≤ capacity
     go true t e i l rest = absurd (let z : ◌≡◌ {A = ℕ} 0 1 = cc in omega arith)

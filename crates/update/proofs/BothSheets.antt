@@ -141,7 +141,8 @@ module _ (old new : List ℕ) (n : ℕ) where
       go (met t S B) = not-read (sym (met-read t S B) ∙ e)
 
   -- then there is nothing to promise
-  pub none-promised : (r : Why) (u : SheetUpdated) (numbers : List ℕ) → reads.update_read_answer old new n list_room most_backends most_backends ≡ read.Refused r
+  pub none-promised : (r : Why) (u : SheetUpdated) (numbers : List ℕ) → reads.update_read_answer old new n list_room most_backends most_backends ≡
+      read.Refused r
       → PromisedBoth old new n u numbers
   none-promised r u numbers e t S a b h w d =
       not-read (sym (met-read t S (record { table = a; sheet = b; service = h; weights = w; depth = d })) ∙ e)

@@ -20,7 +20,8 @@ use Rattle.update.specs.Cases.{Chooses, lowest_at_one, lowest_between, equal_chu
 pub cases-show : Shows unchanged × Shows quarter × Shows afresh × Shows hidden × Shows retired × Shows replaced × Tied × Chooses lowest_at_one
     × Chooses lowest_between × Chooses equal_churn × Chooses longer_list × TooLong
 unfolding list_to sum_to count_to all_to first_to argmax lastmax is_rule is_suffix matches first_match gives share differing backends label weight has wants
-    excess shortfall imbalance giver receiver largest_excess largest_shortfall is_within reduction reduction_at term is_no_gain is_whole term_length lowest_place
+    excess shortfall imbalance giver receiver largest_excess largest_shortfall is_within reduction reduction_at term is_no_gain is_whole term_length
+    lowest_place
     new_rule step after list_of oldest place value value_from lowest unit in_limits id_before is_backend check_weights include known_ids weight_of targets_known
     rules_from numbers_of is_proper check_rules
     check_list longest cap_from frame_from frame_kept list_kept ends_within churn_kept is_lowest largest_to kept_of list_resumed check_old numbers_resumed churn
@@ -41,7 +42,8 @@ cases-show = (
 )
 
 pub halted : Halted
-unfolding list_to sum_to count_to all_to first_to argmax lastmax is_rule is_suffix matches first_match gives share differing churn backends label weight has wants
+unfolding list_to sum_to count_to all_to first_to argmax lastmax is_rule is_suffix matches first_match gives share differing churn backends label weight has
+    wants
     excess shortfall giver receiver largest_excess largest_shortfall is_within reduction reduction_at term is_no_gain is_whole term_length lowest_place new_rule
     step after list_of oldest place value value_from lowest unit in_limits id_before is_backend check_weights include known_ids weight_of targets_known
     rules_from is_proper check_rules check_list longest cap_from frame_from

@@ -15,7 +15,8 @@ invariant-loop-left l =
     × (l.all ≡ 2 ^ (l.at + most_bits - l.end))
     × (l.left < l.all)
     × (length l.out ≡ length l.initial.out)
-    × ((last : List ℕ) (next : ℕ) → Wrote l.out last l.end next (decimals_of (l.at + most_bits - l.end) l.left) → Wrote l.initial.out last l.at next (decimals_of most_bits l.rest))
+    × ((last : List ℕ) (next : ℕ) → Wrote l.out last l.end next (decimals_of (l.at + most_bits - l.end) l.left) → Wrote l.initial.out last l.at next
+    (decimals_of most_bits l.rest))
 
 abbrev pub decreases-loop-left : goal.decreases-loop-left
 decreases-loop-left l = l.at + most_bits - l.end

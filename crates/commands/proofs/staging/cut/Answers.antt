@@ -20,7 +20,8 @@ answered c =
 pub put_places-requires : goal.put_places-requires
 put_places-requires c =
     let is = c.in-Value.is in (
-      cut-places c.args.old.now c.args.new.now c.args.service c.args.limit c.args.capacity _ (sym (answered (goal.at.put_places-requires c).After-stage_places-row) ∙ is) _ _
+      cut-places c.args.old.now c.args.new.now c.args.service c.args.limit c.args.capacity _
+          (sym (answered (goal.at.put_places-requires c).After-stage_places-row) ∙ is) _ _
           (length-replicate {A = ℕ} most_suffixes 0) (rw is at c.stage_places-row.ensures.buffer),
       c.requires,
     )
@@ -29,7 +30,8 @@ pub returns-in-Value : goal.returns-in-Value
 returns-in-Value c =
     let is = c.in-Value.is in
     let text =
-    cut-text c.args.old.now c.args.new.now c.args.service c.args.limit c.args.capacity _ (sym (answered (goal.at.returns-in-Value c).After-stage_places-row) ∙ is) _ _
+    cut-text c.args.old.now c.args.new.now c.args.service c.args.limit c.args.capacity _
+    (sym (answered (goal.at.returns-in-Value c).After-stage_places-row) ∙ is) _ _
     (length-replicate {A = ℕ} most_suffixes 0) (rw is at c.stage_places-row.ensures.buffer)
     in
     rw (← text) c.put_places.ensures
@@ -37,6 +39,7 @@ returns-in-Value c =
 pub returns-in-Refused : goal.returns-in-Refused
 returns-in-Refused c =
     let text =
-    not-cut c.args.old.now c.args.new.now c.args.service c.args.limit c.args.capacity _ (sym (answered (goal.at.returns-in-Refused c).After-stage_places-row) ∙ c.in-Refused.is)
+    not-cut c.args.old.now c.args.new.now c.args.service c.args.limit c.args.capacity _
+    (sym (answered (goal.at.returns-in-Refused c).After-stage_places-row) ∙ c.in-Refused.is)
     in
     rw (← text) c.put_refused_of.ensures

@@ -31,5 +31,6 @@ pub returns-in-Refused : goal.returns-in-Refused
 returns-in-Refused c =
     let a = c.args in
     let is = c.in-Refused.is in
-    let text = not_listed a.old.now a.new.now a.service a.limit a.capacity a.number _ (sym (answered (goal.at.returns-in-Refused c).After-stage_lines-listed) ∙ is) in
+    let text = not_listed a.old.now a.new.now a.service a.limit a.capacity a.number _ (sym (answered (goal.at.returns-in-Refused c).After-stage_lines-listed)
+    ∙ is) in
     rw (← text) (left (rw is at c.stage_lines-listed.ensures.buffer) c.put_refused_of.ensures)

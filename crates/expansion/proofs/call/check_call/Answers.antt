@@ -10,7 +10,8 @@ returns-then-not-in_limits c = sym (call-bits _ _ _ _ _ (sym c.in_limits.ensures
 
 pub returns-then-tolerance-gt-UNIT : goal.returns-then-tolerance-gt-UNIT
 unfolding unit
-returns-then-tolerance-gt-UNIT c = sym (call-tolerance _ _ _ _ _ (sym c.in_limits.ensures ∙ not-false _ c.if-not-in_limits.false-raw) c.if-tolerance-gt-UNIT.true)
+returns-then-tolerance-gt-UNIT c = sym (call-tolerance _ _ _ _ _ (sym c.in_limits.ensures ∙ not-false _ c.if-not-in_limits.false-raw)
+    c.if-tolerance-gt-UNIT.true)
 
 pub returns-then-not-in_limits-2 : goal.returns-then-not-in_limits-2
 unfolding unit

@@ -60,7 +60,8 @@ returns-then-not-has_room c =
     record {
       answer = sym
           (answer-short a.k a.tolerance a.budget a.ids.now a.weights.now c.make_list-made.result c.make_list-made.ensures.made
-          a.at (room (goal.at.returns-then-not-has_room c).Start) (passed (goal.at.returns-then-not-has_room c).In_default) (sym (room-is (goal.at.returns-then-not-has_room c).After-has_room) ∙ not-true _ c.if-not-has_room.true-raw));
+          a.at (room (goal.at.returns-then-not-has_room c).Start) (passed (goal.at.returns-then-not-has_room c).In_default)
+          (sym (room-is (goal.at.returns-then-not-has_room c).After-has_room) ∙ not-true _ c.if-not-has_room.true-raw));
       lens = refl;
       values = refl;
       backends = refl;
@@ -98,7 +99,8 @@ returns c =
     λ f. made-column a.k a.tolerance a.budget a.ids.now a.weights.now r M f rules in
     let out = c.copy_out.ensures in
     record {
-      answer = sym (answer-made a.k a.tolerance a.budget a.ids.now a.weights.now r M a.at (room (goal.at.returns c).Start) (passed (goal.at.returns c).In_default) (fits (goal.at.returns c).Else-not-has_room));
+      answer = sym (answer-made a.k a.tolerance a.budget a.ids.now a.weights.now r M a.at (room (goal.at.returns c).Start)
+          (passed (goal.at.returns c).In_default) (fits (goal.at.returns c).Else-not-has_room));
       lens = out.lens ∙ ap (sets a.lens.now a.at) (column (λ (r : Rule). r.len));
       values = out.values ∙ ap (sets a.values.now a.at) (column (λ (r : Rule). r.value));
       backends = out.backends ∙ ap (sets a.backends.now a.at) (column (λ (r : Rule). r.backend));

@@ -60,7 +60,10 @@ loop-p-preserved c =
     let l = c.loop-p in
     let test = differs a.before.now a.after.now in (
       omega (arith, inside (goal.at.loop-p-preserved c).In-loop-p),
-      elim c.if-before-p.branch [ then-before-p w ↦ omega (arith, w.same-is, l.invariant.1, none l.p test (ap not (eq-eqb _ _ w.if-before-p.true))) | else-before-p w ↦ omega (arith, w.same-is, l.invariant.1, one l.p test (ap not (ne_eqb _ _ w.if-before-p.false))) ],
+      elim c.if-before-p.branch [
+        | then-before-p w ↦ omega (arith, w.same-is, l.invariant.1, none l.p test (ap not (eq-eqb _ _ w.if-before-p.true)))
+        | else-before-p w ↦ omega (arith, w.same-is, l.invariant.1, one l.p test (ap not (ne_eqb _ _ w.if-before-p.false)))
+      ],
     )
 
 pub overflow_cast-result : goal.overflow_cast-result

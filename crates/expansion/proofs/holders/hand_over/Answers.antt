@@ -66,7 +66,21 @@ overflow_add-at c =
 
 pub note_lows-requires : goal.note_lows-requires
 note_lows-requires c =
-    rw (size_is (goal.at.note_lows-requires c).Start) (omega arith, (omega arith, (omega (arith, inside (goal.at.note_lows-requires c).After-lowest_whole-node), omega (arith, inside (goal.at.note_lows-requires c).After-lowest_whole-node))))
+    rw (size_is (goal.at.note_lows-requires c).Start) (
+      omega arith,
+      (
+        omega arith,
+        (
+          omega
+              (arith, inside (goal.at.note_lows-requires c).After-lowest_whole-node),
+          omega (
+            arith,
+            inside
+                (goal.at.note_lows-requires c).After-lowest_whole-node,
+          ),
+        ),
+      ),
+    )
 
 pub suffix_at-value-requires : goal.suffix_at-value-requires
 suffix_at-value-requires c =
@@ -81,7 +95,8 @@ returns c =
           subst (λ (x : ℕ). Given (x * 2 ^ i) (2 ^ i) a.m.receiver a.holder.now c.give.new.holder) (found (goal.at.returns c).After-lowest_whole-node)
           (simp (size_is (goal.at.returns c).Start) at c.give.ensures);
       lows =
-          subst (λ (x : ℕ). c.note_lows.new.low ≡ lowered a.low.now a.m.giver a.m.receiver (x * 2 ^ i) (x * 2 ^ i + 2 ^ i)) (found (goal.at.returns c).After-lowest_whole-node)
+          subst (λ (x : ℕ). c.note_lows.new.low ≡ lowered a.low.now a.m.giver a.m.receiver (x * 2 ^ i) (x * 2 ^ i + 2 ^ i))
+          (found (goal.at.returns c).After-lowest_whole-node)
           (simp (size_is (goal.at.returns c).Start) at c.note_lows.ensures);
       is = c.suffix_at-value.ensures ∙ ap (place (a.k - i)) (found (goal.at.returns c).After-lowest_whole-node);
     }

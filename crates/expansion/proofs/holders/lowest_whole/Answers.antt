@@ -145,7 +145,12 @@ pub offset_bounds-holder-at-in-loop-left : goal.offset_bounds-holder-at-in-loop-
 offset_bounds-holder-at-in-loop-left c = omega (arith, inside (goal.at.offset_bounds-holder-at-in-loop-left c).In-nodes)
 
 pub bounds-holder-at-in-loop-left : goal.bounds-holder-at-in-loop-left
-bounds-holder-at-in-loop-left c = omega (arith, (turn (goal.at.bounds-holder-at-in-loop-left c).In-loop-left).0, inside (goal.at.bounds-holder-at-in-loop-left c).In-nodes)
+bounds-holder-at-in-loop-left c = omega (
+  arith,
+  (turn (goal.at.bounds-holder-at-in-loop-left c).In-loop-left).0,
+  inside
+      (goal.at.bounds-holder-at-in-loop-left c).In-nodes,
+)
 
 pub nodes-preserved-then-holder-at-3 : goal.nodes-preserved-then-holder-at-3
 nodes-preserved-then-holder-at-3 c = passed-at (goal.at.nodes-preserved-then-holder-at-3 c).In-loop-left 1 (omega arith) (omega arith) c.if-holder-at-3.true
@@ -160,7 +165,12 @@ pub offset_bounds-holder-at-in-loop-left-2 : goal.offset_bounds-holder-at-in-loo
 offset_bounds-holder-at-in-loop-left-2 c = omega (arith, inside (goal.at.offset_bounds-holder-at-in-loop-left-2 c).In-nodes)
 
 pub bounds-holder-at-in-loop-left-2 : goal.bounds-holder-at-in-loop-left-2
-bounds-holder-at-in-loop-left-2 c = omega (arith, (turn (goal.at.bounds-holder-at-in-loop-left-2 c).In-loop-left).0, inside (goal.at.bounds-holder-at-in-loop-left-2 c).In-nodes)
+bounds-holder-at-in-loop-left-2 c = omega (
+  arith,
+  (turn (goal.at.bounds-holder-at-in-loop-left-2 c).In-loop-left).0,
+  inside
+      (goal.at.bounds-holder-at-in-loop-left-2 c).In-nodes,
+)
 
 pub nodes-preserved-then-holder-at-4 : goal.nodes-preserved-then-holder-at-4
 nodes-preserved-then-holder-at-4 c = passed-at (goal.at.nodes-preserved-then-holder-at-4 c).In-loop-left 2 (omega arith) (omega arith) c.if-holder-at-4.true
@@ -175,7 +185,12 @@ pub offset_bounds-holder-at-in-loop-left-3 : goal.offset_bounds-holder-at-in-loo
 offset_bounds-holder-at-in-loop-left-3 c = omega (arith, inside (goal.at.offset_bounds-holder-at-in-loop-left-3 c).In-nodes)
 
 pub bounds-holder-at-in-loop-left-3 : goal.bounds-holder-at-in-loop-left-3
-bounds-holder-at-in-loop-left-3 c = omega (arith, (turn (goal.at.bounds-holder-at-in-loop-left-3 c).In-loop-left).0, inside (goal.at.bounds-holder-at-in-loop-left-3 c).In-nodes)
+bounds-holder-at-in-loop-left-3 c = omega (
+  arith,
+  (turn (goal.at.bounds-holder-at-in-loop-left-3 c).In-loop-left).0,
+  inside
+      (goal.at.bounds-holder-at-in-loop-left-3 c).In-nodes,
+)
 
 pub nodes-preserved-then-holder-at-5 : goal.nodes-preserved-then-holder-at-5
 nodes-preserved-then-holder-at-5 c = passed-at (goal.at.nodes-preserved-then-holder-at-5 c).In-loop-left 3 (omega arith) (omega arith) c.if-holder-at-5.true
@@ -190,7 +205,12 @@ pub offset_bounds-holder-at-in-loop-left-4 : goal.offset_bounds-holder-at-in-loo
 offset_bounds-holder-at-in-loop-left-4 c = omega (arith, inside (goal.at.offset_bounds-holder-at-in-loop-left-4 c).In-nodes)
 
 pub bounds-holder-at-in-loop-left-4 : goal.bounds-holder-at-in-loop-left-4
-bounds-holder-at-in-loop-left-4 c = omega (arith, (turn (goal.at.bounds-holder-at-in-loop-left-4 c).In-loop-left).0, inside (goal.at.bounds-holder-at-in-loop-left-4 c).In-nodes)
+bounds-holder-at-in-loop-left-4 c = omega (
+  arith,
+  (turn (goal.at.bounds-holder-at-in-loop-left-4 c).In-loop-left).0,
+  inside
+      (goal.at.bounds-holder-at-in-loop-left-4 c).In-nodes,
+)
 
 pub nodes-preserved : goal.nodes-preserved
 nodes-preserved c = passed-at (goal.at.nodes-preserved c).In-loop-left 4 (omega arith) (omega arith) c.if-holder-at-6.true

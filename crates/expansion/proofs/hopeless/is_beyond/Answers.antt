@@ -50,15 +50,23 @@ overflow_add-wants c = simp (power c) (record { fits = omega (arith, want-few c,
 pub returns-then-wants-slack : goal.returns-then-wants-slack
 unfolding unit
 returns-then-wants-slack c =
-    let over : w (goal.at.returns-then-wants-slack c).Start + t (goal.at.returns-then-wants-slack c).Start < h (goal.at.returns-then-wants-slack c).Start = simp (power (goal.at.returns-then-wants-slack c).Start) at c.if-wants-slack.true in
-    sym (ap (λ (x : Bool). pick x true (ltb (h (goal.at.returns-then-wants-slack c).Start + t (goal.at.returns-then-wants-slack c).Start) (w (goal.at.returns-then-wants-slack c).Start))) (lt-ltb (w (goal.at.returns-then-wants-slack c).Start + t (goal.at.returns-then-wants-slack c).Start) (h (goal.at.returns-then-wants-slack c).Start) over))
+    let over : w (goal.at.returns-then-wants-slack c).Start + t (goal.at.returns-then-wants-slack c).Start < h (goal.at.returns-then-wants-slack c).Start =
+    simp (power (goal.at.returns-then-wants-slack c).Start) at c.if-wants-slack.true in
+    sym (ap (λ (x : Bool). pick x true (ltb (h (goal.at.returns-then-wants-slack c).Start + t (goal.at.returns-then-wants-slack c).Start)
+    (w (goal.at.returns-then-wants-slack c).Start))) (lt-ltb (w (goal.at.returns-then-wants-slack c).Start + t (goal.at.returns-then-wants-slack c).Start)
+    (h (goal.at.returns-then-wants-slack c).Start) over))
 
 pub overflow_add-result : goal.overflow_add-result
 unfolding unit
-overflow_add-result c = simp (power (goal.at.overflow_add-result c).Start) (record { fits = omega (arith, has-few (goal.at.overflow_add-result c).Start, slack-few (goal.at.overflow_add-result c).Start) })
+overflow_add-result c = simp (power (goal.at.overflow_add-result c).Start) (record {
+  fits = omega
+      (arith, has-few (goal.at.overflow_add-result c).Start, slack-few (goal.at.overflow_add-result c).Start);
+})
 
 pub returns : goal.returns
 unfolding unit
 returns c =
     simp (power (goal.at.returns c).Start)
-    (sym (ap (λ (x : Bool). pick x true (ltb (h (goal.at.returns c).Start + t (goal.at.returns c).Start) (w (goal.at.returns c).Start))) (le-ltb (w (goal.at.returns c).Start + t (goal.at.returns c).Start) (h (goal.at.returns c).Start) (simp (power (goal.at.returns c).Start) at c.if-wants-slack.false))))
+    (sym (ap (λ (x : Bool). pick x true (ltb (h (goal.at.returns c).Start + t (goal.at.returns c).Start) (w (goal.at.returns c).Start)))
+    (le-ltb (w (goal.at.returns c).Start + t (goal.at.returns c).Start) (h (goal.at.returns c).Start)
+    (simp (power (goal.at.returns c).Start) at c.if-wants-slack.false))))

@@ -34,6 +34,7 @@ returns c =
     let a = c.args in
     let xs = take a.count a.ids.now in
     let at = c.place_of-at.ensures in
-    included-new a.id a.count a.ids.now a.weights.now c.requires.0 c.insert.new.ids c.insert.new.weights (there (goal.at.returns c).After-is_at ∙ c.if-is_at.false)
+    included-new a.id a.count a.ids.now a.weights.now c.requires.0 c.insert.new.ids c.insert.new.weights
+    (there (goal.at.returns c).After-is_at ∙ c.if-is_at.false)
     (c.insert.ensures.ids ∙ ap (λ (x : ℕ). insert_at x a.id xs) at)
     (c.insert.ensures.weights ∙ ap (λ (x : ℕ). insert_at {A = ℕ} x 0 (take a.count a.weights.now)) at)

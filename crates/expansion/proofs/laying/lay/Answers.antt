@@ -74,7 +74,13 @@ to_is c =
     c.place_of-to.ensures ∙ ap (place_in (rule (goal.at.After-place_of-to c).Start).backend) (take-length (ids (goal.at.After-place_of-to c).Start))
 
 pub first_place-at-requires : goal.first_place-at-requires
-first_place-at-requires c = (few (goal.at.first_place-at-requires c).Start, ((known (goal.at.first_place-at-requires c).Start).rule, c.requires.k_le_most_bits.1.1.1))
+first_place-at-requires c = (
+  few (goal.at.first_place-at-requires c).Start,
+  (
+    (known (goal.at.first_place-at-requires c).Start).rule,
+    c.requires.k_le_most_bits.1.1.1,
+  ),
+)
 
 pub offset_bounds-holder-at : goal.offset_bounds-holder-at
 offset_bounds-holder-at c = omega (arith, c.first_place-at.ensures, small (goal.at.offset_bounds-holder-at c).Start)
@@ -86,7 +92,13 @@ bounds-holder-at c =
 pub overflow_cast-had : goal.overflow_cast-had
 overflow_cast-had c =
     let H = had (goal.at.overflow_cast-had c).Start c.requires.held.0 c.requires.held.1.0 c.requires.held.1.1 in
-    omega (arith, H.known, (ascending (goal.at.overflow_cast-had c).Start).few, ap (λ (x : ℕ). get_or (holder (goal.at.overflow_cast-had c).Start) x 0) c.first_place-at.ensures)
+    omega (
+      arith,
+      H.known,
+      (ascending (goal.at.overflow_cast-had c).Start).few,
+      ap (λ (x : ℕ). get_or (holder (goal.at.overflow_cast-had c).Start) x 0)
+          c.first_place-at.ensures,
+    )
 
 pub overflow_sub-k : goal.overflow_sub-k
 overflow_sub-k c = short (goal.at.overflow_sub-k c).Start
@@ -96,7 +108,10 @@ pass_on-requires c =
     let rs = c.requires.held.0 in
     let H = c.requires.held.1.0 in
     rw (c.first_place-at.ensures, size_is (goal.at.pass_on-requires c).Start, to_is (goal.at.pass_on-requires c).After-place_of-to)
-    (lay-passable (k (goal.at.pass_on-requires c).Start) (rule (goal.at.pass_on-requires c).Start) (known (goal.at.pass_on-requires c).Start).rule (few (goal.at.pass_on-requires c).Start) (ids (goal.at.pass_on-requires c).Start) (ascending (goal.at.pass_on-requires c).Start) rs (holder (goal.at.pass_on-requires c).Start) (shares (goal.at.pass_on-requires c).Start) (from (goal.at.pass_on-requires c).Start) (to (goal.at.pass_on-requires c).Start) (had (goal.at.pass_on-requires c).Start rs H c.requires.held.1.1) (gets (goal.at.pass_on-requires c).Start)
+    (lay-passable (k (goal.at.pass_on-requires c).Start) (rule (goal.at.pass_on-requires c).Start) (known (goal.at.pass_on-requires c).Start).rule
+    (few (goal.at.pass_on-requires c).Start) (ids (goal.at.pass_on-requires c).Start) (ascending (goal.at.pass_on-requires c).Start) rs
+    (holder (goal.at.pass_on-requires c).Start) (shares (goal.at.pass_on-requires c).Start) (from (goal.at.pass_on-requires c).Start)
+    (to (goal.at.pass_on-requires c).Start) (had (goal.at.pass_on-requires c).Start rs H c.requires.held.1.1) (gets (goal.at.pass_on-requires c).Start)
     H)
 
 pub returns : goal.returns
@@ -109,13 +124,18 @@ returns c rs H L =
     let given : Given (at (goal.at.returns c).Start) size (to (goal.at.returns c).Start) (holder (goal.at.returns c).Start) h' =
     subst (λ (x : ℕ). Given (at (goal.at.returns c).Start) size x (holder (goal.at.returns c).Start) h') (to_is (goal.at.returns c).After-place_of-to)
     (subst (λ (x : ℕ). Given x size t (holder (goal.at.returns c).Start) h') is
-    (subst (λ (x : ℕ). Given c.first_place-at.result x t (holder (goal.at.returns c).Start) h') (size_is (goal.at.returns c).Start) c.pass_on.ensures.holder)) in
+    (subst (λ (x : ℕ). Given c.first_place-at.result x t (holder (goal.at.returns c).Start) h') (size_is (goal.at.returns c).Start) c.pass_on.ensures.holder))
+    in
     let passed : s' ≡ passed_on (shares (goal.at.returns c).Start) (from (goal.at.returns c).Start) (to (goal.at.returns c).Start) size =
     c.pass_on.ensures.shares
-    ∙ ap (λ (x : ℕ). passed_on (shares (goal.at.returns c).Start) (get_or (holder (goal.at.returns c).Start) x 0) t (1 * 2 ^ (k (goal.at.returns c).Start - (rule (goal.at.returns c).Start).len) % 2 ^ 64)) is
+    ∙ ap (λ (x : ℕ). passed_on (shares (goal.at.returns c).Start) (get_or (holder (goal.at.returns c).Start) x 0) t
+    (1 * 2 ^ (k (goal.at.returns c).Start - (rule (goal.at.returns c).Start).len) % 2 ^ 64)) is
     ∙ ap (passed_on (shares (goal.at.returns c).Start) (from (goal.at.returns c).Start) t) (size_is (goal.at.returns c).Start)
     ∙ ap (λ (x : ℕ). passed_on (shares (goal.at.returns c).Start) (from (goal.at.returns c).Start) x size) (to_is (goal.at.returns c).After-place_of-to) in
     let B = had (goal.at.returns c).Start rs H L in (
-      held-laid (k (goal.at.returns c).Start) (rule (goal.at.returns c).Start) (known (goal.at.returns c).Start).rule (few (goal.at.returns c).Start) (ids (goal.at.returns c).Start) (ascending (goal.at.returns c).Start) rs (holder (goal.at.returns c).Start) (shares (goal.at.returns c).Start) (from (goal.at.returns c).Start) (to (goal.at.returns c).Start) B (gets (goal.at.returns c).Start) h' s' H given passed,
-      subst (λ (x : ℕ). Had (k (goal.at.returns c).Start) (ids (goal.at.returns c).Start) rs (rule (goal.at.returns c).Start) (get_or (holder (goal.at.returns c).Start) x 0)) (sym is) B,
+      held-laid (k (goal.at.returns c).Start) (rule (goal.at.returns c).Start) (known (goal.at.returns c).Start).rule (few (goal.at.returns c).Start)
+          (ids (goal.at.returns c).Start) (ascending (goal.at.returns c).Start) rs (holder (goal.at.returns c).Start) (shares (goal.at.returns c).Start)
+          (from (goal.at.returns c).Start) (to (goal.at.returns c).Start) B (gets (goal.at.returns c).Start) h' s' H given passed,
+      subst (λ (x : ℕ). Had (k (goal.at.returns c).Start) (ids (goal.at.returns c).Start) rs (rule (goal.at.returns c).Start)
+          (get_or (holder (goal.at.returns c).Start) x 0)) (sym is) B,
     )

@@ -24,8 +24,14 @@ bounds-list-i c = omega (arith, rules-long (goal.at.bounds-list-i c).Start)
 pub loop-i-preserved : goal.loop-i-preserved
 loop-i-preserved c =
     let l = c.loop-i in
-    let more = longest-more c.args.list.rules l.i in
-    (omega arith, elim c.if-most-rule.branch [ then-most-rule w ↦ omega (arith, w.most-is, w.if-most-rule.true, l.invariant.1, more) | else-most-rule w ↦ omega (arith, w.most-is, w.if-most-rule.false, l.invariant.1, more) ])
+    let more = longest-more c.args.list.rules l.i in (
+      omega arith,
+      elim c.if-most-rule.branch [
+        | then-most-rule w ↦ omega (arith, w.most-is, w.if-most-rule.true, l.invariant.1, more)
+        | else-most-rule w ↦
+            omega (arith, w.most-is, w.if-most-rule.false, l.invariant.1, more)
+      ],
+    )
 
 pub returns : goal.returns
 returns c =

@@ -79,7 +79,9 @@ pub pass_on-requires : goal.pass_on-requires
 pass_on-requires c =
     let P = c.requires.by_index in
     rw (c.first_place-at.ensures, size_is (goal.at.pass_on-requires c).Start)
-    (back-passable (k (goal.at.pass_on-requires c).Start) (rule (goal.at.pass_on-requires c).Start) (formed (goal.at.pass_on-requires c).Start) (few (goal.at.pass_on-requires c).Start) P.0 P.2.0 P.1 (holder (goal.at.pass_on-requires c).Start) (shares (goal.at.pass_on-requires c).Start) c.args.had (from (goal.at.pass_on-requires c).Start) P.2.1.1
+    (back-passable (k (goal.at.pass_on-requires c).Start) (rule (goal.at.pass_on-requires c).Start) (formed (goal.at.pass_on-requires c).Start)
+    (few (goal.at.pass_on-requires c).Start) P.0 P.2.0 P.1 (holder (goal.at.pass_on-requires c).Start) (shares (goal.at.pass_on-requires c).Start)
+    c.args.had (from (goal.at.pass_on-requires c).Start) P.2.1.1
     (has (goal.at.pass_on-requires c).Start P.0 P.1 P.2.0 P.2.1.0) P.2.1.0)
 
 pub returns : goal.returns
@@ -91,9 +93,13 @@ returns c labels rs A H B =
     let is = c.first_place-at.ensures in
     let given : Given (at (goal.at.returns c).Start) size had (holder (goal.at.returns c).Start) h' =
     subst (λ (x : ℕ). Given x size had (holder (goal.at.returns c).Start) h') is
-    (subst (λ (x : ℕ). Given c.first_place-at.result x had (holder (goal.at.returns c).Start) h') (size_is (goal.at.returns c).Start) c.pass_on.ensures.holder) in
+    (subst (λ (x : ℕ). Given c.first_place-at.result x had (holder (goal.at.returns c).Start) h') (size_is (goal.at.returns c).Start)
+    c.pass_on.ensures.holder) in
     let passed : s' ≡ passed_on (shares (goal.at.returns c).Start) (from (goal.at.returns c).Start) had size =
     c.pass_on.ensures.shares
-    ∙ ap (λ (x : ℕ). passed_on (shares (goal.at.returns c).Start) (get_or (holder (goal.at.returns c).Start) x 0) had (1 * 2 ^ (k (goal.at.returns c).Start - (rule (goal.at.returns c).Start).len) % 2 ^ 64)) is
+    ∙ ap (λ (x : ℕ). passed_on (shares (goal.at.returns c).Start) (get_or (holder (goal.at.returns c).Start) x 0) had
+    (1 * 2 ^ (k (goal.at.returns c).Start - (rule (goal.at.returns c).Start).len) % 2 ^ 64)) is
     ∙ ap (passed_on (shares (goal.at.returns c).Start) (from (goal.at.returns c).Start) had) (size_is (goal.at.returns c).Start) in
-    held_back (k (goal.at.returns c).Start) (rule (goal.at.returns c).Start) (formed (goal.at.returns c).Start) (few (goal.at.returns c).Start) labels A rs (holder (goal.at.returns c).Start) (shares (goal.at.returns c).Start) had (from (goal.at.returns c).Start) B (has (goal.at.returns c).Start labels rs A H) h' s' H given passed
+    held_back (k (goal.at.returns c).Start) (rule (goal.at.returns c).Start) (formed (goal.at.returns c).Start) (few (goal.at.returns c).Start) labels A rs
+    (holder (goal.at.returns c).Start) (shares (goal.at.returns c).Start) had (from (goal.at.returns c).Start) B
+    (has (goal.at.returns c).Start labels rs A H) h' s' H given passed

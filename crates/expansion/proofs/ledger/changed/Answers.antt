@@ -37,11 +37,15 @@ module _ (s : Start) where
 
 pub overflow_sub-result-2 : goal.overflow_sub-result-2
 unfolding unit
-overflow_sub-result-2 c = rw (less-is (goal.at.overflow_sub-result-2 c).Start) (record { sfits = omega (arith, less-few (goal.at.overflow_sub-result-2 c).Start) })
+overflow_sub-result-2 c = rw (less-is (goal.at.overflow_sub-result-2 c).Start) (record {
+  sfits = omega
+      (arith, less-few (goal.at.overflow_sub-result-2 c).Start);
+})
 
 pub overflow_add-result-2 : goal.overflow_add-result-2
 unfolding unit
-overflow_add-result-2 c = rw (less-is (goal.at.overflow_add-result-2 c).Start, more-is (goal.at.overflow_add-result-2 c).Start) (record { sfits = more-few (goal.at.overflow_add-result-2 c).Start })
+overflow_add-result-2 c = rw (less-is (goal.at.overflow_add-result-2 c).Start, more-is (goal.at.overflow_add-result-2 c).Start)
+    (record { sfits = more-few (goal.at.overflow_add-result-2 c).Start })
 
 -- the share by arithmetic, so that a wrong one is refused by its number
 pub returns : goal.returns

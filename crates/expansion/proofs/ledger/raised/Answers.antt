@@ -22,12 +22,20 @@ pub returns-then-best-size : goal.returns-then-best-size
 returns-then-best-size c =
     record {
       higher = λ l. rw (to_z-of_z c.ranges.size);
-      stays = λ l. absurd (omega (arith, ltb-true (over c.args.best.size) (over c.args.size) (sym (test (goal.at.returns-then-best-size c).After-struct_told-1) ∙ c.if-best-size.true)));
+      stays = λ l. absurd (omega (
+        arith,
+        ltb-true (over c.args.best.size) (over c.args.size)
+            (sym (test (goal.at.returns-then-best-size c).After-struct_told-1) ∙ c.if-best-size.true),
+      ));
     }
 
 pub returns-else-best-size : goal.returns-else-best-size
 returns-else-best-size c =
     record {
-      higher = λ l. absurd (omega (arith, ltb-false (over c.args.best.size) (over c.args.size) (sym (test (goal.at.returns-else-best-size c).After-struct_told-1) ∙ c.if-best-size.false)));
+      higher = λ l. absurd (omega (
+        arith,
+        ltb-false (over c.args.best.size) (over c.args.size)
+            (sym (test (goal.at.returns-else-best-size c).After-struct_told-1) ∙ c.if-best-size.false),
+      ));
       stays = λ l. refl;
     }

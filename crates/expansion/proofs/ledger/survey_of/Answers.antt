@@ -59,7 +59,16 @@ module _ (c : After-struct_told-1) where
 
 pub overflow_cast-imbalance : goal.overflow_cast-imbalance
 overflow_cast-imbalance c =
-    rw (read (goal.at.overflow_cast-imbalance c).After-struct_told-1 ∙ is-above (goal.at.overflow_cast-imbalance c).After-struct_told-1 c.if-e-gt0.true) (tt, record { fits = omega (arith, few (goal.at.overflow_cast-imbalance c).After-struct_told-1 (b (goal.at.overflow_cast-imbalance c).After-struct_told-1) (omega arith)) })
+    rw (read (goal.at.overflow_cast-imbalance c).After-struct_told-1 ∙ is-above (goal.at.overflow_cast-imbalance c).After-struct_told-1 c.if-e-gt0.true) (
+      tt,
+      record {
+        fits = omega (
+          arith,
+          few (goal.at.overflow_cast-imbalance c).After-struct_told-1
+              (b (goal.at.overflow_cast-imbalance c).After-struct_told-1) (omega arith),
+        );
+      },
+    )
 
 pub overflow_add-imbalance : goal.overflow_add-imbalance
 overflow_add-imbalance c =
@@ -68,7 +77,8 @@ overflow_add-imbalance c =
       fits = omega (
         arith,
         few (goal.at.overflow_add-imbalance c).After-struct_told-1 (b (goal.at.overflow_add-imbalance c).After-struct_told-1) (omega arith),
-        sum-most (b (goal.at.overflow_add-imbalance c).After-struct_told-1) (excess (goal.at.overflow_add-imbalance c).After-struct_told-1) (2 ^ 50) (λ i m. few (goal.at.overflow_add-imbalance c).After-struct_told-1 i (omega arith)),
+        sum-most (b (goal.at.overflow_add-imbalance c).After-struct_told-1) (excess (goal.at.overflow_add-imbalance c).After-struct_told-1) (2 ^ 50)
+            (λ i m. few (goal.at.overflow_add-imbalance c).After-struct_told-1 i (omega arith)),
       );
     })
 
@@ -78,15 +88,18 @@ natural f n x e = rw e
 
 pub raised-give-requires : goal.raised-give-requires
 raised-give-requires c =
-    natural (excess (goal.at.raised-give-requires c).After-struct_told-1) (b (goal.at.raised-give-requires c).After-struct_told-1) c.loop-b.give c.loop-b.invariant.1
+    natural (excess (goal.at.raised-give-requires c).After-struct_told-1) (b (goal.at.raised-give-requires c).After-struct_told-1) c.loop-b.give
+    c.loop-b.invariant.1
 
 pub overflow_sub-e : goal.overflow_sub-e
 overflow_sub-e c =
-    rw (read (goal.at.overflow_sub-e c).After-struct_told-1, +ℤ_idl (neg_ℤ (e (goal.at.overflow_sub-e c).After-struct_told-1))) (record { sfits = neg-few (goal.at.overflow_sub-e c).After-struct_told-1 })
+    rw (read (goal.at.overflow_sub-e c).After-struct_told-1, +ℤ_idl (neg_ℤ (e (goal.at.overflow_sub-e c).After-struct_told-1)))
+    (record { sfits = neg-few (goal.at.overflow_sub-e c).After-struct_told-1 })
 
 pub raised-take-requires : goal.raised-take-requires
 raised-take-requires c =
-    natural (shortfall (goal.at.raised-take-requires c).After-struct_told-1) (b (goal.at.raised-take-requires c).After-struct_told-1) c.loop-b.take c.loop-b.invariant.2
+    natural (shortfall (goal.at.raised-take-requires c).After-struct_told-1) (b (goal.at.raised-take-requires c).After-struct_told-1) c.loop-b.take
+    c.loop-b.invariant.2
 
 pub loop-b-preserved : goal.loop-b-preserved
 loop-b-preserved c =
@@ -95,14 +108,18 @@ loop-b-preserved c =
     elim c.if-e-gt0.branch [
       | then-e-gt0 w ↦ let h = is-above (goal.at.loop-b-preserved c).After-struct_told-1 w.if-e-gt0.true in (
         omega arith,
-        w.give-is ∙ top-raised (excess (goal.at.loop-b-preserved c).After-struct_told-1) (b (goal.at.loop-b-preserved c).After-struct_told-1) c.loop-b.give w.raised-give.result (to_z w64 (of_z w64 (e (goal.at.loop-b-preserved c).After-struct_told-1))) inv.1 (read (goal.at.loop-b-preserved c).After-struct_told-1 ∙ h) w.raised-give.ensures,
-        w.take-is ∙ inv.2 ∙ sym (top-zero (shortfall (goal.at.loop-b-preserved c).After-struct_told-1) (b (goal.at.loop-b-preserved c).After-struct_told-1) (ap under h)),
+        w.give-is ∙ top-raised (excess (goal.at.loop-b-preserved c).After-struct_told-1) (b (goal.at.loop-b-preserved c).After-struct_told-1) c.loop-b.give
+            w.raised-give.result (to_z w64 (of_z w64 (e (goal.at.loop-b-preserved c).After-struct_told-1))) inv.1
+            (read (goal.at.loop-b-preserved c).After-struct_told-1 ∙ h) w.raised-give.ensures,
+        w.take-is ∙ inv.2 ∙ sym (top-zero (shortfall (goal.at.loop-b-preserved c).After-struct_told-1) (b (goal.at.loop-b-preserved c).After-struct_told-1)
+            (ap under h)),
         omega (arith, w.imbalance-is, inv.3, more, ap nat_abs (read (goal.at.loop-b-preserved c).After-struct_told-1 ∙ h)),
       )
       | else-e-gt0 w ↦ let h = is_below (goal.at.loop-b-preserved c).After-struct_told-1 w.if-e-gt0.false in (
         omega arith,
         w.give-is ∙ inv.1 ∙ sym (top-zero (excess (goal.at.loop-b-preserved c).After-struct_told-1) (b (goal.at.loop-b-preserved c).After-struct_told-1) h.0),
-        w.take-is ∙ top-raised (shortfall (goal.at.loop-b-preserved c).After-struct_told-1) (b (goal.at.loop-b-preserved c).After-struct_told-1) c.loop-b.take w.raised-take.result (to_z w64 (of_z w64 (pos 0 -ℤ to_z w64 (of_z w64 (e (goal.at.loop-b-preserved c).After-struct_told-1))))) inv.2
+        w.take-is ∙ top-raised (shortfall (goal.at.loop-b-preserved c).After-struct_told-1) (b (goal.at.loop-b-preserved c).After-struct_told-1) c.loop-b.take
+            w.raised-take.result (to_z w64 (of_z w64 (pos 0 -ℤ to_z w64 (of_z w64 (e (goal.at.loop-b-preserved c).After-struct_told-1))))) inv.2
             (negated (goal.at.loop-b-preserved c).After-struct_told-1 ∙ h.1) w.raised-take.ensures,
         omega (arith, w.imbalance-is, inv.3, more, h.0),
       )

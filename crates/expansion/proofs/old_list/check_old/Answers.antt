@@ -23,7 +23,8 @@ bits c = sym c.in_limits.ensures ∙ not-false _ c.if-not-in_limits.false-raw
 
 pub returns-then-tolerance-gt-UNIT : goal.returns-then-tolerance-gt-UNIT
 unfolding unit
-returns-then-tolerance-gt-UNIT c = sym (old-tolerance _ _ _ _ _ (bits (goal.at.returns-then-tolerance-gt-UNIT c).Else-not-in_limits) c.if-tolerance-gt-UNIT.true)
+returns-then-tolerance-gt-UNIT c = sym (old-tolerance _ _ _ _ _ (bits (goal.at.returns-then-tolerance-gt-UNIT c).Else-not-in_limits)
+    c.if-tolerance-gt-UNIT.true)
 
 pub returns-then-old-eq0 : goal.returns-then-old-eq0
 unfolding unit

@@ -77,6 +77,8 @@ pub returns : goal.returns
 unfolding targets_known
 returns c =
     let is : labelled_by c.args.k (labels (goal.at.returns c).After-know-n) (weights (goal.at.returns c).After-know-n)
-    ≡ labelled_by c.args.k (known_ids (R (goal.at.returns c).Start) (ids (goal.at.returns c).Start)) (map (weight_of (ids (goal.at.returns c).Start) (ws (goal.at.returns c).Start)) (known_ids (R (goal.at.returns c).Start) (ids (goal.at.returns c).Start))) =
+    ≡ labelled_by c.args.k (known_ids (R (goal.at.returns c).Start) (ids (goal.at.returns c).Start))
+    (map (weight_of (ids (goal.at.returns c).Start) (ws (goal.at.returns c).Start))
+    (known_ids (R (goal.at.returns c).Start) (ids (goal.at.returns c).Start))) =
     ap₂ (labelled_by c.args.k) c.know-n.ensures.labels c.know-n.ensures.weighed in
     subst (λ (T : Targets). Found T c.args.tolerance (R (goal.at.returns c).Start) c.search.result) is c.search.ensures

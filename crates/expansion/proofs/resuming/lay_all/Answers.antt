@@ -50,7 +50,8 @@ loop-i-init c =
     ∙ get_or-replicate most_rules 0 star no_rule (omega arith)
     ∙ c.rule_at-star.ensures
     ∙ ap (rule_at (cs (goal.at.loop-i-init c).Start)) (omega arith) in
-    laid-star c.args.k (ids (goal.at.loop-i-init c).Start) (cs (goal.at.loop-i-init c).Start) (proper (goal.at.loop-i-init c).Start) c.args.holder.now c.args.shares.now list.rules _
+    laid-star c.args.k (ids (goal.at.loop-i-init c).Start) (cs (goal.at.loop-i-init c).Start) (proper (goal.at.loop-i-init c).Start) c.args.holder.now
+    c.args.shares.now list.rules _
     (ap (λ (l : RuleList). length l.rules) is ∙ length-replicate most_rules star, length-replicate {A = ℕ} most_rules 0) c.requires.held first
 
 pub overflow_sub-n-in-loop-i : goal.overflow_sub-n-in-loop-i
@@ -77,16 +78,27 @@ module _ (q : After-rule_at-rule) where
   rs = oldest i (rules_from (cs (goal.at.After-rule_at-rule q).Start))
 
   known : Known q.args.k (ids (goal.at.After-rule_at-rule q).Start) q.rule_at-rule.result
-  known = subst (Known q.args.k (ids (goal.at.After-rule_at-rule q).Start)) (sym is) (next_known q.args.k (ids (goal.at.After-rule_at-rule q).Start) (cs (goal.at.After-rule_at-rule q).Start) (proper (goal.at.After-rule_at-rule q).Start) i less)
+  known = subst (Known q.args.k (ids (goal.at.After-rule_at-rule q).Start)) (sym is) (next_known q.args.k (ids (goal.at.After-rule_at-rule q).Start)
+      (cs (goal.at.After-rule_at-rule q).Start) (proper (goal.at.After-rule_at-rule q).Start) i less)
 
   lengths : Lengths q.rule_at-rule.result.len rs
-  lengths = subst (λ (r : Rule). Lengths r.len rs) (sym is) (next-lengths q.args.k (ids (goal.at.After-rule_at-rule q).Start) (cs (goal.at.After-rule_at-rule q).Start) (proper (goal.at.After-rule_at-rule q).Start) i less)
+  lengths = subst (λ (r : Rule). Lengths r.len rs) (sym is) (next-lengths q.args.k (ids (goal.at.After-rule_at-rule q).Start)
+      (cs (goal.at.After-rule_at-rule q).Start) (proper (goal.at.After-rule_at-rule q).Start) i less)
 
 pub lay-requires : goal.lay-requires
 lay-requires c =
     record {
       held = (rs (goal.at.lay-requires c).After-rule_at-rule, (c.loop-i.invariant.held, lengths (goal.at.lay-requires c).After-rule_at-rule));
-      k_le_most_bits = (c.requires.k_le_most_bits.0, (c.requires.k_le_most_bits.1.0, (known (goal.at.lay-requires c).After-rule_at-rule, c.requires.k_le_most_bits.1.1.1)));
+      k_le_most_bits = (
+        c.requires.k_le_most_bits.0,
+        (
+          c.requires.k_le_most_bits.1.0,
+          (
+            known (goal.at.lay-requires c).After-rule_at-rule,
+            c.requires.k_le_most_bits.1.1.1,
+          ),
+        ),
+      );
     }
 
 pub offset_bounds-had-i : goal.offset_bounds-had-i
@@ -114,18 +126,28 @@ loop-i-preserved c =
     let s' = c.lay.new.shares in
     let b = c.lay.result in
     let done = c.lay.ensures (rs (goal.at.loop-i-preserved c).After-rule_at-rule) o.invariant.held (lengths (goal.at.loop-i-preserved c).After-rule_at-rule) in
-    let held = subst (λ (r : Rule). Held c.args.k (ids (goal.at.loop-i-preserved c).Start) (r ∷ rs (goal.at.loop-i-preserved c).After-rule_at-rule) h' s') (is (goal.at.loop-i-preserved c).After-rule_at-rule) done.0 in
-    let had = subst (λ (r : Rule). Had c.args.k (ids (goal.at.loop-i-preserved c).Start) (rs (goal.at.loop-i-preserved c).After-rule_at-rule) r b) (is (goal.at.loop-i-preserved c).After-rule_at-rule) done.1 in
-    let more = laid_more c.args.k (ids (goal.at.loop-i-preserved c).Start) (cs (goal.at.loop-i-preserved c).Start) (proper (goal.at.loop-i-preserved c).Start) o.i o.holder o.shares o.list.rules o.had h' s' b
+    let held = subst (λ (r : Rule). Held c.args.k (ids (goal.at.loop-i-preserved c).Start) (r ∷ rs (goal.at.loop-i-preserved c).After-rule_at-rule) h' s')
+    (is (goal.at.loop-i-preserved c).After-rule_at-rule) done.0 in
+    let had = subst (λ (r : Rule). Had c.args.k (ids (goal.at.loop-i-preserved c).Start) (rs (goal.at.loop-i-preserved c).After-rule_at-rule) r b)
+    (is (goal.at.loop-i-preserved c).After-rule_at-rule) done.1 in
+    let more = laid_more c.args.k (ids (goal.at.loop-i-preserved c).Start) (cs (goal.at.loop-i-preserved c).Start) (proper (goal.at.loop-i-preserved c).Start)
+    o.i o.holder o.shares o.list.rules o.had h' s' b
     (less (goal.at.loop-i-preserved c).After-rule_at-rule) o.invariant held had in
-    subst (λ (r : Rule). LaidTo c.args.k (ids (goal.at.loop-i-preserved c).Start) (rules_from (cs (goal.at.loop-i-preserved c).Start)) (o.i + 1) h' s' (set o.list.rules o.i r) (set o.had o.i b))
+    subst (λ (r : Rule). LaidTo c.args.k (ids (goal.at.loop-i-preserved c).Start) (rules_from (cs (goal.at.loop-i-preserved c).Start)) (o.i + 1) h' s'
+    (set o.list.rules o.i r) (set o.had o.i b))
     (sym (is (goal.at.loop-i-preserved c).After-rule_at-rule)) more
 
 pub returns : goal.returns
 returns c =
-    let all : c.loop-i.i ≡ length (rules_from (cs (goal.at.returns c).Start)) = omega (arith, rules-count (cs (goal.at.returns c).Start), c.loop-i.invariant.inside, c.loop-i-test.false) in
+    let all : c.loop-i.i ≡ length (rules_from (cs (goal.at.returns c).Start)) = omega (
+      arith,
+      rules-count (cs (goal.at.returns c).Start),
+      c.loop-i.invariant.inside,
+      c.loop-i-test.false,
+    ) in
     record {
       count = sym (rules-count (cs (goal.at.returns c).Start));
-      laid = subst (λ (n : ℕ). LaidTo c.args.k (ids (goal.at.returns c).Start) (rules_from (cs (goal.at.returns c).Start)) n c.loop-i.holder c.loop-i.shares c.loop-i.list.rules c.loop-i.had) all
+      laid = subst (λ (n : ℕ). LaidTo c.args.k (ids (goal.at.returns c).Start) (rules_from (cs (goal.at.returns c).Start)) n c.loop-i.holder c.loop-i.shares
+          c.loop-i.list.rules c.loop-i.had) all
           c.loop-i.invariant;
     }

@@ -31,7 +31,8 @@ returns-then-kept-eq0 c =
     let a = c.args in
     record {
       answer = sym
-          (resume-stuck a.k a.tolerance a.ids.now a.weights.now a.old.now (length a.rules.now) (passed (goal.at.returns-then-kept-eq0 c).In_default) c.find_best-best.result
+          (resume-stuck a.k a.tolerance a.ids.now a.weights.now a.old.now (length a.rules.now) (passed (goal.at.returns-then-kept-eq0 c).In_default)
+          c.find_best-best.result
           c.find_best-best.ensures (omega arith));
       rules = refl;
     }
@@ -44,7 +45,8 @@ returns-then-rules-n c =
     let a = c.args in
     record {
       answer = sym
-          (resume-short a.k a.tolerance a.ids.now a.weights.now a.old.now (length a.rules.now) (passed (goal.at.returns-then-rules-n c).In_default) c.find_best-best.result
+          (resume-short a.k a.tolerance a.ids.now a.weights.now a.old.now (length a.rules.now) (passed (goal.at.returns-then-rules-n c).In_default)
+          c.find_best-best.result
           c.find_best-best.ensures (omega arith) (omega arith));
       rules = refl;
     }

@@ -69,7 +69,8 @@ cap_from-cap-requires c =
     let a = c.args in
     record {
       le_k = ((starts (goal.at.cap_from-cap-requires c).Start).valid.some_bits, few (goal.at.cap_from-cap-requires c).Start);
-      count_bound = longest-few a.k a.tolerance a.ids.now a.weights.now (list (goal.at.cap_from-cap-requires c).Start) a.holder.now a.shares.now a.budget (starts (goal.at.cap_from-cap-requires c).Start);
+      count_bound = longest-few a.k a.tolerance a.ids.now a.weights.now (list (goal.at.cap_from-cap-requires c).Start) a.holder.now a.shares.now a.budget
+          (starts (goal.at.cap_from-cap-requires c).Start);
     }
 
 pub overflow_sub-last : goal.overflow_sub-last
@@ -79,7 +80,13 @@ pub offset_bounds-list-last : goal.offset_bounds-list-last
 offset_bounds-list-last c = omega (arith, few (goal.at.offset_bounds-list-last c).Start)
 
 pub bounds-list-last : goal.bounds-list-last
-bounds-list-last c = omega (arith, few (goal.at.bounds-list-last c).Start, some (goal.at.bounds-list-last c).Start, rules-long (goal.at.bounds-list-last c).Start)
+bounds-list-last c = omega (
+  arith,
+  few (goal.at.bounds-list-last c).Start,
+  some (goal.at.bounds-list-last c).Start,
+  rules-long
+      (goal.at.bounds-list-last c).Start,
+)
 
 -- the start
 module _ (c : After-cap_from-cap) where
@@ -90,14 +97,28 @@ module _ (c : After-cap_from-cap) where
   here P = subst (λ (x : ℕ). P (G x)) (sym c.cap_from-cap.ensures)
 
 pub begin-state-requires : goal.begin-state-requires
-begin-state-requires c =
-    (c.args.ids.now, kept (goal.at.begin-state-requires c).Start, (here (goal.at.begin-state-requires c).After-cap_from-cap Fits (fitting (goal.at.begin-state-requires c).Start), here (goal.at.begin-state-requires c).After-cap_from-cap (λ E. Shared E c.args.shares.now) (sharing (goal.at.begin-state-requires c).Start)))
+begin-state-requires c = (
+  c.args.ids.now,
+  kept (goal.at.begin-state-requires c).Start,
+  (
+    here (goal.at.begin-state-requires c).After-cap_from-cap Fits
+        (fitting (goal.at.begin-state-requires c).Start),
+    here (goal.at.begin-state-requires c).After-cap_from-cap (λ E. Shared E c.args.shares.now)
+        (sharing (goal.at.begin-state-requires c).Start),
+  ),
+)
 
 pub offset_bounds-list-last-2 : goal.offset_bounds-list-last-2
 offset_bounds-list-last-2 c = omega (arith, few (goal.at.offset_bounds-list-last-2 c).Start)
 
 pub bounds-list-last-2 : goal.bounds-list-last-2
-bounds-list-last-2 c = omega (arith, few (goal.at.bounds-list-last-2 c).Start, some (goal.at.bounds-list-last-2 c).Start, stairs-long (goal.at.bounds-list-last-2 c).Start)
+bounds-list-last-2 c = omega (
+  arith,
+  few (goal.at.bounds-list-last-2 c).Start,
+  some (goal.at.bounds-list-last-2 c).Start,
+  stairs-long
+      (goal.at.bounds-list-last-2 c).Start,
+)
 
 -- state and list at the start
 module _ (c : After-begin-state) where
@@ -113,7 +134,8 @@ module _ (c : After-begin-state) where
   stands : Stands (G (goal.at.After-begin-state c).After-cap_from-cap c.cap_from-cap.result) 0 s.args.holder.now no_lows begun
   stands =
       c.begin-state.ensures.stands s.args.ids.now (kept s) s.args.holder.now no_lows (here (goal.at.After-begin-state c).After-cap_from-cap Fits (fitting s))
-      (here (goal.at.After-begin-state c).After-cap_from-cap (λ E. Shared E s.args.shares.now) (sharing s)) (holding s) (starts s).held.wide (length-replicate {A = ℕ} most_known 0)
+      (here (goal.at.After-begin-state c).After-cap_from-cap (λ E. Shared E s.args.shares.now) (sharing s)) (holding s) (starts s).held.wide
+      (length-replicate {A = ℕ} most_known 0)
 
   listing : Listed (G (goal.at.After-begin-state c).After-cap_from-cap c.cap_from-cap.result) 0 full
   unfolding after
@@ -126,7 +148,16 @@ pub go_on-requires : goal.go_on-requires
 go_on-requires c =
     let a = s (goal.at.go_on-requires c).After-begin-state in
     record {
-      by_index = (c.cap_from-cap.result, 0, kept a, (stands (goal.at.go_on-requires c).After-begin-state, listing (goal.at.go_on-requires c).After-begin-state));
+      by_index = (
+        c.cap_from-cap.result,
+        0,
+        kept a,
+        (
+          stands (goal.at.go_on-requires c).After-begin-state,
+          listing
+              (goal.at.go_on-requires c).After-begin-state,
+        ),
+      );
       count_le_budget = ((starts a).within, ((starts a).few, a.requires.1));
     }
 
@@ -139,7 +170,8 @@ returns c =
     let Q : Frame → Type 0 = λ E.
     Made E a.args.budget run × (SharesKept E.targets (list_of E a.args.budget) (list a).count (begun (goal.at.returns c).After-begin-state).ledger run.kept
     × Holds E.targets (list_of E a.args.budget) c.go_on.new.holder low) in
-    let made : Q (G (goal.at.returns c).After-cap_from-cap c.cap_from-cap.result) = c.go_on.ensures c.cap_from-cap.result 0 (kept a) (stands (goal.at.returns c).After-begin-state) (listing (goal.at.returns c).After-begin-state) in
+    let made : Q (G (goal.at.returns c).After-cap_from-cap c.cap_from-cap.result) = c.go_on.ensures c.cap_from-cap.result 0 (kept a)
+    (stands (goal.at.returns c).After-begin-state) (listing (goal.at.returns c).After-begin-state) in
     let r : Q (F a) = subst (λ (x : ℕ). Q (G (goal.at.returns c).After-cap_from-cap x)) c.cap_from-cap.ensures made in
     record {
       made = r.0;

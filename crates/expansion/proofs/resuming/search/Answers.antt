@@ -63,14 +63,18 @@ module _ (q : After-rule_at-star) where
   star-known =
       let e : length (cs (goal.at.After-rule_at-star q).Start) / 3 - 1 - 0 ≡ length (cs (goal.at.After-rule_at-star q).Start) / 3 - 1 = omega arith in
       subst (Known q.args.k (ids (goal.at.After-rule_at-star q).Start)) (ap (rule_at (cs (goal.at.After-rule_at-star q).Start)) e ∙ sym q.rule_at-star.ensures)
-      (next_known q.args.k (ids (goal.at.After-rule_at-star q).Start) (cs (goal.at.After-rule_at-star q).Start) (proper (goal.at.After-rule_at-star q).Start) 0 (proper (goal.at.After-rule_at-star q).Start).some)
+      (next_known q.args.k (ids (goal.at.After-rule_at-star q).Start) (cs (goal.at.After-rule_at-star q).Start) (proper (goal.at.After-rule_at-star q).Start)
+      0 (proper (goal.at.After-rule_at-star q).Start).some)
 
 -- the place of its backend
 star-placed : (c : After-place_of-first)
     → Placed c.args.k (ids (goal.at.After-place_of-first c).Start) (star (goal.at.After-place_of-first c).After-rule_at-star) c.place_of-first.result
 star-placed c =
-    subst (Placed c.args.k (ids (goal.at.After-place_of-first c).Start) (star (goal.at.After-place_of-first c).After-rule_at-star)) (sym (c.place_of-first.ensures ∙ ap (place_in (star (goal.at.After-place_of-first c).After-rule_at-star).backend) (take-length (ids (goal.at.After-place_of-first c).Start))))
-    (placed (ids (goal.at.After-place_of-first c).Start) (ascending (goal.at.After-place_of-first c).Start) c.args.k (star (goal.at.After-place_of-first c).After-rule_at-star) (star-known (goal.at.After-place_of-first c).After-rule_at-star))
+    subst (Placed c.args.k (ids (goal.at.After-place_of-first c).Start) (star (goal.at.After-place_of-first c).After-rule_at-star))
+    (sym (c.place_of-first.ensures ∙ ap (place_in (star (goal.at.After-place_of-first c).After-rule_at-star).backend)
+    (take-length (ids (goal.at.After-place_of-first c).Start))))
+    (placed (ids (goal.at.After-place_of-first c).Start) (ascending (goal.at.After-place_of-first c).Start) c.args.k
+    (star (goal.at.After-place_of-first c).After-rule_at-star) (star-known (goal.at.After-place_of-first c).After-rule_at-star))
 
 last : (c : After-place_of-first) → c.place_of-first.result < most_known
 last c = omega (arith, (star-placed c).inside, (ascending (goal.at.After-place_of-first c).Start).few)
@@ -90,15 +94,25 @@ bounds-shares-first c = last c
 pub lay_all-laid-requires : goal.lay_all-laid-requires
 lay_all-laid-requires c =
     record {
-      k_le_most_bits = ((valid (goal.at.lay_all-laid-requires c).Start).few_bits, (ascending (goal.at.lay_all-laid-requires c).Start, (proper (goal.at.lay_all-laid-requires c).Start, c.all_places-places.ensures)));
+      k_le_most_bits = (
+        (valid (goal.at.lay_all-laid-requires c).Start).few_bits,
+        (
+          ascending (goal.at.lay_all-laid-requires c).Start,
+          (proper (goal.at.lay_all-laid-requires c).Start, c.all_places-places.ensures),
+        ),
+      );
       held = rw (shifted c.args.k (valid (goal.at.lay_all-laid-requires c).Start).few_bits)
-          (held_first c.args.k (ids (goal.at.lay_all-laid-requires c).Start) (cs (goal.at.lay_all-laid-requires c).Start) (valid (goal.at.lay_all-laid-requires c).Start).few_bits (ascending (goal.at.lay_all-laid-requires c).Start) (proper (goal.at.lay_all-laid-requires c).Start) (star (goal.at.lay_all-laid-requires c).After-rule_at-star) c.rule_at-star.ensures c.place_of-first.result
+          (held_first c.args.k (ids (goal.at.lay_all-laid-requires c).Start) (cs (goal.at.lay_all-laid-requires c).Start)
+          (valid (goal.at.lay_all-laid-requires c).Start).few_bits (ascending (goal.at.lay_all-laid-requires c).Start)
+          (proper (goal.at.lay_all-laid-requires c).Start) (star (goal.at.lay_all-laid-requires c).After-rule_at-star) c.rule_at-star.ensures
+          c.place_of-first.result
           (star-placed (goal.at.lay_all-laid-requires c).After-place_of-first));
     }
 
 pub loop-best-init : goal.loop-best-init
 loop-best-init c =
-    searched-none c.args.k c.args.tolerance (ids (goal.at.loop-best-init c).Start) (ws (goal.at.loop-best-init c).Start) (cs (goal.at.loop-best-init c).Start) (proper (goal.at.loop-best-init c).Start) c.lay_all-laid.new.holder c.lay_all-laid.new.shares c.lay_all-laid.result.list
+    searched-none c.args.k c.args.tolerance (ids (goal.at.loop-best-init c).Start) (ws (goal.at.loop-best-init c).Start) (cs (goal.at.loop-best-init c).Start)
+    (proper (goal.at.loop-best-init c).Start) c.lay_all-laid.new.holder c.lay_all-laid.new.shares c.lay_all-laid.result.list
     c.lay_all-laid.result.had c.lay_all-laid.ensures.count c.lay_all-laid.ensures.laid c.none_of-best.result c.none_of-best.ensures
 
 -- where the loop has come to
@@ -110,13 +124,16 @@ module _ (l : At-loop-best) where
   whole = l.lay_all-laid.new.holder
 
   abbrev here :
-      Searched l.args.k l.args.tolerance (ids (goal.at.At-loop-best l).Start) (ws (goal.at.At-loop-best l).Start) (cs (goal.at.At-loop-best l).Start) whole l.loop-best.holder l.loop-best.shares l.loop-best.list had
+      Searched l.args.k l.args.tolerance (ids (goal.at.At-loop-best l).Start) (ws (goal.at.At-loop-best l).Start) (cs (goal.at.At-loop-best l).Start) whole
+      l.loop-best.holder l.loop-best.shares l.loop-best.list had
       l.loop-best.best
   here = l.loop-best.invariant
 
-  starting : Starts l.args.k l.args.tolerance (ids (goal.at.At-loop-best l).Start) (ws (goal.at.At-loop-best l).Start) l.loop-best.list l.loop-best.holder l.loop-best.shares (length (cs (goal.at.At-loop-best l).Start) / 3)
+  starting : Starts l.args.k l.args.tolerance (ids (goal.at.At-loop-best l).Start) (ws (goal.at.At-loop-best l).Start) l.loop-best.list l.loop-best.holder
+      l.loop-best.shares (length (cs (goal.at.At-loop-best l).Start) / 3)
   starting =
-      starts-at l.args.k l.args.tolerance (ids (goal.at.At-loop-best l).Start) (ws (goal.at.At-loop-best l).Start) (cs (goal.at.At-loop-best l).Start) (valid (goal.at.At-loop-best l).Start) (proper (goal.at.At-loop-best l).Start) l.loop-best.holder l.loop-best.shares
+      starts-at l.args.k l.args.tolerance (ids (goal.at.At-loop-best l).Start) (ws (goal.at.At-loop-best l).Start) (cs (goal.at.At-loop-best l).Start)
+      (valid (goal.at.At-loop-best l).Start) (proper (goal.at.At-loop-best l).Start) l.loop-best.holder l.loop-best.shares
       l.loop-best.list had here.laid
 
   abbrev places-are : Places most_bits l.all_places-places.result
@@ -145,7 +162,8 @@ overflow_sub-left c = (here (goal.at.overflow_sub-left c).At-loop-best).laid.som
 module _ (b : Joined-is_better) where
   abbrev Next : Attempt → Type 0
   Next =
-      BestAbove (labelled_by b.args.k (ids (goal.at.Joined-is_better b).Start) (ws (goal.at.Joined-is_better b).Start)) b.args.tolerance (rules_from (cs (goal.at.Joined-is_better b).Start)) (b.loop-best.list.count - 1)
+      BestAbove (labelled_by b.args.k (ids (goal.at.Joined-is_better b).Start) (ws (goal.at.Joined-is_better b).Start)) b.args.tolerance
+      (rules_from (cs (goal.at.Joined-is_better b).Start)) (b.loop-best.list.count - 1)
 
   best-now : Next b.if-is_better.best
   best-now =
@@ -154,14 +172,18 @@ module _ (b : Joined-is_better) where
       let R = rules_from (cs (goal.at.Joined-is_better b).Start) in
       let t = b.try_kept-tried in
       let laid = (here (goal.at.Joined-is_better b).At-loop-best).laid in
-      let M = tried_here b.args.k b.args.tolerance (ids (goal.at.Joined-is_better b).Start) (ws (goal.at.Joined-is_better b).Start) (cs (goal.at.Joined-is_better b).Start) (valid (goal.at.Joined-is_better b).Start) (proper (goal.at.Joined-is_better b).Start) l.holder l.shares l.list (had (goal.at.Joined-is_better b).At-loop-best) laid
+      let M = tried_here b.args.k b.args.tolerance (ids (goal.at.Joined-is_better b).Start) (ws (goal.at.Joined-is_better b).Start)
+      (cs (goal.at.Joined-is_better b).Start) (valid (goal.at.Joined-is_better b).Start) (proper (goal.at.Joined-is_better b).Start) l.holder l.shares
+      l.list (had (goal.at.Joined-is_better b).At-loop-best) laid
       t.result (t.ensures R (here (goal.at.Joined-is_better b).At-loop-best).full.0 (here (goal.at.Joined-is_better b).At-loop-best).full.1) in
       let j = b.is_better in
       elim b.if-is_better.branch [
         | then-is_better w ↦ subst Next (sym w.best-is)
-            (best-taken T b.args.tolerance R l.list.count laid.some laid.inside l.best t.result (here (goal.at.Joined-is_better b).At-loop-best).above M j.result j.ensures w.if-is_better.true)
+            (best-taken T b.args.tolerance R l.list.count laid.some laid.inside l.best t.result (here (goal.at.Joined-is_better b).At-loop-best).above M
+            j.result j.ensures w.if-is_better.true)
         | else-is_better w ↦ subst Next (sym w.best-is)
-            (best-stays T b.args.tolerance R l.list.count laid.some laid.inside l.best t.result (here (goal.at.Joined-is_better b).At-loop-best).above M j.result j.ensures w.if-is_better.false)
+            (best-stays T b.args.tolerance R l.list.count laid.some laid.inside l.best t.result (here (goal.at.Joined-is_better b).At-loop-best).above M
+            j.result j.ensures w.if-is_better.false)
       ]
 
 pub returns-then-best-eq0 : goal.returns-then-best-eq0
@@ -180,7 +202,12 @@ pub offset_bounds-list-left : goal.offset_bounds-list-left
 offset_bounds-list-left c = omega (arith, few (goal.at.offset_bounds-list-left c).At-loop-best)
 
 pub bounds-list-left : goal.bounds-list-left
-bounds-list-left c = omega (arith, few (goal.at.bounds-list-left c).At-loop-best, (here (goal.at.bounds-list-left c).At-loop-best).laid.some, (here (goal.at.bounds-list-left c).At-loop-best).laid.long.0)
+bounds-list-left c = omega (
+  arith,
+  few (goal.at.bounds-list-left c).At-loop-best,
+  (here (goal.at.bounds-list-left c).At-loop-best).laid.some,
+  (here (goal.at.bounds-list-left c).At-loop-best).laid.long.0,
+)
 
 pub slice_bounds-take_back-end : goal.slice_bounds-take_back-end
 slice_bounds-take_back-end c = sym (here (goal.at.slice_bounds-take_back-end c).At-loop-best).laid.held.wide
@@ -196,7 +223,12 @@ offset_bounds-had-left c = omega (arith, few (goal.at.offset_bounds-had-left c).
 
 pub bounds-had-left : goal.bounds-had-left
 bounds-had-left c =
-    omega (arith, few (goal.at.bounds-had-left c).At-loop-best, (here (goal.at.bounds-had-left c).At-loop-best).laid.some, (here (goal.at.bounds-had-left c).At-loop-best).laid.long.1)
+    omega (
+      arith,
+      few (goal.at.bounds-had-left c).At-loop-best,
+      (here (goal.at.bounds-had-left c).At-loop-best).laid.some,
+      (here (goal.at.bounds-had-left c).At-loop-best).laid.long.1,
+    )
 
 -- a rule that is taken back, where another is left
 module _ (l : At-loop-best) (more : l.loop-best.list.count - 1 ≢ 0) where
@@ -239,7 +271,18 @@ pub take_back-requires : goal.take_back-requires
 take_back-requires c =
     let more = c.if-left-eq0.false in
     record {
-      by_index = (ids (goal.at.take_back-requires c).Start, rs (goal.at.take_back-requires c).At-loop-best more, (ascending (goal.at.take_back-requires c).Start, (held (goal.at.take_back-requires c).At-loop-best more, before (goal.at.take_back-requires c).At-loop-best more)));
+      by_index = (
+        ids (goal.at.take_back-requires c).Start,
+        rs (goal.at.take_back-requires c).At-loop-best more,
+        (
+          ascending (goal.at.take_back-requires c).Start,
+          (
+            held (goal.at.take_back-requires c).At-loop-best more,
+            before
+                (goal.at.take_back-requires c).At-loop-best more,
+          ),
+        ),
+      );
       k_le_most_bits = (
         (valid (goal.at.take_back-requires c).Start).few_bits,
         ((newest-known (goal.at.take_back-requires c).At-loop-best more).rule, places-are (goal.at.take_back-requires c).At-loop-best),
@@ -257,10 +300,12 @@ loop-best-preserved c =
     let s = (goal.at.loop-best-preserved c).Start in
     let h' = c.take_back.new.holder in
     let s' = c.take_back.new.shares in
-    let less = c.take_back.ensures (ids s) (rs (goal.at.loop-best-preserved c).At-loop-best more) (ascending s) (held (goal.at.loop-best-preserved c).At-loop-best more) (before (goal.at.loop-best-preserved c).At-loop-best more) in
+    let less = c.take_back.ensures (ids s) (rs (goal.at.loop-best-preserved c).At-loop-best more) (ascending s)
+    (held (goal.at.loop-best-preserved c).At-loop-best more) (before (goal.at.loop-best-preserved c).At-loop-best more) in
     record {
       laid =
-          laid-less s.args.k (ids s) (cs s) (proper s) (o.list.count - 1) o.holder o.shares o.list.rules (had (goal.at.loop-best-preserved c).At-loop-best) h' s' (laid (goal.at.loop-best-preserved c).At-loop-best more)
+          laid-less s.args.k (ids s) (cs s) (proper s) (o.list.count - 1) o.holder o.shares o.list.rules (had (goal.at.loop-best-preserved c).At-loop-best) h'
+          s' (laid (goal.at.loop-best-preserved c).At-loop-best more)
           (some (goal.at.loop-best-preserved c).At-loop-best more) less;
       full = (here (goal.at.loop-best-preserved c).At-loop-best).full;
       above = best-now (goal.at.loop-best-preserved c).Joined-is_better;

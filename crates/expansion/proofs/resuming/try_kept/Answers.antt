@@ -45,14 +45,16 @@ is_hopeless-requires c =
         (S.valid.few_bits, (S.valid.tolerable, omega (arith, S.few))),
         (S.valid.few, omega (arith, S.valid.few, S.held.long)),
       );
-      by_index = small a.k a.tolerance (ids (goal.at.is_hopeless-requires c).Start) (ws (goal.at.is_hopeless-requires c).Start) a.list a.holder a.shares.now a.budget S;
+      by_index = small a.k a.tolerance (ids (goal.at.is_hopeless-requires c).Start) (ws (goal.at.is_hopeless-requires c).Start) a.list a.holder a.shares.now
+          a.budget S;
     }
 
 pub returns-then-is_hopeless : goal.returns-then-is_hopeless
 returns-then-is_hopeless c =
     let a = c.args in
     λ old held H.
-    tried-hopeless a.k a.tolerance (ids (goal.at.returns-then-is_hopeless c).Start) (ws (goal.at.returns-then-is_hopeless c).Start) a.list a.holder a.shares.now a.budget (starts (goal.at.returns-then-is_hopeless c).Start)
+    tried-hopeless a.k a.tolerance (ids (goal.at.returns-then-is_hopeless c).Start) (ws (goal.at.returns-then-is_hopeless c).Start) a.list a.holder
+    a.shares.now a.budget (starts (goal.at.returns-then-is_hopeless c).Start)
     (sym c.is_hopeless.ensures ∙ c.if-is_hopeless.true) old c.none_of.result c.none_of.ensures
 
 pub run_kept-run-requires : goal.run_kept-run-requires
@@ -71,32 +73,39 @@ module _ (r : After-run_kept-run) where
   abbrev new : List Rule
   new = list_of (F (goal.at.After-run_kept-run r).Start) r.args.budget
 
-  holds : (low : List ℕ) × Holds (labelled_by r.args.k (ids (goal.at.After-run_kept-run r).Start) (ws (goal.at.After-run_kept-run r).Start)) new r.run_kept-run.new.holder low
+  holds : (low : List ℕ) × Holds (labelled_by r.args.k (ids (goal.at.After-run_kept-run r).Start) (ws (goal.at.After-run_kept-run r).Start)) new
+      r.run_kept-run.new.holder low
   unfolding frame_from
   holds = r.run_kept-run.ensures.holds
 
   stopped : r.run_kept-run.result.ended ≢ Within → (none : Attempt) → none ≡ record { kept = 0; churn = 0; list = r.args.list } → Told none
   stopped d none is old held H =
       let a = r.args in
-      tried_other a.k a.tolerance (ids (goal.at.After-run_kept-run r).Start) (ws (goal.at.After-run_kept-run r).Start) a.list a.holder a.shares.now a.budget (starts (goal.at.After-run_kept-run r).Start)
+      tried_other a.k a.tolerance (ids (goal.at.After-run_kept-run r).Start) (ws (goal.at.After-run_kept-run r).Start) a.list a.holder a.shares.now a.budget
+      (starts (goal.at.After-run_kept-run r).Start)
       r.run_kept-run.result r.run_kept-run.ensures.made old d none is
 
 pub returns-in-Within : goal.returns-in-Within
 returns-in-Within c =
     let a = c.args in
     λ old held H.
-    tried-within a.k a.tolerance (ids (goal.at.returns-in-Within c).Start) (ws (goal.at.returns-in-Within c).Start) a.list a.holder a.shares.now a.budget (starts (goal.at.returns-in-Within c).Start) c.run_kept-run.result
+    tried-within a.k a.tolerance (ids (goal.at.returns-in-Within c).Start) (ws (goal.at.returns-in-Within c).Start) a.list a.holder a.shares.now a.budget
+    (starts (goal.at.returns-in-Within c).Start) c.run_kept-run.result
     c.run_kept-run.ensures.made old c.in-Within.is c.count_unlike-churn.result
     (c.count_unlike-churn.ensures
-    ∙ unlike-churn a.k a.tolerance (ids (goal.at.returns-in-Within c).Start) (ws (goal.at.returns-in-Within c).Start) (starts (goal.at.returns-in-Within c).Start).valid old (new (goal.at.returns-in-Within c).After-run_kept-run) a.whole.now held c.run_kept-run.new.holder (holds (goal.at.returns-in-Within c).After-run_kept-run).0 H
+    ∙ unlike-churn a.k a.tolerance (ids (goal.at.returns-in-Within c).Start) (ws (goal.at.returns-in-Within c).Start)
+    (starts (goal.at.returns-in-Within c).Start).valid old (new (goal.at.returns-in-Within c).After-run_kept-run) a.whole.now held
+    c.run_kept-run.new.holder (holds (goal.at.returns-in-Within c).After-run_kept-run).0 H
     (holds (goal.at.returns-in-Within c).After-run_kept-run).1)
 
 pub returns-in-NoGain : goal.returns-in-NoGain
 returns-in-NoGain c =
-    stopped (goal.at.returns-in-NoGain c).After-run_kept-run (λ e. absurd (let z : ◌≡◌ {A = ℕ} 0 1 = let y = c.in-NoGain.is in cc in omega arith)) c.none_of-in-NoGain.result
+    stopped (goal.at.returns-in-NoGain c).After-run_kept-run (λ e. absurd (let z : ◌≡◌ {A = ℕ} 0 1 = let y = c.in-NoGain.is in cc in omega arith))
+    c.none_of-in-NoGain.result
     c.none_of-in-NoGain.ensures
 
 pub returns-in-Budget : goal.returns-in-Budget
 returns-in-Budget c =
-    stopped (goal.at.returns-in-Budget c).After-run_kept-run (λ e. absurd (let z : ◌≡◌ {A = ℕ} 0 1 = let y = c.in-Budget.is in cc in omega arith)) c.none_of-in-Budget.result
+    stopped (goal.at.returns-in-Budget c).After-run_kept-run (λ e. absurd (let z : ◌≡◌ {A = ℕ} 0 1 = let y = c.in-Budget.is in cc in omega arith))
+    c.none_of-in-Budget.result
     c.none_of-in-Budget.ensures

@@ -67,7 +67,11 @@ module _ (s : Start) where
       (omega arith) (pow-few s.args.m.index low)
 
 pub offset_bounds-labels-receiver : goal.offset_bounds-labels-receiver
-offset_bounds-labels-receiver c = omega (arith, (feasible (goal.at.offset_bounds-labels-receiver c).Start).receiver, (fits (goal.at.offset_bounds-labels-receiver c).Start).few)
+offset_bounds-labels-receiver c = omega (
+  arith,
+  (feasible (goal.at.offset_bounds-labels-receiver c).Start).receiver,
+  (fits (goal.at.offset_bounds-labels-receiver c).Start).few,
+)
 
 pub bounds-labels-receiver : goal.bounds-labels-receiver
 unfolding backends
@@ -107,7 +111,8 @@ moved-small : (c : After-moved-ledger) (b : ℕ) → b < length c.args.weights.n
 unfolding backends
 moved-small c =
     let rs = after (F (goal.at.After-moved-ledger c).Start) (x (goal.at.After-moved-ledger c).Start) in
-    small (F (goal.at.After-moved-ledger c).Start) (fits (goal.at.After-moved-ledger c).Start) (new_rule (F (goal.at.After-moved-ledger c).Start) rs ∷ rs) c.moved-ledger.result ((feasible (goal.at.After-moved-ledger c).Start).moved c.moved-ledger.result (moved_at c))
+    small (F (goal.at.After-moved-ledger c).Start) (fits (goal.at.After-moved-ledger c).Start) (new_rule (F (goal.at.After-moved-ledger c).Start) rs ∷ rs)
+    c.moved-ledger.result ((feasible (goal.at.After-moved-ledger c).Start).moved c.moved-ledger.result (moved_at c))
 
 pub survey_of-seen-requires : goal.survey_of-seen-requires
 survey_of-seen-requires c =
@@ -122,8 +127,16 @@ overflow_sub-result c = omega (arith, (feasible (goal.at.overflow_sub-result c).
 pub decide-requires : goal.decide-requires
 decide-requires c =
     record {
-      k_le_most_bits = ((fits (goal.at.decide-requires c).Start).few_bits, ((fits (goal.at.decide-requires c).Start).tolerable, low (goal.at.decide-requires c).Start));
-      sized = surveyed-sized c.moved-ledger.result (length c.args.weights.now) c.survey_of-seen.result c.survey_of-seen.ensures (some (goal.at.decide-requires c).Start) (moved-small (goal.at.decide-requires c).After-moved-ledger);
+      k_le_most_bits = (
+        (fits (goal.at.decide-requires c).Start).few_bits,
+        (
+          (fits (goal.at.decide-requires c).Start).tolerable,
+          low
+              (goal.at.decide-requires c).Start,
+        ),
+      );
+      sized = surveyed-sized c.moved-ledger.result (length c.args.weights.now) c.survey_of-seen.result c.survey_of-seen.ensures
+          (some (goal.at.decide-requires c).Start) (moved-small (goal.at.decide-requires c).After-moved-ledger);
     }
 
 -- in each frame that the state stands in
@@ -141,7 +154,8 @@ module _ (c : After-decide) (cap y : ℕ) (start : List Rule) where
         let a = z.args in
         let next = surveyed-next c.moved-ledger.result (length a.weights.now) c.survey_of-seen.result c.survey_of-seen.ensures a.k a.tolerance cap in
         let falls : (o : Move) → next_for c.survey_of-seen.result.give c.survey_of-seen.result.take a.k a.tolerance cap ≡ Go o → o.index ≤ a.m.index =
-        λ o h. index-falls E y a.holder.now a.low.now a.state T a.m z.requires.places.1 c.moved-ledger.result (moved_at (goal.at.After-decide c).After-moved-ledger) o (sym next ∙ h) in
+        λ o h. index-falls E y a.holder.now a.low.now a.state T a.m z.requires.places.1 c.moved-ledger.result
+        (moved_at (goal.at.After-decide c).After-moved-ledger) o (sym next ∙ h) in
         let less : a.m.index ≤ cap = (feasible-go E y a.holder.now a.low.now a.state T a.m z.requires.places.1).index in
         c.decide.ensures ∙ next-fewer c.survey_of-seen.result.give c.survey_of-seen.result.take a.k a.tolerance cap a.m.index less falls ∙ next
 
@@ -159,5 +173,6 @@ returns c =
           c.survey_of-seen.result.imbalance c.survey_of-seen.ensures.imbalance
           c.decide.result (next-is c cap y start T) rule,
       adds,
-      kept-go (at (goal.at.returns c).Start cap start) y a.holder.now a.low.now a.state T a.m c.requires.places.1 c.moved-ledger.result (moved_at (goal.at.returns c).After-moved-ledger) rule adds,
+      kept-go (at (goal.at.returns c).Start cap start) y a.holder.now a.low.now a.state T a.m c.requires.places.1 c.moved-ledger.result
+          (moved_at (goal.at.returns c).After-moved-ledger) rule adds,
     )

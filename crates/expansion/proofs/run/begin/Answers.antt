@@ -44,14 +44,17 @@ opened-ledger-requires c =
     }
 
 module _ (c : After-opened-ledger) where
-  keeps : (labels : List ℕ) (start : List Rule) → Fits (at (goal.at.After-opened-ledger c).Start labels start) → Shared (at (goal.at.After-opened-ledger c).Start labels start) c.args.shares.now
+  keeps : (labels : List ℕ) (start : List Rule) → Fits (at (goal.at.After-opened-ledger c).Start labels start) → Shared
+      (at (goal.at.After-opened-ledger c).Start labels start) c.args.shares.now
       → Keeps (at (goal.at.After-opened-ledger c).Start labels start).targets start c.opened-ledger.result
   unfolding backends weight
-  keeps labels start fits shared = keeps-start (at (goal.at.After-opened-ledger c).Start labels start) fits c.args.shares.now shared c.opened-ledger.result c.opened-ledger.ensures
+  keeps labels start fits shared = keeps-start (at (goal.at.After-opened-ledger c).Start labels start) fits c.args.shares.now shared c.opened-ledger.result
+      c.opened-ledger.ensures
 
   smalls : (b : ℕ) → b < length c.args.weights.now → Small (error_at c.opened-ledger.result b)
   unfolding backends
-  smalls = small (frame (goal.at.After-opened-ledger c).Start) c.requires.2.0 c.requires.1 c.opened-ledger.result (keeps c.requires.0 c.requires.1 c.requires.2.0 c.requires.2.1)
+  smalls = small (frame (goal.at.After-opened-ledger c).Start) c.requires.2.0 c.requires.1 c.opened-ledger.result
+      (keeps c.requires.0 c.requires.1 c.requires.2.0 c.requires.2.1)
 
   some : 0 < length c.args.weights.now
   unfolding backends
@@ -70,7 +73,8 @@ decide-requires c =
     let f = c.requires.2.0 in
     record {
       k_le_most_bits = (f.few_bits, (f.tolerable, omega (arith, f.few_bits, f.sound.below)));
-      sized = surveyed-sized c.opened-ledger.result (length c.args.weights.now) c.survey_of-seen.result c.survey_of-seen.ensures (some (goal.at.decide-requires c).After-opened-ledger) (smalls (goal.at.decide-requires c).After-opened-ledger);
+      sized = surveyed-sized c.opened-ledger.result (length c.args.weights.now) c.survey_of-seen.result c.survey_of-seen.ensures
+          (some (goal.at.decide-requires c).After-opened-ledger) (smalls (goal.at.decide-requires c).After-opened-ledger);
     }
 
 next-is : (c : After-decide)
@@ -86,7 +90,8 @@ unfolding backends
 returns c =
     record {
       stands = λ labels start holder low fits shared H l m.
-          stands-start (at (goal.at.returns c).Start labels start) fits c.opened-ledger.result (keeps (goal.at.returns c).After-opened-ledger labels start fits shared) holder low H l m
+          stands-start (at (goal.at.returns c).Start labels start) fits c.opened-ledger.result
+          (keeps (goal.at.returns c).After-opened-ledger labels start fits shared) holder low H l m
           c.survey_of-seen.result.imbalance c.survey_of-seen.ensures.imbalance
           c.decide.result (next-is c) c.args.newest;
       newest = refl;

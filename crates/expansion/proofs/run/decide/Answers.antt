@@ -81,14 +81,19 @@ overflow_cast-slack c = rw (shifted c.args.k (omega arith)) (record { sfits = om
 
 pub returns-then-u-slack : goal.returns-then-u-slack
 returns-then-u-slack c =
-    sym (next-within (goal.at.returns-then-u-slack c).Start (sym (o-test (goal.at.returns-then-u-slack c).Start) ∙ c.if-o-slack.true) (sym (u-test (goal.at.returns-then-u-slack c).Start) ∙ c.if-u-slack.true))
+    sym (next-within (goal.at.returns-then-u-slack c).Start (sym (o-test (goal.at.returns-then-u-slack c).Start) ∙ c.if-o-slack.true)
+    (sym (u-test (goal.at.returns-then-u-slack c).Start) ∙ c.if-u-slack.true))
 
 module _ (c : After-best_term-term) where
-  not_within : both (leb (o (goal.at.After-best_term-term c).Start) (slack (goal.at.After-best_term-term c).Start)) (leb (u (goal.at.After-best_term-term c).Start) (slack (goal.at.After-best_term-term c).Start)) ≡ false
+  not_within : both (leb (o (goal.at.After-best_term-term c).Start) (slack (goal.at.After-best_term-term c).Start))
+      (leb (u (goal.at.After-best_term-term c).Start) (slack (goal.at.After-best_term-term c).Start)) ≡ false
   not_within =
       elim c.if-o-slack.branch [
-        | then-o-slack+else-u-slack w ↦ ap (λ (t : Bool). both (leb (o (goal.at.After-best_term-term c).Start) (slack (goal.at.After-best_term-term c).Start)) t) (sym (u-test (goal.at.After-best_term-term c).Start) ∙ w.if-u-slack.false) ∙ none (leb (o (goal.at.After-best_term-term c).Start) (slack (goal.at.After-best_term-term c).Start))
-        | else-o-slack w ↦ ap (λ (t : Bool). both t (leb (u (goal.at.After-best_term-term c).Start) (slack (goal.at.After-best_term-term c).Start))) (sym (o-test (goal.at.After-best_term-term c).Start) ∙ w.if-o-slack.false)
+        | then-o-slack+else-u-slack w ↦ ap (λ (t : Bool). both (leb (o (goal.at.After-best_term-term c).Start) (slack (goal.at.After-best_term-term c).Start))
+            t) (sym (u-test (goal.at.After-best_term-term c).Start) ∙ w.if-u-slack.false) ∙ none
+            (leb (o (goal.at.After-best_term-term c).Start) (slack (goal.at.After-best_term-term c).Start))
+        | else-o-slack w ↦ ap (λ (t : Bool). both t (leb (u (goal.at.After-best_term-term c).Start) (slack (goal.at.After-best_term-term c).Start)))
+            (sym (o-test (goal.at.After-best_term-term c).Start) ∙ w.if-o-slack.false)
       ]
     where
       none : (t : Bool) → both t false ≡ false
@@ -103,12 +108,20 @@ module _ (c : After-best_term-term) where
       (ap over (read c.args.give c.requires.sized.0))
       c.best_term-term.ensures)
 
-  gain-is : to_z w64 (of_z w64 c.best_term-term.result.reduction) ≡ pos (gain (goal.at.After-best_term-term c).Start (index (goal.at.After-best_term-term c).Start))
+  gain-is : to_z w64 (of_z w64 c.best_term-term.result.reduction) ≡ pos (gain (goal.at.After-best_term-term c).Start
+      (index (goal.at.After-best_term-term c).Start))
   gain-is =
       ap (λ (x : ℤ). to_z w64 (of_z w64 x)) (best.gain ∙ ap (λ (i : ℕ). pos (gain (goal.at.After-best_term-term c).Start i)) best.index)
-      ∙ back (pos (gain (goal.at.After-best_term-term c).Start (index (goal.at.After-best_term-term c).Start))) (omega (arith, reduction-le (u (goal.at.After-best_term-term c).Start) (o (goal.at.After-best_term-term c).Start) (2 ^ index (goal.at.After-best_term-term c).Start * unit), c.requires.sized.1.few))
+      ∙ back (pos (gain (goal.at.After-best_term-term c).Start (index (goal.at.After-best_term-term c).Start)))
+      (omega (
+        arith,
+        reduction-le (u (goal.at.After-best_term-term c).Start) (o (goal.at.After-best_term-term c).Start)
+            (2 ^ index (goal.at.After-best_term-term c).Start * unit),
+        c.requires.sized.1.few,
+      ))
 
-  gain-test : le_z (to_z w64 (of_z w64 c.best_term-term.result.reduction)) (pos 0) ≡ leb (gain (goal.at.After-best_term-term c).Start (index (goal.at.After-best_term-term c).Start)) 0
+  gain-test : le_z (to_z w64 (of_z w64 c.best_term-term.result.reduction)) (pos 0) ≡ leb
+      (gain (goal.at.After-best_term-term c).Start (index (goal.at.After-best_term-term c).Start)) 0
   gain-test = ap (λ (x : ℤ). le_z x (pos 0)) gain-is
 
 pub returns-then-term-le0 : goal.returns-then-term-le0
@@ -121,4 +134,5 @@ pub returns : goal.returns
 returns c =
     let g = gain (goal.at.returns c).Start (index (goal.at.returns c).Start) in
     let l = leb-false g 0 (sym (gain-test (goal.at.returns c).After-best_term-term) ∙ c.if-term-le0.false) in
-    sym (next-else (goal.at.returns c).Start (not_within (goal.at.returns c).After-best_term-term) ∙ rw (ne_eqb g 0 (λ e. omega arith), ← (best (goal.at.returns c).After-best_term-term).index))
+    sym (next-else (goal.at.returns c).Start (not_within (goal.at.returns c).After-best_term-term) ∙ rw
+    (ne_eqb g 0 (λ e. omega arith), ← (best (goal.at.returns c).After-best_term-term).index))

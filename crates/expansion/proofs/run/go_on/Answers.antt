@@ -43,7 +43,8 @@ module _ (c : At-loop-ended) where
   F = framed c.args.k c.requires.by_index.0 c.args.tolerance c.args.labels.now c.args.weights.now c.requires.by_index.2
 
   at : (y : ℕ) × After F y c.loop-ended.holder c.loop-ended.low c.loop-ended.state c.loop-ended.list × Kept F y c.args.list c.args.state c.loop-ended.state
-  at = c.loop-ended.invariant.0 c.requires.by_index.0 c.requires.by_index.1 c.requires.by_index.2 (record { stands = c.requires.by_index.3.0; listed = c.requires.by_index.3.1 })
+  at = c.loop-ended.invariant.0 c.requires.by_index.0 c.requires.by_index.1 c.requires.by_index.2
+      (record { stands = c.requires.by_index.3.0; listed = c.requires.by_index.3.1 })
 
   holders-long : length c.loop-ended.holder ≡ length c.args.holder.now
   holders-long = at.1.stands.long.0 ∙ sym c.requires.by_index.3.0.long.0
@@ -78,7 +79,12 @@ let_through c =
 pub advance-state-requires : goal.advance-state-requires
 advance-state-requires c =
     record {
-      by_index = (c.requires.by_index.0, (at (goal.at.advance-state-requires c).At-loop-ended).0, c.requires.by_index.2, (at (goal.at.advance-state-requires c).At-loop-ended).1.stands);
+      by_index = (
+        c.requires.by_index.0,
+        (at (goal.at.advance-state-requires c).At-loop-ended).0,
+        c.requires.by_index.2,
+        (at (goal.at.advance-state-requires c).At-loop-ended).1.stands,
+      );
       places = (c.requires.count_le_budget.1.1, (let_through (goal.at.advance-state-requires c).In-Go).0);
     }
 

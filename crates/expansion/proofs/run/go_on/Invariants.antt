@@ -24,7 +24,8 @@ pub record After (F : Frame) (x : ℕ) (holder low : List ℕ) (st : State) (lis
 
 abbrev pub invariant-loop-ended : goal.invariant-loop-ended
 invariant-loop-ended l =
-    ((cap x : ℕ) (start : List Rule) → After (framed l.k cap l.tolerance l.labels l.weights start) x l.initial.holder l.initial.low l.initial.state l.initial.list
+    ((cap x : ℕ) (start : List Rule) → After (framed l.k cap l.tolerance l.labels l.weights start) x l.initial.holder l.initial.low l.initial.state
+    l.initial.list
     → (y : ℕ) × After (framed l.k cap l.tolerance l.labels l.weights start) y l.holder l.low l.state l.list
     × Kept (framed l.k cap l.tolerance l.labels l.weights start) y l.initial.list l.initial.state l.state)
     × ((l.list.count ≤ l.budget) × ((length l.list.rules ≡ most_rules) × (length l.list.stairs ≡ most_rules)))

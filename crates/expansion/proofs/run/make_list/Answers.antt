@@ -92,39 +92,54 @@ module _ (c : After-of_one-list) where
   abbrev begun : State
   begun = c.begin-state.result
 
-  stands : Stands (F (goal.at.After-of_one-list c).After-heaviest-first) 0 (replicate most_suffixes (first (goal.at.After-of_one-list c).After-heaviest-first)) (replicate most_known 0) begun
+  stands : Stands (F (goal.at.After-of_one-list c).After-heaviest-first) 0 (replicate most_suffixes
+      (first (goal.at.After-of_one-list c).After-heaviest-first)) (replicate most_known 0) begun
   unfolding frame backends
   stands =
       let a = c.args in
-      c.begin-state.ensures.stands a.labels.now (first_rule a.labels.now a.weights.now) (replicate most_suffixes (first (goal.at.After-of_one-list c).After-heaviest-first)) (replicate most_known 0)
+      c.begin-state.ensures.stands a.labels.now (first_rule a.labels.now a.weights.now)
+      (replicate most_suffixes (first (goal.at.After-of_one-list c).After-heaviest-first)) (replicate most_known 0)
       (fitting (goal.at.After-of_one-list c).After-heaviest-first) (shared (goal.at.After-of_one-list c).After-heaviest-first)
-      (holds-first (F (goal.at.After-of_one-list c).After-heaviest-first).targets c.requires.0.few_bits (first (goal.at.After-of_one-list c).After-heaviest-first)
+      (holds-first (F (goal.at.After-of_one-list c).After-heaviest-first).targets c.requires.0.few_bits
+      (first (goal.at.After-of_one-list c).After-heaviest-first)
       (omega (arith, c.heaviest-first.ensures, first-lt a.k a.tolerance a.labels.now a.weights.now c.requires.0)) c.heaviest-first.ensures)
       (length-replicate most_suffixes (first (goal.at.After-of_one-list c).After-heaviest-first)) (length-replicate {A = ℕ} most_known 0)
 
   listed : Listed (F (goal.at.After-of_one-list c).After-heaviest-first) 0 c.of_one-list.result
   listed =
       subst (Listed (F (goal.at.After-of_one-list c).After-heaviest-first) 0) (sym c.of_one-list.ensures)
-      (listed-first c.args.k c.args.tolerance c.args.labels.now c.args.weights.now c.requires.0 (first (goal.at.After-of_one-list c).After-heaviest-first) c.heaviest-first.ensures
+      (listed-first c.args.k c.args.tolerance c.args.labels.now c.args.weights.now c.requires.0 (first (goal.at.After-of_one-list c).After-heaviest-first)
+      c.heaviest-first.ensures
       begun.imbalance stands.stair)
 
 pub go_on-requires : goal.go_on-requires
 unfolding frame
 go_on-requires c =
     record {
-      by_index = (c.args.k - 1, 0, first_rule c.args.labels.now c.args.weights.now, (stands (goal.at.go_on-requires c).After-of_one-list, listed (goal.at.go_on-requires c).After-of_one-list));
+      by_index = (
+        c.args.k - 1,
+        0,
+        first_rule c.args.labels.now c.args.weights.now,
+        (
+          stands (goal.at.go_on-requires c).After-of_one-list,
+          listed
+              (goal.at.go_on-requires c).After-of_one-list,
+        ),
+      );
       count_le_budget = (omega (arith, ap (λ (l : RuleList). l.count) c.of_one-list.ensures, c.requires.1.0), (c.requires.1.1, c.all_places-places.ensures));
     }
 
 pub returns : goal.returns
 unfolding frame
 returns c =
-    let r = c.go_on.ensures (c.args.k - 1) 0 (first_rule c.args.labels.now c.args.weights.now) (stands (goal.at.returns c).After-of_one-list) (listed (goal.at.returns c).After-of_one-list) in
+    let r = c.go_on.ensures (c.args.k - 1) 0 (first_rule c.args.labels.now c.args.weights.now) (stands (goal.at.returns c).After-of_one-list)
+    (listed (goal.at.returns c).After-of_one-list) in
     record {
       made = r.0;
       kept = (
         (begun (goal.at.returns c).After-of_one-list).ledger,
-        subst (λ (n : ℕ). SharesKept (F (goal.at.returns c).After-heaviest-first).targets (list_of (F (goal.at.returns c).After-heaviest-first) c.args.budget) n (begun (goal.at.returns c).After-of_one-list).ledger c.go_on.result.kept)
+        subst (λ (n : ℕ). SharesKept (F (goal.at.returns c).After-heaviest-first).targets (list_of (F (goal.at.returns c).After-heaviest-first) c.args.budget)
+            n (begun (goal.at.returns c).After-of_one-list).ledger c.go_on.result.kept)
             (ap (λ (l : RuleList). l.count) c.of_one-list.ensures) r.1.0,
       );
     }

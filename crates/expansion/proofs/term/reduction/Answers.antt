@@ -105,10 +105,15 @@ overflow_mul-twice c = record { sfits = omega (arith, is-few c) }
 
 pub returns-then-twice-lt0 : goal.returns-then-twice-lt0
 returns-then-twice-lt0 c =
-    let v = twice (x (goal.at.returns-then-twice-lt0 c).After-smaller-2) (y (goal.at.returns-then-twice-lt0 c).After-smaller-2) (z (goal.at.returns-then-twice-lt0 c).After-smaller-2) in
-    ap pos (sym (negative v (ap (λ (w : ℤ). lt_z w (pos 0)) (sym (read (goal.at.returns-then-twice-lt0 c).After-smaller-2)) ∙ c.if-twice-lt0.true)) ∙ is-over (goal.at.returns-then-twice-lt0 c).After-smaller-2)
+    let v = twice (x (goal.at.returns-then-twice-lt0 c).After-smaller-2) (y (goal.at.returns-then-twice-lt0 c).After-smaller-2)
+    (z (goal.at.returns-then-twice-lt0 c).After-smaller-2) in
+    ap pos (sym (negative v (ap (λ (w : ℤ). lt_z w (pos 0)) (sym (read (goal.at.returns-then-twice-lt0 c).After-smaller-2)) ∙ c.if-twice-lt0.true)) ∙ is-over
+    (goal.at.returns-then-twice-lt0 c).After-smaller-2)
 
 pub returns-else-twice-lt0 : goal.returns-else-twice-lt0
 returns-else-twice-lt0 c =
-    let v = twice (x (goal.at.returns-else-twice-lt0 c).After-smaller-2) (y (goal.at.returns-else-twice-lt0 c).After-smaller-2) (z (goal.at.returns-else-twice-lt0 c).After-smaller-2) in
-    read (goal.at.returns-else-twice-lt0 c).After-smaller-2 ∙ positive v (ap (λ (w : ℤ). lt_z w (pos 0)) (sym (read (goal.at.returns-else-twice-lt0 c).After-smaller-2)) ∙ c.if-twice-lt0.false) ∙ ap pos (is-over (goal.at.returns-else-twice-lt0 c).After-smaller-2)
+    let v = twice (x (goal.at.returns-else-twice-lt0 c).After-smaller-2) (y (goal.at.returns-else-twice-lt0 c).After-smaller-2)
+    (z (goal.at.returns-else-twice-lt0 c).After-smaller-2) in
+    read (goal.at.returns-else-twice-lt0 c).After-smaller-2 ∙ positive v (ap (λ (w : ℤ). lt_z w (pos 0))
+    (sym (read (goal.at.returns-else-twice-lt0 c).After-smaller-2)) ∙ c.if-twice-lt0.false) ∙ ap pos
+    (is-over (goal.at.returns-else-twice-lt0 c).After-smaller-2)

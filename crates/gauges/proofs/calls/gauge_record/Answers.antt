@@ -35,7 +35,8 @@ returns-in-Refused c =
 
 pub returns-else-volume-gt-MOST_VOLUME : goal.returns-else-volume-gt-MOST_VOLUME
 returns-else-volume-gt-MOST_VOLUME c =
-    let is = ap Made c.gauges_of.ensures ∙ sym (record-made _ _ _ _ _ (has (goal.at.returns-else-volume-gt-MOST_VOLUME c).In-Made) c.if-volume-gt-MOST_VOLUME.false) in
+    let is = ap Made c.gauges_of.ensures ∙ sym (record-made _ _ _ _ _ (has (goal.at.returns-else-volume-gt-MOST_VOLUME c).In-Made)
+    c.if-volume-gt-MOST_VOLUME.false) in
     record {
       answer = is;
       exact = λ t read. record-exact _ _ _ _ t read _ is;

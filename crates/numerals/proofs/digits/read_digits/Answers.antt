@@ -38,7 +38,8 @@ pub returns-then-most-d : goal.returns-then-most-d
 returns-then-most-d c = sym (turn (goal.at.returns-then-most-d c).After-wide-b ∙ read-over _ _ _ _ _ (omega arith) (omega arith))
 
 pub returns-then-most-d-2 : goal.returns-then-most-d-2
-returns-then-most-d-2 c = sym (turn (goal.at.returns-then-most-d-2 c).After-wide-b ∙ read-over _ _ _ _ _ (omega arith) (over _ _ _ _ (omega arith) c.if-most-d-2.true))
+returns-then-most-d-2 c = sym (turn (goal.at.returns-then-most-d-2 c).After-wide-b ∙ read-over _ _ _ _ _ (omega arith)
+    (over _ _ _ _ (omega arith) c.if-most-d-2.true))
 
 -- the next v is at most `most`
 small :

@@ -9,7 +9,8 @@ use Rattle.numerals.proofs.digits.write_digits.Given as goal
 
 abbrev pub invariant-loop-i : goal.invariant-loop-i
 invariant-loop-i l =
-    (l.at ≤ l.i) × (l.i ≤ l.at + l.len) × (length l.out ≡ length l.initial.out) × (sets l.initial.out l.at (lowest l.base l.len l.n) ≡ sets l.out l.at (lowest l.base (l.i - l.at) l.rest))
+    (l.at ≤ l.i) × (l.i ≤ l.at + l.len) × (length l.out ≡ length l.initial.out) × (sets l.initial.out l.at (lowest l.base l.len l.n) ≡ sets l.out l.at
+    (lowest l.base (l.i - l.at) l.rest))
 
 abbrev pub decreases-loop-i : goal.decreases-loop-i
 decreases-loop-i l = l.i

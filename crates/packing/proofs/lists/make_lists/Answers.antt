@@ -168,7 +168,9 @@ loop-s-preserved c =
       simp length-set l.invariant.6,
       simp length-set l.invariant.7,
       rw c.end_number.ensures
-          (entries-more _ _ _ _ _ l.s l.lens l.values l.backends l.stairs (passed (goal.at.loop-s-preserved c).After-expand-made) (fits (goal.at.loop-s-preserved c).After-expand-made) _ _ (own (goal.at.loop-s-preserved c).After-expand-made _) (own (goal.at.loop-s-preserved c).After-expand-made _) _ c.expand-made.ensures.answer
+          (entries-more _ _ _ _ _ l.s l.lens l.values l.backends l.stairs (passed (goal.at.loop-s-preserved c).After-expand-made)
+          (fits (goal.at.loop-s-preserved c).After-expand-made) _ _ (own (goal.at.loop-s-preserved c).After-expand-made _)
+          (own (goal.at.loop-s-preserved c).After-expand-made _) _ c.expand-made.ensures.answer
           _ c.in-Made.is l.counts l.ends
           (known (goal.at.loop-s-preserved c).In-loop-s).1 l.invariant.8 _ _ _ _
           c.expand-made.ensures.lens c.expand-made.ensures.values c.expand-made.ensures.backends c.expand-made.ensures.stairs),

@@ -49,8 +49,11 @@ fits c =
 
 pub write_service-requires : goal.write_service-requires
 write_service-requires c =
-    let few : c.loop-s.s < most_services = omega (arith, c.requires.counted.few) in
-    (omega (arith, fits (goal.at.write_service-requires c).After-lines_of-lines), (few, low (goal.at.write_service-requires c).After-lines_of-lines), (c.requires.all_lens, (c.requires.all_values, c.requires.all_backends)))
+    let few : c.loop-s.s < most_services = omega (arith, c.requires.counted.few) in (
+      omega (arith, fits (goal.at.write_service-requires c).After-lines_of-lines),
+      (few, low (goal.at.write_service-requires c).After-lines_of-lines),
+      (c.requires.all_lens, (c.requires.all_values, c.requires.all_backends)),
+    )
 
 pub overflow_mul-at : goal.overflow_mul-at
 overflow_mul-at c = omega (arith, low (goal.at.overflow_mul-at c).After-lines_of-lines)

@@ -39,7 +39,11 @@ four :
     ≡ on_field (number 1 most_bits (field (fields_of (goal.at.Else-count_fields-ne4 c).Start) 1)) 1 (last_two (goal.at.Else-count_fields-ne4 c).Start)
 unfolding opening_fields unless
 four c =
-    simp (word (goal.at.Else-count_fields-ne4 c).After-is_word ∙ not-false _ c.if-not-is_word.false-raw, eq-eqb _ 4 (sym c.count_fields.ensures ∙ c.if-count_fields-ne4.false))
+    simp (
+      word (goal.at.Else-count_fields-ne4 c).After-is_word ∙ not-false _ c.if-not-is_word.false-raw,
+      eq-eqb _ 4
+          (sym c.count_fields.ensures ∙ c.if-count_fields-ne4.false),
+    )
 
 bits :
     (c : In-Value)
@@ -55,7 +59,10 @@ second c = bits (goal.at.In-Value-read_form c).In-Value ∙ rw (sym c.read_form.
 
 pub returns-then-not-is_word : goal.returns-then-not-is_word
 unfolding opening_fields unless
-returns-then-not-is_word c = rw c.refused_at.ensures (simp (word (goal.at.returns-then-not-is_word c).After-is_word ∙ not-true _ c.if-not-is_word.true-raw), refl)
+returns-then-not-is_word c = rw c.refused_at.ensures (
+  simp (word (goal.at.returns-then-not-is_word c).After-is_word ∙ not-true _ c.if-not-is_word.true-raw),
+  refl,
+)
 
 pub returns-then-count_fields-ne4 : goal.returns-then-count_fields-ne4
 unfolding opening_fields unless

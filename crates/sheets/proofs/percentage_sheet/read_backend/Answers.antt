@@ -33,7 +33,8 @@ pub returns-in_default-read_percentage : goal.returns-in_default-read_percentage
 returns-in_default-read_percentage c =
     let f = c.find-colon in
     let a = c.args in
-    field-no-weight a.from a.to f.result a.text.now (omega arith) f.ensures a.before c.if-to-colon.false _ (named (goal.at.returns-in_default-read_percentage c).In-Value)
+    field-no-weight a.from a.to f.result a.text.now (omega arith) f.ensures a.before c.if-to-colon.false _
+    (named (goal.at.returns-in_default-read_percentage c).In-Value)
     (sym c.read_percentage.ensures ∙ c.in_default-read_percentage.is)
 
 pub returns : goal.returns

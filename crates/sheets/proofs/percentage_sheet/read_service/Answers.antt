@@ -34,13 +34,22 @@ read_weights-read-requires c =
     let o = opened (goal.at.read_weights-read-requires c).In-Volume in
     record {
       from_le_to = (omega arith, omega arith);
-      to_len_bound = (omega (arith, ap length (rest (goal.at.read_weights-read-requires c).After-field_at-first), length-drop 2 (fields (goal.at.read_weights-read-requires c).Start)), (omega arith, omega arith));
+      to_len_bound = (
+        omega (
+          arith,
+          ap length (rest (goal.at.read_weights-read-requires c).After-field_at-first),
+          length-drop 2
+              (fields (goal.at.read_weights-read-requires c).Start),
+        ),
+        (omega arith, omega arith),
+      );
     }
 
 -- the backends that were read
 weighed :
     (c : In-Weights)
-    → Weighed c.args.ids.now c.read_weights-read.new.ids c.args.weights.now c.read_weights-read.new.weights c.args.at (drop 2 (fields (goal.at.In-Weights c).Start)) c.in-Weights.count
+    → Weighed c.args.ids.now c.read_weights-read.new.ids c.args.weights.now c.read_weights-read.new.weights c.args.at
+    (drop 2 (fields (goal.at.In-Weights c).Start)) c.in-Weights.count
     c.in-Weights.sum
 weighed c =
     rw (rest (goal.at.In-Weights c).After-field_at-first) at

@@ -29,7 +29,11 @@ returns-then-not-is_word c = simp (word (goal.at.returns-then-not-is_word c).Aft
 
 pub returns-then-i-ge-MOST_SERVICES : goal.returns-then-i-ge-MOST_SERVICES
 unfolding service_fields unless
-returns-then-i-ge-MOST_SERVICES c = simp (word (goal.at.returns-then-i-ge-MOST_SERVICES c).After-is_word ∙ c.if-not-is_word.false, le-ltb _ most_services c.if-i-ge-MOST_SERVICES.true)
+returns-then-i-ge-MOST_SERVICES c = simp (
+  word (goal.at.returns-then-i-ge-MOST_SERVICES c).After-is_word ∙ c.if-not-is_word.false,
+  le-ltb _ most_services
+      c.if-i-ge-MOST_SERVICES.true,
+)
 
 pub returns-then-count-lt3 : goal.returns-then-count-lt3
 unfolding service_fields unless

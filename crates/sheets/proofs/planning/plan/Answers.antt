@@ -83,8 +83,10 @@ packed c =
     let p = c.pack-packed.result in (
       plan-made text (held (goal.at.After-pack-packed c).In-Sheet) p (length a.figures.now) (length a.table.now) c.pack-packed.ensures.answer,
       (
-        plan-buffer text (held (goal.at.After-pack-packed c).In-Sheet) p figures_for _ a.figures.now _ (held-figures text (held (goal.at.After-pack-packed c).In-Sheet)) c.pack-packed.ensures.figures,
-        plan-buffer text (held (goal.at.After-pack-packed c).In-Sheet) p cells_for _ a.table.now _ (held-cells text (held (goal.at.After-pack-packed c).In-Sheet)) c.pack-packed.ensures.table,
+        plan-buffer text (held (goal.at.After-pack-packed c).In-Sheet) p figures_for _ a.figures.now _
+            (held-figures text (held (goal.at.After-pack-packed c).In-Sheet)) c.pack-packed.ensures.figures,
+        plan-buffer text (held (goal.at.After-pack-packed c).In-Sheet) p cells_for _ a.table.now _
+            (held-cells text (held (goal.at.After-pack-packed c).In-Sheet)) c.pack-packed.ensures.table,
       ),
     )
 

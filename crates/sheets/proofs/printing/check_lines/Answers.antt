@@ -68,7 +68,8 @@ ends c =
 
 pub returns-then-table-ne0 : goal.returns-then-table-ne0
 returns-then-table-ne0 c =
-    ends (goal.at.returns-then-table-ne0 c).After-loop-i ∙ too_few _ _ c.loop-i.invariant.1.before (λ e. c.if-table-ne0.true (omega (arith, count-broken c.args.table.now)))
+    ends (goal.at.returns-then-table-ne0 c).After-loop-i ∙ too_few _ _ c.loop-i.invariant.1.before
+    (λ e. c.if-table-ne0.true (omega (arith, count-broken c.args.table.now)))
 
 pub returns-then-last-eq0 : goal.returns-then-last-eq0
 returns-then-last-eq0 c =

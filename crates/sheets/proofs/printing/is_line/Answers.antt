@@ -48,7 +48,12 @@ rule c =
 
 pub returns-then-backend-gt0 : goal.returns-then-backend-gt0
 unfolding is_line in_limits
-returns-then-backend-gt0 c = simp (service (goal.at.returns-then-backend-gt0 c).Else-service-gt-MOST_SERVICES, rule (goal.at.returns-then-backend-gt0 c).Else-all-value, le-leb 1 _ c.if-backend-gt0.true)
+returns-then-backend-gt0 c = simp (
+  service (goal.at.returns-then-backend-gt0 c).Else-service-gt-MOST_SERVICES,
+  rule
+      (goal.at.returns-then-backend-gt0 c).Else-all-value,
+  le-leb 1 _ c.if-backend-gt0.true,
+)
 
 pub returns-else-backend-gt0 : goal.returns-else-backend-gt0
 unfolding is_line in_limits

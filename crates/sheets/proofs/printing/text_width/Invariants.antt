@@ -10,7 +10,8 @@ use Rattle.sheets.proofs.printing.text_width.Given as goal
 
 abbrev pub invariant-loop-i : goal.invariant-loop-i
 invariant-loop-i l =
-    (l.i ≤ l.to / 4) × (l.width ≤ over_long) × (counted (l.width + handed_width (slice (4 * l.i) l.to l.table)) ≡ counted (length (handed_text l.k l.total (slice 0 l.to l.table))))
+    (l.i ≤ l.to / 4) × (l.width ≤ over_long) × (counted (l.width + handed_width (slice (4 * l.i) l.to l.table)) ≡ counted
+    (length (handed_text l.k l.total (slice 0 l.to l.table))))
 
 abbrev pub decreases-loop-i : goal.decreases-loop-i
 decreases-loop-i l = l.to / 4 - l.i

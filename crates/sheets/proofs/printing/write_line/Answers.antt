@@ -61,8 +61,10 @@ returns-then-out-at-2 c =
     let a = c.args in
     let l = line a.service a.len a.value a.backend in
     record {
-      answer = (too_long _ a.at l (passed (goal.at.returns-then-out-at-2 c).Else-not-is_line) (omega (arith, few l (passed (goal.at.returns-then-out-at-2 c).Else-not-is_line), c.line_width.ensures))).0;
-      buffer = (too_long _ a.at l (passed (goal.at.returns-then-out-at-2 c).Else-not-is_line) (omega (arith, few l (passed (goal.at.returns-then-out-at-2 c).Else-not-is_line), c.line_width.ensures))).1;
+      answer = (too_long _ a.at l (passed (goal.at.returns-then-out-at-2 c).Else-not-is_line)
+          (omega (arith, few l (passed (goal.at.returns-then-out-at-2 c).Else-not-is_line), c.line_width.ensures))).0;
+      buffer = (too_long _ a.at l (passed (goal.at.returns-then-out-at-2 c).Else-not-is_line)
+          (omega (arith, few l (passed (goal.at.returns-then-out-at-2 c).Else-not-is_line), c.line_width.ensures))).1;
     }
 
 pub put_line-requires : goal.put_line-requires

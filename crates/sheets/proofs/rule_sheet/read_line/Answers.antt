@@ -70,7 +70,8 @@ returns-in_default c =
 pub returns-in_default-read_suffix : goal.returns-in_default-read_suffix
 unfolding on_suffix
 returns-in_default-read_suffix c =
-    λ before at. own (goal.at.returns-in_default-read_suffix c).In-Value before at ∙ rw (bits (goal.at.returns-in_default-read_suffix c).After-read_suffix ∙ c.in_default-read_suffix.is)
+    λ before at. own (goal.at.returns-in_default-read_suffix c).In-Value before at ∙ rw
+    (bits (goal.at.returns-in_default-read_suffix c).After-read_suffix ∙ c.in_default-read_suffix.is)
 
 pub returns-in_default-number_in : goal.returns-in_default-number_in
 unfolding on_field

@@ -32,7 +32,8 @@ first_backend-requires c = (has (goal.at.first_backend-requires c).In-Table).rul
 
 pub returns-then-first_backend-eq0 : goal.returns-then-first_backend-eq0
 returns-then-first_backend-eq0 c =
-    rw c.refused_at.ensures (sym (share-none _ _ _ (has (goal.at.returns-then-first_backend-eq0 c).In-Table) _ _ _ c.first_backend.ensures c.if-first_backend-eq0.true))
+    rw c.refused_at.ensures (sym (share-none _ _ _ (has (goal.at.returns-then-first_backend-eq0 c).In-Table) _ _ _ c.first_backend.ensures
+    c.if-first_backend-eq0.true))
 
 -- the service is there
 some : (c : Else-first_backend-eq0) → 0 < c.first_backend.result
@@ -68,4 +69,6 @@ pub returns-else-backend-gt-MOST_ID : goal.returns-else-backend-gt-MOST_ID
 returns-else-backend-gt-MOST_ID c =
     let k = c.in-Table.head.k in
     ap (λ (n : ℕ). Made (record { k = k; share = n })) c.tally_service.ensures
-    ∙ sym (share-made _ _ _ (has (goal.at.returns-else-backend-gt-MOST_ID c).In-Table) _ _ _ c.first_backend.ensures (some (goal.at.returns-else-backend-gt-MOST_ID c).Else-first_backend-eq0) (is_within_lem 1 most_id _ c.if-backend-lt1.false c.if-backend-gt-MOST_ID.false))
+    ∙ sym (share-made _ _ _ (has (goal.at.returns-else-backend-gt-MOST_ID c).In-Table) _ _ _ c.first_backend.ensures
+    (some (goal.at.returns-else-backend-gt-MOST_ID c).Else-first_backend-eq0) (is_within_lem 1 most_id _ c.if-backend-lt1.false
+    c.if-backend-gt-MOST_ID.false))

@@ -39,7 +39,22 @@ loop-s-preserved c =
     let a = c.args in
     let first = c.first_backend.ensures in (
       omega arith,
-      elim c.if-first_backend-backend.branch [ then-first_backend-backend w ↦ omega (arith, l.invariant.1, w.held-is, given-more _ a.backend l.s _ first w.if-first_backend-backend.true) | else-first_backend-backend w ↦ omega (arith, l.invariant.1, w.held-is, other-more _ a.backend l.s _ first w.if-first_backend-backend.false) ],
+      elim c.if-first_backend-backend.branch [
+        | then-first_backend-backend w ↦ omega (
+          arith,
+          l.invariant.1,
+          w.held-is,
+          given-more _ a.backend l.s _ first
+              w.if-first_backend-backend.true,
+        )
+        | else-first_backend-backend w ↦ omega (
+          arith,
+          l.invariant.1,
+          w.held-is,
+          other-more _ a.backend l.s _ first
+              w.if-first_backend-backend.false,
+        )
+      ],
     )
 
 pub returns : goal.returns

@@ -49,7 +49,12 @@ new-there c =
 pub returns-then-a-b : goal.returns-then-a-b
 unfolding churn_of
 returns-then-a-b c =
-    ap Refused c.refused_at.ensures ∙ sym (rw (old-there (goal.at.returns-then-a-b c).Else-first_backend-eq0, new-there (goal.at.returns-then-a-b c).Else-first_backend-eq0-2, ne_eqb _ _ c.if-a-b.true))
+    ap Refused c.refused_at.ensures ∙ sym (rw (
+      old-there (goal.at.returns-then-a-b c).Else-first_backend-eq0,
+      new-there
+          (goal.at.returns-then-a-b c).Else-first_backend-eq0-2,
+      ne_eqb _ _ c.if-a-b.true,
+    ))
 
 pub overflow_shl-all : goal.overflow_shl-all
 overflow_shl-all c = omega (arith, c.requires.rule_lines.1.1)

@@ -42,7 +42,12 @@ loop-s-preserved c =
     let old = c.first_backend.ensures in
     let new = c.first_backend-in-loop-s.ensures in (
       omega arith,
-      elim c.if-first_backend.branch [ then-first_backend w ↦ w.moved-is ∙ ap (λ (n : ℕ). n + 1) l.invariant.1 ∙ sym (one l.s _ (ap not (ne_eqb _ _ (λ e. w.if-first_backend.true (old ∙ e ∙ sym new))))) | else-first_backend w ↦ w.moved-is ∙ l.invariant.1 ∙ sym (none l.s _ (ap not (eq-eqb _ _ (sym old ∙ w.if-first_backend.false ∙ new)))) ],
+      elim c.if-first_backend.branch [
+        | then-first_backend w ↦ w.moved-is ∙ ap (λ (n : ℕ). n + 1) l.invariant.1 ∙ sym
+            (one l.s _ (ap not (ne_eqb _ _ (λ e. w.if-first_backend.true (old ∙ e ∙ sym new)))))
+        | else-first_backend w ↦ w.moved-is ∙ l.invariant.1 ∙ sym
+            (none l.s _ (ap not (eq-eqb _ _ (sym old ∙ w.if-first_backend.false ∙ new))))
+      ],
     )
 
 pub returns : goal.returns

@@ -58,7 +58,8 @@ nonzero_rem-address c = divisor _ (short (goal.at.nonzero_rem-address c).In-loop
 
 pub returns-then-address-all : goal.returns-then-address-all
 returns-then-address-all c =
-    sym (turn (goal.at.returns-then-address-all c).In-loop-left ∙ of-here _ _ _ _ c.if-table-i.true (rw (shifted _ (short (goal.at.returns-then-address-all c).In-loop-left)) at c.if-address-all.true))
+    sym (turn (goal.at.returns-then-address-all c).In-loop-left ∙ of-here _ _ _ _ c.if-table-i.true
+    (rw (shifted _ (short (goal.at.returns-then-address-all c).In-loop-left)) at c.if-address-all.true))
 
 pub loop-left-preserved : goal.loop-left-preserved
 loop-left-preserved c =

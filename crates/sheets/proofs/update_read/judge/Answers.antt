@@ -43,7 +43,12 @@ there c =
 pub returns-then-found-k : goal.returns-then-found-k
 unfolding judged
 returns-then-found-k c =
-    ap Refused c.refused_at.ensures ∙ sym (rw (some (goal.at.returns-then-found-k c).Else-found-eq0, there (goal.at.returns-then-found-k c).Else-services-service, ne_eqb _ _ c.if-found-k.true))
+    ap Refused c.refused_at.ensures ∙ sym (rw (
+      some (goal.at.returns-then-found-k c).Else-found-eq0,
+      there
+          (goal.at.returns-then-found-k c).Else-services-service,
+      ne_eqb _ _ c.if-found-k.true,
+    ))
 
 same : (c : Else-found-k) → let a = c.args in eqb a.found.k a.k ≡ true
 same c = eq-eqb _ _ c.if-found-k.false
@@ -51,7 +56,13 @@ same c = eq-eqb _ _ c.if-found-k.false
 pub returns-then-rules-found : goal.returns-then-rules-found
 unfolding judged
 returns-then-rules-found c =
-    ap Refused c.refused_at-then-rules-found.ensures ∙ sym (rw (some (goal.at.returns-then-rules-found c).Else-found-eq0, there (goal.at.returns-then-rules-found c).Else-services-service, same (goal.at.returns-then-rules-found c).Else-found-k, lt-leb _ _ c.if-rules-found.true))
+    ap Refused c.refused_at-then-rules-found.ensures ∙ sym (rw (
+      some (goal.at.returns-then-rules-found c).Else-found-eq0,
+      there
+          (goal.at.returns-then-rules-found c).Else-services-service,
+      same (goal.at.returns-then-rules-found c).Else-found-k,
+      lt-leb _ _ c.if-rules-found.true,
+    ))
 
 wide : (c : Else-rules-found) → let a = c.args in leb (3 * a.found.rules) a.rules ≡ true
 wide c = le-leb _ _ c.if-rules-found.false
@@ -59,7 +70,15 @@ wide c = le-leb _ _ c.if-rules-found.false
 pub returns-then-ids-found : goal.returns-then-ids-found
 unfolding judged
 returns-then-ids-found c =
-    ap Refused c.refused_at-then-ids-found.ensures ∙ sym (rw (some (goal.at.returns-then-ids-found c).Else-found-eq0, there (goal.at.returns-then-ids-found c).Else-services-service, same (goal.at.returns-then-ids-found c).Else-found-k, wide (goal.at.returns-then-ids-found c).Else-rules-found, lt-leb _ _ c.if-ids-found.true))
+    ap Refused c.refused_at-then-ids-found.ensures ∙ sym (rw (
+      some (goal.at.returns-then-ids-found c).Else-found-eq0,
+      there
+          (goal.at.returns-then-ids-found c).Else-services-service,
+      same (goal.at.returns-then-ids-found c).Else-found-k,
+      wide
+          (goal.at.returns-then-ids-found c).Else-rules-found,
+      lt-leb _ _ c.if-ids-found.true,
+    ))
 
 broad :
     (c : Else-ids-found)
@@ -69,9 +88,27 @@ broad c = le-leb _ _ c.if-ids-found.false
 pub returns-then-weights-found : goal.returns-then-weights-found
 unfolding judged
 returns-then-weights-found c =
-    ap Refused c.refused_at-then-weights-found.ensures ∙ sym (rw (some (goal.at.returns-then-weights-found c).Else-found-eq0, there (goal.at.returns-then-weights-found c).Else-services-service, same (goal.at.returns-then-weights-found c).Else-found-k, wide (goal.at.returns-then-weights-found c).Else-rules-found, broad (goal.at.returns-then-weights-found c).Else-ids-found, lt-leb _ _ c.if-weights-found.true))
+    ap Refused c.refused_at-then-weights-found.ensures ∙ sym (rw (
+      some (goal.at.returns-then-weights-found c).Else-found-eq0,
+      there
+          (goal.at.returns-then-weights-found c).Else-services-service,
+      same (goal.at.returns-then-weights-found c).Else-found-k,
+      wide
+          (goal.at.returns-then-weights-found c).Else-rules-found,
+      broad (goal.at.returns-then-weights-found c).Else-ids-found,
+      lt-leb _ _
+          c.if-weights-found.true,
+    ))
 
 pub returns : goal.returns
 unfolding judged
 returns c =
-    sym (rw (some (goal.at.returns c).Else-found-eq0, there (goal.at.returns c).Else-services-service, same (goal.at.returns c).Else-found-k, wide (goal.at.returns c).Else-rules-found, broad (goal.at.returns c).Else-ids-found, le-leb _ _ c.if-weights-found.false))
+    sym (rw (
+      some (goal.at.returns c).Else-found-eq0,
+      there (goal.at.returns c).Else-services-service,
+      same (goal.at.returns c).Else-found-k,
+      wide
+          (goal.at.returns c).Else-rules-found,
+      broad (goal.at.returns c).Else-ids-found,
+      le-leb _ _ c.if-weights-found.false,
+    ))

@@ -53,7 +53,14 @@ pub select-requires : goal.select-requires
 select-requires c =
     record {
       n_in_bounds = c.requires;
-      sizes_value = (held-named _ (held (goal.at.select-requires c).In-Sheet), (held-sum _ (held (goal.at.select-requires c).In-Sheet), held-few _ (held (goal.at.select-requires c).In-Sheet)));
+      sizes_value = (
+        held-named _ (held (goal.at.select-requires c).In-Sheet),
+        (
+          held-sum _ (held (goal.at.select-requires c).In-Sheet),
+          held-few _
+              (held (goal.at.select-requires c).In-Sheet),
+        ),
+      );
     }
 
 pub returns-in-Refused : goal.returns-in-Refused

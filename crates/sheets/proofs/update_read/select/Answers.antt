@@ -63,7 +63,13 @@ within :
 within c =
     let F = fits (goal.at.After-row_before-from c).In-Made in
     let a = c.args in
-    omega (arith, sum_fits a.sizes.now (a.service - 1) (omega (arith, F.numbered, F.there)), c.row_before-from.ensures, size (goal.at.After-row_before-from c).In-Made)
+    omega (
+      arith,
+      sum_fits a.sizes.now (a.service - 1) (omega (arith, F.numbered, F.there)),
+      c.row_before-from.ensures,
+      size
+          (goal.at.After-row_before-from c).In-Made,
+    )
 
 pub offset_bounds-named-from : goal.offset_bounds-named-from
 offset_bounds-named-from c = omega (arith, within (goal.at.offset_bounds-named-from c).After-row_before-from, c.requires.sizes_value.1)
@@ -95,8 +101,11 @@ copy-requires c =
     )
 
 pub store_weights-requires : goal.store_weights-requires
-store_weights-requires c =
-    (omega (arith, within (goal.at.store_weights-requires c).After-row_before-from, c.requires.sizes_value.1.0), omega (arith, (fits (goal.at.store_weights-requires c).In-Made).weights))
+store_weights-requires c = (
+  omega (arith, within (goal.at.store_weights-requires c).After-row_before-from, c.requires.sizes_value.1.0),
+  omega
+      (arith, (fits (goal.at.store_weights-requires c).In-Made).weights),
+)
 
 pub returns-in-Refused : goal.returns-in-Refused
 returns-in-Refused c =

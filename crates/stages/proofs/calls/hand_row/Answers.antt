@@ -46,7 +46,9 @@ pub returns-then-places-n : goal.returns-then-places-n
 returns-then-places-n c =
     let room = length c.args.places.now in
     record {
-      answer = rw c.refused-then-places-n.ensures (sym (ap (λ (j : Judged). handed j (values (goal.at.returns-then-places-n c).In-Row) room) (is (goal.at.returns-then-places-n c).In-Row) ∙ print-short (values (goal.at.returns-then-places-n c).In-Row) room (omega (arith, (J (goal.at.returns-then-places-n c).In-Row).count, c.if-places-n.true))));
+      answer = rw c.refused-then-places-n.ensures (sym (ap (λ (j : Judged). handed j (values (goal.at.returns-then-places-n c).In-Row) room)
+          (is (goal.at.returns-then-places-n c).In-Row) ∙ print-short (values (goal.at.returns-then-places-n c).In-Row) room
+          (omega (arith, (J (goal.at.returns-then-places-n c).In-Row).count, c.if-places-n.true))));
       buffer = rw c.refused-then-places-n.ensures (refl);
     }
 
@@ -72,6 +74,10 @@ returns-else-places-n c =
     record {
       answer = ap answer.Value (J (goal.at.returns-else-places-n c).In-Row).count
           ∙ sym (ap (λ (j : Judged). handed j (values (goal.at.returns-else-places-n c).In-Row) room) (is (goal.at.returns-else-places-n c).In-Row)
-          ∙ print-fits (values (goal.at.returns-else-places-n c).In-Row) room (omega (arith, (J (goal.at.returns-else-places-n c).In-Row).count, c.if-places-n.false)));
+          ∙ print-fits (values (goal.at.returns-else-places-n c).In-Row) room (omega (
+            arith,
+            (J (goal.at.returns-else-places-n c).In-Row).count,
+            c.if-places-n.false,
+          )));
       buffer = c.cut.ensures.row;
     }

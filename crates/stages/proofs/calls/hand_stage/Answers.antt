@@ -74,23 +74,36 @@ module _ (d : In-Row) where
 pub overflow_sub-number : goal.overflow_sub-number
 overflow_sub-number c =
     let a = c.args in
-    omega (arith, numbered a.k a.limit a.capacity a.number c.in-Row.field-0 (at a.old.now) (at a.new.now) c.requires.0 (sym c.judge-judged.ensures.answer ∙ c.in-Row.is))
+    omega (
+      arith,
+      numbered a.k a.limit a.capacity a.number c.in-Row.field-0 (at a.old.now) (at a.new.now) c.requires.0
+          (sym c.judge-judged.ensures.answer ∙ c.in-Row.is),
+    )
 
 pub offset_bounds-row-number : goal.offset_bounds-row-number
 offset_bounds-row-number c =
     let a = c.args in
-    omega (arith, numbered a.k a.limit a.capacity a.number c.in-Row.field-0 (at a.old.now) (at a.new.now) c.requires.0 (sym c.judge-judged.ensures.answer ∙ c.in-Row.is))
+    omega (
+      arith,
+      numbered a.k a.limit a.capacity a.number c.in-Row.field-0 (at a.old.now) (at a.new.now) c.requires.0
+          (sym c.judge-judged.ensures.answer ∙ c.in-Row.is),
+    )
 
 pub bounds-row-number : goal.bounds-row-number
 bounds-row-number c =
     let a = c.args in
-    omega (arith, numbered a.k a.limit a.capacity a.number c.in-Row.field-0 (at a.old.now) (at a.new.now) c.requires.0 (sym c.judge-judged.ensures.answer ∙ c.in-Row.is))
+    omega (
+      arith,
+      numbered a.k a.limit a.capacity a.number c.in-Row.field-0 (at a.old.now) (at a.new.now) c.requires.0
+          (sym c.judge-judged.ensures.answer ∙ c.in-Row.is),
+    )
 
 pub print_stage-requires : goal.print_stage-requires
 print_stage-requires c =
     record {
       k_le_most_bits = c.requires;
-      k_len_bound = subst (λ (p : ℕ). length (starts_to (cut_at p (old (goal.at.print_stage-requires c).In-Row) (new (goal.at.print_stage-requires c).In-Row)) c.args.k (2 ^ c.args.k)) ≤ most_capacity) (sym (place_is (goal.at.print_stage-requires c).In-Row)) (sparse (goal.at.print_stage-requires c).In-Row);
+      k_len_bound = subst (λ (p : ℕ). length (starts_to (cut_at p (old (goal.at.print_stage-requires c).In-Row) (new (goal.at.print_stage-requires c).In-Row))
+          c.args.k (2 ^ c.args.k)) ≤ most_capacity) (sym (place_is (goal.at.print_stage-requires c).In-Row)) (sparse (goal.at.print_stage-requires c).In-Row);
     }
 
 pub returns-in-Refused : goal.returns-in-Refused

@@ -32,9 +32,14 @@ module _ (d : In-Change) where
 pub hand_stage-requires : goal.hand_stage-requires
 hand_stage-requires c =
     let a = c.args in
-    let before = served-first a.old.now a.new.now a.service (k (goal.at.hand_stage-requires c).In-Change) (first (goal.at.hand_stage-requires c).In-Change) (second (goal.at.hand_stage-requires c).In-Change) (R (goal.at.hand_stage-requires c).In-Change) in
-    let after = served-second a.old.now a.new.now a.service (k (goal.at.hand_stage-requires c).In-Change) (first (goal.at.hand_stage-requires c).In-Change) (second (goal.at.hand_stage-requires c).In-Change) (R (goal.at.hand_stage-requires c).In-Change) in
-    (few_bits a.old.now a.new.now a.service (k (goal.at.hand_stage-requires c).In-Change) (first (goal.at.hand_stage-requires c).In-Change) (second (goal.at.hand_stage-requires c).In-Change) (R (goal.at.hand_stage-requires c).In-Change), (before, after))
+    let before = served-first a.old.now a.new.now a.service (k (goal.at.hand_stage-requires c).In-Change) (first (goal.at.hand_stage-requires c).In-Change)
+    (second (goal.at.hand_stage-requires c).In-Change) (R (goal.at.hand_stage-requires c).In-Change) in
+    let after = served-second a.old.now a.new.now a.service (k (goal.at.hand_stage-requires c).In-Change) (first (goal.at.hand_stage-requires c).In-Change)
+    (second (goal.at.hand_stage-requires c).In-Change) (R (goal.at.hand_stage-requires c).In-Change) in (
+      few_bits a.old.now a.new.now a.service (k (goal.at.hand_stage-requires c).In-Change) (first (goal.at.hand_stage-requires c).In-Change)
+          (second (goal.at.hand_stage-requires c).In-Change) (R (goal.at.hand_stage-requires c).In-Change),
+      (before, after),
+    )
 
 pub returns-in-Refused : goal.returns-in-Refused
 returns-in-Refused c =
@@ -54,9 +59,14 @@ returns-in-Change c =
     let h = c.hand_stage in
     let e = h.ensures in
     record {
-      answer = e.answer ∙ lines-answer a.old.now a.new.now a.service (k (goal.at.returns-in-Change c).In-Change) (first (goal.at.returns-in-Change c).In-Change) (second (goal.at.returns-in-Change c).In-Change) (R (goal.at.returns-in-Change c).In-Change) a.limit a.capacity a.number room;
-      buffer = e.buffer ∙ lines-buffer a.old.now a.new.now a.service (k (goal.at.returns-in-Change c).In-Change) (first (goal.at.returns-in-Change c).In-Change) (second (goal.at.returns-in-Change c).In-Change) (R (goal.at.returns-in-Change c).In-Change) a.limit a.capacity a.number room
+      answer = e.answer ∙ lines-answer a.old.now a.new.now a.service (k (goal.at.returns-in-Change c).In-Change)
+          (first (goal.at.returns-in-Change c).In-Change) (second (goal.at.returns-in-Change c).In-Change) (R (goal.at.returns-in-Change c).In-Change) a.limit
+          a.capacity a.number room;
+      buffer = e.buffer ∙ lines-buffer a.old.now a.new.now a.service (k (goal.at.returns-in-Change c).In-Change)
+          (first (goal.at.returns-in-Change c).In-Change) (second (goal.at.returns-in-Change c).In-Change) (R (goal.at.returns-in-Change c).In-Change) a.limit
+          a.capacity a.number room
           h.result a.out.now e.answer;
-      promise = lines-promised a.old.now a.new.now a.service (k (goal.at.returns-in-Change c).In-Change) (first (goal.at.returns-in-Change c).In-Change) (second (goal.at.returns-in-Change c).In-Change) (R (goal.at.returns-in-Change c).In-Change) a.limit a.capacity a.number room h.result
+      promise = lines-promised a.old.now a.new.now a.service (k (goal.at.returns-in-Change c).In-Change) (first (goal.at.returns-in-Change c).In-Change)
+          (second (goal.at.returns-in-Change c).In-Change) (R (goal.at.returns-in-Change c).In-Change) a.limit a.capacity a.number room h.result
           a.out.now _ e.answer refl e.buffer;
     }

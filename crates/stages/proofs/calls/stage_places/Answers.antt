@@ -32,9 +32,14 @@ module _ (d : In-Change) where
 pub hand_row-requires : goal.hand_row-requires
 hand_row-requires c =
     let a = c.args in
-    let before = served-first a.old.now a.new.now a.service (k (goal.at.hand_row-requires c).In-Change) (first (goal.at.hand_row-requires c).In-Change) (second (goal.at.hand_row-requires c).In-Change) (R (goal.at.hand_row-requires c).In-Change) in
-    let after = served-second a.old.now a.new.now a.service (k (goal.at.hand_row-requires c).In-Change) (first (goal.at.hand_row-requires c).In-Change) (second (goal.at.hand_row-requires c).In-Change) (R (goal.at.hand_row-requires c).In-Change) in
-    (few_bits a.old.now a.new.now a.service (k (goal.at.hand_row-requires c).In-Change) (first (goal.at.hand_row-requires c).In-Change) (second (goal.at.hand_row-requires c).In-Change) (R (goal.at.hand_row-requires c).In-Change), (before.long, after.long))
+    let before = served-first a.old.now a.new.now a.service (k (goal.at.hand_row-requires c).In-Change) (first (goal.at.hand_row-requires c).In-Change)
+    (second (goal.at.hand_row-requires c).In-Change) (R (goal.at.hand_row-requires c).In-Change) in
+    let after = served-second a.old.now a.new.now a.service (k (goal.at.hand_row-requires c).In-Change) (first (goal.at.hand_row-requires c).In-Change)
+    (second (goal.at.hand_row-requires c).In-Change) (R (goal.at.hand_row-requires c).In-Change) in (
+      few_bits a.old.now a.new.now a.service (k (goal.at.hand_row-requires c).In-Change) (first (goal.at.hand_row-requires c).In-Change)
+          (second (goal.at.hand_row-requires c).In-Change) (R (goal.at.hand_row-requires c).In-Change),
+      (before.long, after.long),
+    )
 
 pub returns-in-Refused : goal.returns-in-Refused
 returns-in-Refused c =
@@ -53,9 +58,14 @@ returns-in-Change c =
     let h = c.hand_row in
     let e = h.ensures in
     record {
-      answer = e.answer ∙ places-answer a.old.now a.new.now a.service (k (goal.at.returns-in-Change c).In-Change) (first (goal.at.returns-in-Change c).In-Change) (second (goal.at.returns-in-Change c).In-Change) (R (goal.at.returns-in-Change c).In-Change) a.limit a.capacity (length a.places.now);
-      buffer = e.buffer ∙ places-buffer a.old.now a.new.now a.service (k (goal.at.returns-in-Change c).In-Change) (first (goal.at.returns-in-Change c).In-Change) (second (goal.at.returns-in-Change c).In-Change) (R (goal.at.returns-in-Change c).In-Change) a.limit a.capacity (length a.places.now)
+      answer = e.answer ∙ places-answer a.old.now a.new.now a.service (k (goal.at.returns-in-Change c).In-Change)
+          (first (goal.at.returns-in-Change c).In-Change) (second (goal.at.returns-in-Change c).In-Change) (R (goal.at.returns-in-Change c).In-Change) a.limit
+          a.capacity (length a.places.now);
+      buffer = e.buffer ∙ places-buffer a.old.now a.new.now a.service (k (goal.at.returns-in-Change c).In-Change)
+          (first (goal.at.returns-in-Change c).In-Change) (second (goal.at.returns-in-Change c).In-Change) (R (goal.at.returns-in-Change c).In-Change) a.limit
+          a.capacity (length a.places.now)
           h.result a.places.now e.answer;
-      promise = places-promised a.old.now a.new.now a.service (k (goal.at.returns-in-Change c).In-Change) (first (goal.at.returns-in-Change c).In-Change) (second (goal.at.returns-in-Change c).In-Change) (R (goal.at.returns-in-Change c).In-Change) a.limit a.capacity (length a.places.now) h.result
+      promise = places-promised a.old.now a.new.now a.service (k (goal.at.returns-in-Change c).In-Change) (first (goal.at.returns-in-Change c).In-Change)
+          (second (goal.at.returns-in-Change c).In-Change) (R (goal.at.returns-in-Change c).In-Change) a.limit a.capacity (length a.places.now) h.result
           a.places.now _ e.answer refl e.buffer;
     }

@@ -36,7 +36,14 @@ offset_bounds-new-i c = omega (arith, all-is (goal.at.offset_bounds-new-i c).Sta
 
 pub bounds-new-i : goal.bounds-new-i
 bounds-new-i c =
-    omega (arith, all-is (goal.at.bounds-new-i c).Start, few (goal.at.bounds-new-i c).Start, c.requires.k_le_most_bits.1.1, c.requires.k_le_most_bits.1.0, c.requires.nodes_2.held_long)
+    omega (
+      arith,
+      all-is (goal.at.bounds-new-i c).Start,
+      few (goal.at.bounds-new-i c).Start,
+      c.requires.k_le_most_bits.1.1,
+      c.requires.k_le_most_bits.1.0,
+      c.requires.nodes_2.held_long,
+    )
 
 pub loop-i-init : goal.loop-i-init
 loop-i-init c =
@@ -65,7 +72,12 @@ module _ (t : In-loop-i) where
   new = leaves k t.args.new.now
 
   below : (1 < i) × (i < 2 * 2 ^ k) × (2 * 2 ^ k ≤ node_count)
-  below = (t.loop-i-test.true, (up-inside k p old new t.requires.k_le_most_bits.1.0 t.requires.k_le_most_bits.1.1 i n t.loop-i.invariant).1, omega (arith, few (goal.at.In-loop-i t).Start))
+  below = (
+    t.loop-i-test.true,
+    (up-inside k p old new t.requires.k_le_most_bits.1.0 t.requires.k_le_most_bits.1.1 i n t.loop-i.invariant).1,
+    omega
+        (arith, few (goal.at.In-loop-i t).Start),
+  )
 
   own-few : n ≤ most_suffixes
   own-few = up-few k p old new t.requires.k_le_most_bits.1.0 t.requires.k_le_most_bits.1.1 i n t.loop-i.invariant t.requires.k_le_most_bits.0
@@ -106,7 +118,8 @@ join-n-requires c =
     omega (
       arith,
       own-few (goal.at.join-n-requires c).In-loop-i,
-      count-few (k (goal.at.join-n-requires c).In-loop-i) (old (goal.at.join-n-requires c).In-loop-i) 1 (i (goal.at.join-n-requires c).In-loop-i + 1) a.old.now a.old_lines.now c.requires.nodes c.requires.k_le_most_bits.0 (omega arith) (omega arith) inside,
+      count-few (k (goal.at.join-n-requires c).In-loop-i) (old (goal.at.join-n-requires c).In-loop-i) 1 (i (goal.at.join-n-requires c).In-loop-i + 1)
+          a.old.now a.old_lines.now c.requires.nodes c.requires.k_le_most_bits.0 (omega arith) (omega arith) inside,
     )
 
 pub overflow_sub-i-else-i-eq0 : goal.overflow_sub-i-else-i-eq0
@@ -140,7 +153,8 @@ join-n-requires-else-i-eq0 c =
     omega (
       arith,
       own-few (goal.at.join-n-requires-else-i-eq0 c).In-loop-i,
-      count-few (k (goal.at.join-n-requires-else-i-eq0 c).In-loop-i) (new (goal.at.join-n-requires-else-i-eq0 c).In-loop-i) 1 (i (goal.at.join-n-requires-else-i-eq0 c).In-loop-i - 1) a.new.now a.new_lines.now c.requires.nodes_2 c.requires.k_le_most_bits.0 some some inside,
+      count-few (k (goal.at.join-n-requires-else-i-eq0 c).In-loop-i) (new (goal.at.join-n-requires-else-i-eq0 c).In-loop-i) 1
+          (i (goal.at.join-n-requires-else-i-eq0 c).In-loop-i - 1) a.new.now a.new_lines.now c.requires.nodes_2 c.requires.k_le_most_bits.0 some some inside,
     )
 
 pub loop-i-smaller : goal.loop-i-smaller

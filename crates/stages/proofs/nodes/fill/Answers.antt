@@ -28,7 +28,8 @@ loop-i-init c =
     let a = c.args in (
       omega (arith, all-is (goal.at.loop-i-init c).Start, pow_pos a.k),
       omega (arith, all-is (goal.at.loop-i-init c).Start),
-      nodes-none a.k (at a.holder.now) _ a.held.now a.lines.now (omega (arith, all-is (goal.at.loop-i-init c).Start)) c.requires.held_len.0 c.requires.held_len.1,
+      nodes-none a.k (at a.holder.now) _ a.held.now a.lines.now (omega (arith, all-is (goal.at.loop-i-init c).Start)) c.requires.held_len.0
+          c.requires.held_len.1,
     )
 
 -- the number that the loop has come to, and its halves'
@@ -44,7 +45,14 @@ offset_bounds-holder-i c = omega (arith, (inside (goal.at.offset_bounds-holder-i
 
 pub bounds-holder-i : goal.bounds-holder-i
 bounds-holder-i c =
-    omega (arith, all-is (goal.at.bounds-holder-i c).Start, few (goal.at.bounds-holder-i c).Start, (inside (goal.at.bounds-holder-i c).In-loop-i).2, c.requires.k_le_most_bits.1, c.if-all-i.true)
+    omega (
+      arith,
+      all-is (goal.at.bounds-holder-i c).Start,
+      few (goal.at.bounds-holder-i c).Start,
+      (inside (goal.at.bounds-holder-i c).In-loop-i).2,
+      c.requires.k_le_most_bits.1,
+      c.if-all-i.true,
+    )
 
 pub offset_bounds-held-i : goal.offset_bounds-held-i
 offset_bounds-held-i c = omega (arith, (inside (goal.at.offset_bounds-held-i c).In-loop-i).3)
@@ -68,14 +76,26 @@ loop-i-preserved-then-all-i c =
       omega (arith, i.2),
       subst (λ (x : ℕ). Nodes a.k g (l.i - 1) (set l.held (l.i - 1) (get_or a.holder.now (l.i - 1 - x) 0)) (set l.lines (l.i - 1) 1))
           (sym (all-is (goal.at.loop-i-preserved-then-all-i c).Start))
-          (nodes-leaf a.k g l.i (l.i - 1) l.held l.lines i.3 i.1 l.invariant.2 (omega (arith, all-is (goal.at.loop-i-preserved-then-all-i c).Start, c.if-all-i.true))),
+          (nodes-leaf a.k g l.i (l.i - 1) l.held l.lines i.3 i.1 l.invariant.2 (omega (
+            arith,
+            all-is (goal.at.loop-i-preserved-then-all-i c).Start,
+            c.if-all-i.true,
+          ))),
     )
 
 -- the halves of a node
 low : (c : Else-all-i)
     → (c.loop-i.i - 1 < 2 ^ c.args.k) × (2 * (c.loop-i.i - 1) + 1 < node_count)
-low c =
-    (omega (arith, all-is (goal.at.Else-all-i c).Start, c.if-all-i.false), omega (arith, all-is (goal.at.Else-all-i c).Start, c.if-all-i.false, few (goal.at.Else-all-i c).Start))
+low c = (
+  omega (arith, all-is (goal.at.Else-all-i c).Start, c.if-all-i.false),
+  omega (
+    arith,
+    all-is (goal.at.Else-all-i c).Start,
+    c.if-all-i.false,
+    few
+        (goal.at.Else-all-i c).Start,
+  ),
+)
 
 pub overflow_mul-low : goal.overflow_mul-low
 overflow_mul-low c = omega (arith, (low c).1)

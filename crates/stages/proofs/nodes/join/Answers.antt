@@ -27,4 +27,8 @@ returns-then-a-b-eq2 c = let a = c.args in one a.a a.b a.same c.if-same.true c.i
 pub returns-else-same : goal.returns-else-same
 returns-else-same c =
     let a = c.args in
-    elim c.else-same.branch [ else-same-via-then-same+else-a-b-eq2 w ↦ more a.a a.b a.same w.if-a-b-eq2.false | else-same-via-else-same w ↦ other a.a a.b a.same w.if-same.false ]
+    elim c.else-same.branch [
+      | else-same-via-then-same+else-a-b-eq2 w ↦ more a.a a.b a.same w.if-a-b-eq2.false
+      | else-same-via-else-same w ↦ other a.a a.b
+          a.same w.if-same.false
+    ]

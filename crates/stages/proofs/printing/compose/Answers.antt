@@ -17,8 +17,15 @@ loop-q-init c = (omega arith, (c.requires.stage_len, λ y l. absurd (omega arith
 
 -- the place that the loop has come to
 below : (t : In-loop-q) → (t.loop-q.q < 2 ^ t.args.k) × (t.loop-q.q < most_suffixes)
-below t =
-    (omega (arith, shifted t.args.k t.requires.k_le_most_bits.0), omega (arith, shifted t.args.k t.requires.k_le_most_bits.0, pow-few t.args.k t.requires.k_le_most_bits.0))
+below t = (
+  omega (arith, shifted t.args.k t.requires.k_le_most_bits.0),
+  omega (
+    arith,
+    shifted t.args.k t.requires.k_le_most_bits.0,
+    pow-few t.args.k
+        t.requires.k_le_most_bits.0,
+  ),
+)
 
 pub offset_bounds-new-q : goal.offset_bounds-new-q
 offset_bounds-new-q c = omega (arith, below (goal.at.offset_bounds-new-q c).In-loop-q)
@@ -64,7 +71,8 @@ stored c v e is =
         ap length e ∙ simp length-set l.invariant.1.0,
         λ y m.
             ap (λ (z : List ℕ). get_or z y 0) e
-            ∙ listed_more (cut_at a.p (at a.old.now) (at a.new.now)) l.stage l.q v (omega (arith, below (goal.at.Joined-q-p c).In-loop-q)) l.invariant.1.1 is y m,
+            ∙ listed_more (cut_at a.p (at a.old.now) (at a.new.now)) l.stage l.q v (omega (arith, below (goal.at.Joined-q-p c).In-loop-q)) l.invariant.1.1 is
+            y m,
       ),
     )
 

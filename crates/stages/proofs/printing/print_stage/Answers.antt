@@ -44,7 +44,8 @@ module _ (m : After-compose) where
   short : length bytes ≤ text_room
   short =
       let each =
-      text-room (at stage) m.args.k m.args.service m.requires.k_le_most_bits.0 m.requires.k_le_most_bits.1.0.numbered.1 (λ q l. (served.held q l).1) (2 ^ m.args.k)
+      text-room (at stage) m.args.k m.args.service m.requires.k_le_most_bits.0 m.requires.k_le_most_bits.1.0.numbered.1 (λ q l. (served.held q l).1)
+      (2 ^ m.args.k)
       (le_refl (2 ^ m.args.k)) in
       omega (arith, rw same_lines at each, m.requires.k_len_bound)
 
@@ -55,7 +56,8 @@ module _ (w : After-put_lines-end) where
 
   wrote : Wrote (replicate text_room 0) text 0 w.put_lines-end.result (bytes (goal.at.After-put_lines-end w).After-compose)
   wrote =
-      subst (λ (rs : List Rule). Wrote (replicate text_room 0) text 0 w.put_lines-end.result (lines_text (lines_of w.args.service rs))) (same_lines (goal.at.After-put_lines-end w).After-compose)
+      subst (λ (rs : List Rule). Wrote (replicate text_room 0) text 0 w.put_lines-end.result (lines_text (lines_of w.args.service rs)))
+      (same_lines (goal.at.After-put_lines-end w).After-compose)
       w.put_lines-end.ensures
 
   first : take w.put_lines-end.result text ≡ bytes (goal.at.After-put_lines-end w).After-compose
@@ -64,7 +66,8 @@ module _ (w : After-put_lines-end) where
 pub put_lines-end-requires : goal.put_lines-end-requires
 put_lines-end-requires c =
     let filled = c.fill in
-    let few = subst (λ (rs : List Rule). length rs ≤ most_capacity) (sym (same_lines (goal.at.put_lines-end-requires c).After-compose)) c.requires.k_len_bound in
+    let few = subst (λ (rs : List Rule). length rs ≤ most_capacity) (sym (same_lines (goal.at.put_lines-end-requires c).After-compose)) c.requires.k_len_bound
+    in
     record {
       k_le_most_bits = (c.requires.k_le_most_bits.0, (served (goal.at.put_lines-end-requires c).After-compose, c.all_places-places.ensures));
       k_len_bound = (few, length-replicate {A = ℕ} text_room 0);
@@ -74,23 +77,43 @@ put_lines-end-requires c =
 pub returns-then-out-end : goal.returns-then-out-end
 returns-then-out-end c =
     record {
-      answer = (no_room (bytes (goal.at.returns-then-out-end c).After-compose) c.args.out.now (omega (arith, c.if-out-end.true, (wrote (goal.at.returns-then-out-end c).After-put_lines-end).ends))).0;
-      buffer = (no_room (bytes (goal.at.returns-then-out-end c).After-compose) c.args.out.now (omega (arith, c.if-out-end.true, (wrote (goal.at.returns-then-out-end c).After-put_lines-end).ends))).1;
+      answer = (no_room (bytes (goal.at.returns-then-out-end c).After-compose) c.args.out.now
+          (omega (arith, c.if-out-end.true, (wrote (goal.at.returns-then-out-end c).After-put_lines-end).ends))).0;
+      buffer = (no_room (bytes (goal.at.returns-then-out-end c).After-compose) c.args.out.now
+          (omega (arith, c.if-out-end.true, (wrote (goal.at.returns-then-out-end c).After-put_lines-end).ends))).1;
     }
 
 pub copy_text-requires : goal.copy_text-requires
 copy_text-requires c = (
-  omega (arith, (wrote (goal.at.copy_text-requires c).After-put_lines-end).ends, length-kept (wrote (goal.at.copy_text-requires c).After-put_lines-end), length-replicate {A = ℕ} text_room 0, short (goal.at.copy_text-requires c).After-compose),
+  omega (
+    arith,
+    (wrote (goal.at.copy_text-requires c).After-put_lines-end).ends,
+    length-kept (wrote (goal.at.copy_text-requires c).After-put_lines-end),
+    length-replicate {A = ℕ} text_room 0,
+    short (goal.at.copy_text-requires c).After-compose,
+  ),
   omega (arith, c.if-out-end.false),
 )
 
 pub returns : goal.returns
 returns c =
     let out = c.args.out.now in
-    let fits : length (bytes (goal.at.returns c).After-compose) ≤ length out = omega (arith, c.if-out-end.false, (wrote (goal.at.returns c).After-put_lines-end).ends) in
+    let fits : length (bytes (goal.at.returns c).After-compose) ≤ length out = omega (
+      arith,
+      c.if-out-end.false,
+      (wrote (goal.at.returns c).After-put_lines-end).ends,
+    ) in
     record {
       answer = (printed (bytes (goal.at.returns c).After-compose) out c.copy_text.new.to c.put_lines-end.result fits
-          (record { ends = (wrote (goal.at.returns c).After-put_lines-end).ends; holds = c.copy_text.ensures ∙ ap (sets out 0) (first (goal.at.returns c).After-put_lines-end) })).0;
+          (record {
+            ends = (wrote (goal.at.returns c).After-put_lines-end).ends;
+            holds = c.copy_text.ensures ∙ ap (sets out 0)
+                (first (goal.at.returns c).After-put_lines-end);
+          })).0;
       buffer = (printed (bytes (goal.at.returns c).After-compose) out c.copy_text.new.to c.put_lines-end.result fits
-          (record { ends = (wrote (goal.at.returns c).After-put_lines-end).ends; holds = c.copy_text.ensures ∙ ap (sets out 0) (first (goal.at.returns c).After-put_lines-end) })).1;
+          (record {
+            ends = (wrote (goal.at.returns c).After-put_lines-end).ends;
+            holds = c.copy_text.ensures ∙ ap (sets out 0)
+                (first (goal.at.returns c).After-put_lines-end);
+          })).1;
     }

@@ -93,9 +93,13 @@ stepped c =
     let l = c.loop-p in
     let w = c.write_line-written in (
       line-ended a.stage.now a.text.now l.text a.k a.service l.end l.p c.requires.k_le_most_bits.0 c.requires.k_le_most_bits.1.0 c.requires.k_len_bound.0
-          c.requires.k_len_bound.1 (below (goal.at.After-write_line-written c).In-loop-p).0 l.invariant c.height-n.result _ (high (goal.at.After-write_line-written c).After-height-n) (suffix (goal.at.After-write_line-written c).In-loop-p) w.result w.new.out w.ensures.answer w.ensures.buffer,
+          c.requires.k_len_bound.1 (below (goal.at.After-write_line-written c).In-loop-p).0 l.invariant c.height-n.result _
+          (high (goal.at.After-write_line-written c).After-height-n) (suffix (goal.at.After-write_line-written c).In-loop-p) w.result w.new.out
+          w.ensures.answer w.ensures.buffer,
       line-more a.stage.now a.text.now l.text a.k a.service l.end l.p c.requires.k_le_most_bits.0 c.requires.k_le_most_bits.1.0 c.requires.k_len_bound.0
-          c.requires.k_len_bound.1 (below (goal.at.After-write_line-written c).In-loop-p).0 l.invariant c.height-n.result _ (high (goal.at.After-write_line-written c).After-height-n) (suffix (goal.at.After-write_line-written c).In-loop-p) w.result w.new.out w.ensures.answer w.ensures.buffer,
+          c.requires.k_len_bound.1 (below (goal.at.After-write_line-written c).In-loop-p).0 l.invariant c.height-n.result _
+          (high (goal.at.After-write_line-written c).After-height-n) (suffix (goal.at.After-write_line-written c).In-loop-p) w.result w.new.out
+          w.ensures.answer w.ensures.buffer,
     )
 
 -- how many places its node has
@@ -109,11 +113,23 @@ overflow_shl-p c =
 
 pub overflow_add-p : goal.overflow_add-p
 overflow_add-p c =
-    omega (arith, size (goal.at.overflow_add-p c).After-height-n, (stepped (goal.at.overflow_add-p c).After-write_line-written).1.within, pow-few c.args.k c.requires.k_le_most_bits.0)
+    omega (
+      arith,
+      size (goal.at.overflow_add-p c).After-height-n,
+      (stepped (goal.at.overflow_add-p c).After-write_line-written).1.within,
+      pow-few c.args.k
+          c.requires.k_le_most_bits.0,
+    )
 
 pub loop-p-smaller : goal.loop-p-smaller
 loop-p-smaller c =
-    omega (arith, size (goal.at.loop-p-smaller c).After-height-n, (stepped (goal.at.loop-p-smaller c).After-write_line-written).1.within, (below (goal.at.loop-p-smaller c).In-loop-p).0, pow_pos c.height-n.result)
+    omega (
+      arith,
+      size (goal.at.loop-p-smaller c).After-height-n,
+      (stepped (goal.at.loop-p-smaller c).After-write_line-written).1.within,
+      (below (goal.at.loop-p-smaller c).In-loop-p).0,
+      pow_pos c.height-n.result,
+    )
 
 -- where the line ends: it is never refused
 end_is : (c : Joined-written) → c.match-written.end ≡ end_at c.write_line-written.result
@@ -127,7 +143,8 @@ pub loop-p-preserved : goal.loop-p-preserved
 loop-p-preserved c =
     let a = c.args in
     let p = c.loop-p.p in
-    subst (λ (x : ℕ). Going a.stage.now a.k a.service a.text.now c.write_line-written.new.out c.match-written.end (p + x)) (sym (size (goal.at.loop-p-preserved c).After-height-n))
+    subst (λ (x : ℕ). Going a.stage.now a.k a.service a.text.now c.write_line-written.new.out c.match-written.end (p + x))
+    (sym (size (goal.at.loop-p-preserved c).After-height-n))
     (subst (λ (e : ℕ). Going a.stage.now a.k a.service a.text.now c.write_line-written.new.out e (p + 2 ^ c.height-n.result))
     (sym (end_is c)) (stepped (goal.at.loop-p-preserved c).After-write_line-written).1)
 

@@ -19,7 +19,8 @@ pub returns-in_default-second : goal.returns-in_default-second
 returns-in_default-second c =
     let a = c.args in
     second-failed a.old.now a.new.now a.service c.load-first.result _ c.load-first.ensures c.in-Table.k c.in-Table.is
-    c.load-second.result _ c.load-second.ensures c.in_default-second.field-0 c.in_default-second.is c.refused_sheet-in_default-second.result (c.refused_sheet-in_default-second.ensures c.in_default-second.field-0 c.in_default-second.is) _ _
+    c.load-second.result _ c.load-second.ensures c.in_default-second.field-0 c.in_default-second.is c.refused_sheet-in_default-second.result
+    (c.refused_sheet-in_default-second.ensures c.in_default-second.field-0 c.in_default-second.is) _ _
 
 pub bounds-before-0 : goal.bounds-before-0
 bounds-before-0 c =

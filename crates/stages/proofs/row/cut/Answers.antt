@@ -63,7 +63,11 @@ full c =
     let d : ℕ → Bool = unlike (at a.old.now) (at a.new.now) in
     let differs : d l.p ≡ true = ap not (ne_eqb _ _ c.if-old-p.true) in
     let long : l.n + 1 ≡ length (cuts_to d a.limit (l.p + 1)) =
-    cut-long d a.limit a.row.now l.p l.n l.moved l.row l.invariant.1 differs (omega (arith, few-moved (goal.at.Then-limit-moved c).In-loop-p, c.if-limit-moved.true))
+    cut-long d a.limit a.row.now l.p l.n l.moved l.row l.invariant.1 differs (omega (
+      arith,
+      few-moved (goal.at.Then-limit-moved c).In-loop-p,
+      c.if-limit-moved.true,
+    ))
     in
     let few : length (cuts_to d a.limit (l.p + 1)) ≤ length (cuts_to d a.limit (2 ^ a.k)) =
     cuts-up d a.limit (l.p + 1) (2 ^ a.k) (omega (arith, inside (goal.at.Then-limit-moved c).In-loop-p))
@@ -110,7 +114,8 @@ loop-p-preserved c =
             (elim w.if-limit-moved.branch [
               | then-limit-moved v ↦
                   rw (v.row-is, v.n-is, v.moved-is)
-                  (cut-here d a.limit a.row.now l.p l.n l.moved l.row l.invariant.1 differs (omega (arith, few-moved (goal.at.loop-p-preserved c).In-loop-p, v.if-limit-moved.true)))
+                  (cut-here d a.limit a.row.now l.p l.n l.moved l.row l.invariant.1 differs
+                  (omega (arith, few-moved (goal.at.loop-p-preserved c).In-loop-p, v.if-limit-moved.true)))
               | else-limit-moved v ↦
                   rw (v.row-is, v.n-is, v.moved-is)
                   (cut-more d a.limit a.row.now l.p l.n l.moved l.row l.invariant.1 differs (λ e. omega (arith, v.if-limit-moved.false)))

@@ -30,7 +30,11 @@ loop-left-init c =
 pub count_lines-lines-requires : goal.count_lines-lines-requires
 count_lines-lines-requires c =
     record {
-      k_le_most_bits = (c.requires.k_le_most_bits.0, c.requires.n_in_bounds.1 (c.args.n - c.loop-left.left) (omega (arith, c.loop-left.invariant.0, c.loop-left-test.true)));
+      k_le_most_bits = (
+        c.requires.k_le_most_bits.0,
+        c.requires.n_in_bounds.1 (c.args.n - c.loop-left.left)
+            (omega (arith, c.loop-left.invariant.0, c.loop-left-test.true)),
+      );
       nodes = nodes-leaves _ _ _ _ (old-nodes (goal.at.count_lines-lines-requires c).At-loop-left);
       nodes_2 = nodes-leaves _ _ _ _ (new-nodes (goal.at.count_lines-lines-requires c).At-loop-left);
     }
@@ -43,7 +47,8 @@ counted c =
     let a = c.args in
     c.count_lines-lines.ensures
     ∙ sym (stage-lines a.k (get_or a.row.now (a.n - c.loop-left.left) 0) (at a.old.now) (at a.new.now) _ _
-    (nodes-leaf _ _ _ _ (old-nodes (goal.at.After-count_lines-lines c).At-loop-left)) (nodes-leaf _ _ _ _ (new-nodes (goal.at.After-count_lines-lines c).At-loop-left)))
+    (nodes-leaf _ _ _ _ (old-nodes (goal.at.After-count_lines-lines c).At-loop-left)) (nodes-leaf _ _ _ _
+    (new-nodes (goal.at.After-count_lines-lines c).At-loop-left)))
 
 pub returns-then-capacity-lines : goal.returns-then-capacity-lines
 returns-then-capacity-lines c =
@@ -63,7 +68,8 @@ loop-left-preserved c =
       omega (arith, c.loop-left.invariant.0, some),
       c.loop-left.invariant.1
           ∙ crowded-later a.k (at a.old.now) (at a.new.now) a.capacity a.row.now (a.n - left) a.n (omega (arith, c.loop-left.invariant.0, some))
-          c.requires.n_in_bounds.0 (subst (λ (x : ℕ). x ≤ a.capacity) (counted (goal.at.loop-left-preserved c).After-count_lines-lines) c.if-capacity-lines.false)
+          c.requires.n_in_bounds.0 (subst (λ (x : ℕ). x ≤ a.capacity) (counted (goal.at.loop-left-preserved c).After-count_lines-lines)
+          c.if-capacity-lines.false)
           ∙ ap (λ (i : ℕ). crowded_at a.k (at a.old.now) (at a.new.now) a.capacity (slice i a.n a.row.now)) next,
     )
 

@@ -35,7 +35,8 @@ returns-then-limit-lt1 c =
     let a = c.args in
     let low = below-least 1 most_suffixes a.limit c.if-limit-lt1.true in
     record {
-      answer = sym (judged-limit a.k (old (goal.at.returns-then-limit-lt1 c).Start) (new (goal.at.returns-then-limit-lt1 c).Start) a.limit a.capacity a.number low);
+      answer = sym (judged-limit a.k (old (goal.at.returns-then-limit-lt1 c).Start) (new (goal.at.returns-then-limit-lt1 c).Start) a.limit a.capacity a.number
+          low);
       row = c.requires.row_len;
     }
 
@@ -44,7 +45,8 @@ returns-then-limit-gt-MOST_SUFFIXES c =
     let a = c.args in
     let high = above_most 1 most_suffixes a.limit c.if-limit-gt-MOST_SUFFIXES.true in
     record {
-      answer = sym (judged-limit a.k (old (goal.at.returns-then-limit-gt-MOST_SUFFIXES c).Start) (new (goal.at.returns-then-limit-gt-MOST_SUFFIXES c).Start) a.limit a.capacity a.number high);
+      answer = sym (judged-limit a.k (old (goal.at.returns-then-limit-gt-MOST_SUFFIXES c).Start) (new (goal.at.returns-then-limit-gt-MOST_SUFFIXES c).Start)
+          a.limit a.capacity a.number high);
       row = c.requires.row_len;
     }
 
@@ -58,7 +60,8 @@ returns-then-capacity-lt1 c =
     let a = c.args in
     let low = below-least 1 most_capacity a.capacity c.if-capacity-lt1.true in
     record {
-      answer = sym (judged-capacity a.k (old (goal.at.returns-then-capacity-lt1 c).Start) (new (goal.at.returns-then-capacity-lt1 c).Start) a.limit a.capacity a.number (limited (goal.at.returns-then-capacity-lt1 c).Else-limit-gt-MOST_SUFFIXES) low);
+      answer = sym (judged-capacity a.k (old (goal.at.returns-then-capacity-lt1 c).Start) (new (goal.at.returns-then-capacity-lt1 c).Start) a.limit a.capacity
+          a.number (limited (goal.at.returns-then-capacity-lt1 c).Else-limit-gt-MOST_SUFFIXES) low);
       row = c.requires.row_len;
     }
 
@@ -67,7 +70,9 @@ returns-then-capacity-gt-MOST_CAPACITY c =
     let a = c.args in
     let high = above_most 1 most_capacity a.capacity c.if-capacity-gt-MOST_CAPACITY.true in
     record {
-      answer = sym (judged-capacity a.k (old (goal.at.returns-then-capacity-gt-MOST_CAPACITY c).Start) (new (goal.at.returns-then-capacity-gt-MOST_CAPACITY c).Start) a.limit a.capacity a.number (limited (goal.at.returns-then-capacity-gt-MOST_CAPACITY c).Else-limit-gt-MOST_SUFFIXES) high);
+      answer = sym (judged-capacity a.k (old (goal.at.returns-then-capacity-gt-MOST_CAPACITY c).Start)
+          (new (goal.at.returns-then-capacity-gt-MOST_CAPACITY c).Start) a.limit a.capacity a.number
+          (limited (goal.at.returns-then-capacity-gt-MOST_CAPACITY c).Else-limit-gt-MOST_SUFFIXES) high);
       row = c.requires.row_len;
     }
 
@@ -80,8 +85,16 @@ module _ (c : Else-capacity-gt-MOST_CAPACITY) where
   room : (1 ≤ c.args.limit) × (length (places (goal.at.Else-capacity-gt-MOST_CAPACITY c).Start) ≤ length c.args.row.now)
   room =
       let a = c.args in
-      let some : 1 ≤ a.limit = omega (arith, c.if-limit-lt1.false) in
-      (some, omega (arith, row-few a.k (old (goal.at.Else-capacity-gt-MOST_CAPACITY c).Start) (new (goal.at.Else-capacity-gt-MOST_CAPACITY c).Start) a.limit some, pow-few a.k c.requires.k_le_most_bits.0, c.requires.row_len))
+      let some : 1 ≤ a.limit = omega (arith, c.if-limit-lt1.false) in (
+        some,
+        omega (
+          arith,
+          row-few a.k (old (goal.at.Else-capacity-gt-MOST_CAPACITY c).Start) (new (goal.at.Else-capacity-gt-MOST_CAPACITY c).Start) a.limit
+              some,
+          pow-few a.k c.requires.k_le_most_bits.0,
+          c.requires.row_len,
+        ),
+      )
 
 pub cut-n-requires : goal.cut-n-requires
 cut-n-requires c =
@@ -113,7 +126,8 @@ returns-then-number-lt1 c =
     let a = s.args in
     let low = below-least 1 (length (places s)) a.number c.if-number-lt1.true in
     record {
-      answer = sym (judged-number a.k (old s) (new s) a.limit a.capacity a.number (in-limits (goal.at.returns-then-number-lt1 c).After-cut-n) (held (goal.at.returns-then-number-lt1 c).Else-capacity-gt-MOST_CAPACITY) low);
+      answer = sym (judged-number a.k (old s) (new s) a.limit a.capacity a.number (in-limits (goal.at.returns-then-number-lt1 c).After-cut-n)
+          (held (goal.at.returns-then-number-lt1 c).Else-capacity-gt-MOST_CAPACITY) low);
       row = kept (goal.at.returns-then-number-lt1 c).After-cut-n;
     }
 
@@ -124,7 +138,8 @@ returns-then-n-number c =
     let more = subst (λ (n : ℕ). n < a.number) c.cut-n.ensures.long c.if-n-number.true in
     let high = above_most 1 (length (places s)) a.number more in
     record {
-      answer = sym (judged-number a.k (old s) (new s) a.limit a.capacity a.number (in-limits (goal.at.returns-then-n-number c).After-cut-n) (held (goal.at.returns-then-n-number c).Else-capacity-gt-MOST_CAPACITY) high);
+      answer = sym (judged-number a.k (old s) (new s) a.limit a.capacity a.number (in-limits (goal.at.returns-then-n-number c).After-cut-n)
+          (held (goal.at.returns-then-n-number c).Else-capacity-gt-MOST_CAPACITY) high);
       row = kept (goal.at.returns-then-n-number c).After-cut-n;
     }
 
@@ -142,10 +157,17 @@ is_crowded-requires c =
     record {
       k_le_most_bits = s.requires.k_le_most_bits;
       n_in_bounds = (
-        omega (arith, long, kept (goal.at.is_crowded-requires c).After-cut-n, s.requires.row_len, (room (goal.at.is_crowded-requires c).Else-capacity-gt-MOST_CAPACITY).1),
+        omega (
+          arith,
+          long,
+          kept (goal.at.is_crowded-requires c).After-cut-n,
+          s.requires.row_len,
+          (room (goal.at.is_crowded-requires c).Else-capacity-gt-MOST_CAPACITY).1,
+        ),
         λ i l.
             subst (λ (x : ℕ). (0 < x) × (x ≤ 2 ^ a.k))
-            (ap (λ (r : List ℕ). get_or r i 0) (sym (stands (goal.at.is_crowded-requires c).After-cut-n)) ∙ get_or-take c.cut-n.result (listing (goal.at.is_crowded-requires c).After-cut-n) i 0 l)
+            (ap (λ (r : List ℕ). get_or r i 0) (sym (stands (goal.at.is_crowded-requires c).After-cut-n)) ∙ get_or-take c.cut-n.result
+            (listing (goal.at.is_crowded-requires c).After-cut-n) i 0 l)
             (row-places a.k (old s) (new s) a.limit (room (goal.at.is_crowded-requires c).Else-capacity-gt-MOST_CAPACITY).0 i (omega (arith, long))),
       );
     }
@@ -165,7 +187,8 @@ returns-then-is_crowded c =
     let n = numbered (goal.at.returns-then-is_crowded c).Else-n-number in
     let crowded = sym (crowded-is (goal.at.returns-then-is_crowded c).After-is_crowded) ∙ c.if-is_crowded.true in
     record {
-      answer = sym (judged-crowded a.k (old s) (new s) a.limit a.capacity a.number (in-limits (goal.at.returns-then-is_crowded c).After-cut-n) (held (goal.at.returns-then-is_crowded c).Else-capacity-gt-MOST_CAPACITY) n crowded);
+      answer = sym (judged-crowded a.k (old s) (new s) a.limit a.capacity a.number (in-limits (goal.at.returns-then-is_crowded c).After-cut-n)
+          (held (goal.at.returns-then-is_crowded c).Else-capacity-gt-MOST_CAPACITY) n crowded);
       row = kept (goal.at.returns-then-is_crowded c).After-cut-n;
     }
 
@@ -177,6 +200,7 @@ returns c =
     let roomy = sym (crowded-is (goal.at.returns c).After-is_crowded) ∙ c.if-is_crowded.false in
     record {
       answer = ap Row c.cut-n.ensures.long
-          ∙ sym (judged-row a.k (old s) (new s) a.limit a.capacity a.number (in-limits (goal.at.returns c).After-cut-n) (held (goal.at.returns c).Else-capacity-gt-MOST_CAPACITY) n roomy);
+          ∙ sym (judged-row a.k (old s) (new s) a.limit a.capacity a.number (in-limits (goal.at.returns c).After-cut-n)
+          (held (goal.at.returns c).Else-capacity-gt-MOST_CAPACITY) n roomy);
       row = stands (goal.at.returns c).After-cut-n;
     }

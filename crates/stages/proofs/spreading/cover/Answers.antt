@@ -58,14 +58,20 @@ overflow_cast-at c = omega (arith, c.type_inv.places c.args.value)
 
 pub overflow_mul-at : goal.overflow_mul-at
 overflow_mul-at c =
-    omega (arith, at-is (goal.at.overflow_mul-at c).Start, inside (goal.at.overflow_mul-at c).Start 0 (pow_pos (k (goal.at.overflow_mul-at c).Start - len (goal.at.overflow_mul-at c).Start)))
+    omega (
+      arith,
+      at-is (goal.at.overflow_mul-at c).Start,
+      inside (goal.at.overflow_mul-at c).Start 0
+          (pow_pos (k (goal.at.overflow_mul-at c).Start - len (goal.at.overflow_mul-at c).Start)),
+    )
 
 pub loop-i-init : goal.loop-i-init
 loop-i-init c = (omega arith, given-none _ _ c.args.holder.now)
 
 -- the place that the loop has come to
 below : (t : In-loop-i)
-    → place (len (goal.at.In-loop-i t).Start) (value (goal.at.In-loop-i t).Start) * 2 ^ (k (goal.at.In-loop-i t).Start - len (goal.at.In-loop-i t).Start) + t.loop-i.i < most_suffixes
+    → place (len (goal.at.In-loop-i t).Start) (value (goal.at.In-loop-i t).Start) * 2 ^ (k (goal.at.In-loop-i t).Start - len (goal.at.In-loop-i t).Start) +
+    t.loop-i.i < most_suffixes
 below t =
     inside (goal.at.In-loop-i t).Start t.loop-i.i (omega (arith, size_is (goal.at.In-loop-i t).Start))
 
@@ -82,7 +88,8 @@ pub loop-i-preserved : goal.loop-i-preserved
 loop-i-preserved c =
     let a = c.args in
     let l = c.loop-i in
-    let at : ℕ = place (len (goal.at.loop-i-preserved c).Start) (value (goal.at.loop-i-preserved c).Start) * 2 ^ (k (goal.at.loop-i-preserved c).Start - len (goal.at.loop-i-preserved c).Start) in (
+    let at : ℕ = place (len (goal.at.loop-i-preserved c).Start) (value (goal.at.loop-i-preserved c).Start) * 2 ^
+    (k (goal.at.loop-i-preserved c).Start - len (goal.at.loop-i-preserved c).Start) in (
       omega arith,
       subst (λ (x : ℕ). Given at (l.i + 1) a.backend a.holder.now (set l.holder (x + l.i) a.backend)) (sym (at-is (goal.at.loop-i-preserved c).Start))
           (given-more at l.i a.backend a.holder.now l.holder (omega (arith, below c)) l.invariant.1),
@@ -94,5 +101,7 @@ returns c =
     let l = c.loop-i in
     let all : l.i ≡ 2 ^ (k (goal.at.returns c).Start - len (goal.at.returns c).Start) = omega (arith, size_is (goal.at.returns c).Start) in
     let rule : Rule = record { len = len (goal.at.returns c).Start; value = value (goal.at.returns c).Start; backend = a.backend } in
-    covered-end (k (goal.at.returns c).Start) rule a.holder.now l.holder (is-rule (k (goal.at.returns c).Start) rule c.requires.k_le_most_bits.1.0 c.requires.k_le_most_bits.1.1.0)
-    (subst (λ (n : ℕ). Given (place (len (goal.at.returns c).Start) (value (goal.at.returns c).Start) * 2 ^ (k (goal.at.returns c).Start - len (goal.at.returns c).Start)) n a.backend a.holder.now l.holder) all l.invariant.1)
+    covered-end (k (goal.at.returns c).Start) rule a.holder.now l.holder (is-rule (k (goal.at.returns c).Start) rule c.requires.k_le_most_bits.1.0
+    c.requires.k_le_most_bits.1.1.0)
+    (subst (λ (n : ℕ). Given (place (len (goal.at.returns c).Start) (value (goal.at.returns c).Start) * 2 ^
+    (k (goal.at.returns c).Start - len (goal.at.returns c).Start)) n a.backend a.holder.now l.holder) all l.invariant.1)

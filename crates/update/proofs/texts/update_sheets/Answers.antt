@@ -93,19 +93,32 @@ pub slice_bounds-list-end : goal.slice_bounds-list-end
 slice_bounds-list-end c = omega (arith, few (goal.at.slice_bounds-list-end c).In-Made, list-long (goal.at.slice_bounds-list-end c).In-Made)
 
 pub slice_bounds-update-end : goal.slice_bounds-update-end
-slice_bounds-update-end c = sym (length-take-le (3 * (m (goal.at.slice_bounds-update-end c).In-Made).rules) (list (goal.at.slice_bounds-update-end c).In-Made) (omega (arith, few (goal.at.slice_bounds-update-end c).In-Made, list-long (goal.at.slice_bounds-update-end c).In-Made)))
+slice_bounds-update-end c = sym (length-take-le (3 * (m (goal.at.slice_bounds-update-end c).In-Made).rules) (list (goal.at.slice_bounds-update-end c).In-Made)
+    (omega (arith, few (goal.at.slice_bounds-update-end c).In-Made, list-long (goal.at.slice_bounds-update-end c).In-Made)))
 
 pub slice_bounds-ids-end : goal.slice_bounds-ids-end
 slice_bounds-ids-end c = omega (arith, some-few (goal.at.slice_bounds-ids-end c).In-Made, names-long (goal.at.slice_bounds-ids-end c).In-Made)
 
 pub slice_bounds-update-end-in-Made : goal.slice_bounds-update-end-in-Made
-slice_bounds-update-end-in-Made c = sym (length-take-le (m (goal.at.slice_bounds-update-end-in-Made c).In-Made).backends (names (goal.at.slice_bounds-update-end-in-Made c).In-Made) (omega (arith, some-few (goal.at.slice_bounds-update-end-in-Made c).In-Made, names-long (goal.at.slice_bounds-update-end-in-Made c).In-Made)))
+slice_bounds-update-end-in-Made c = sym (length-take-le (m (goal.at.slice_bounds-update-end-in-Made c).In-Made).backends
+    (names (goal.at.slice_bounds-update-end-in-Made c).In-Made) (omega (
+      arith,
+      some-few (goal.at.slice_bounds-update-end-in-Made c).In-Made,
+      names-long
+          (goal.at.slice_bounds-update-end-in-Made c).In-Made,
+    )))
 
 pub slice_bounds-weights-end : goal.slice_bounds-weights-end
 slice_bounds-weights-end c = omega (arith, some-few (goal.at.slice_bounds-weights-end c).In-Made, row-long (goal.at.slice_bounds-weights-end c).In-Made)
 
 pub slice_bounds-update-end-in-Made-2 : goal.slice_bounds-update-end-in-Made-2
-slice_bounds-update-end-in-Made-2 c = sym (length-take-le (m (goal.at.slice_bounds-update-end-in-Made-2 c).In-Made).backends (row (goal.at.slice_bounds-update-end-in-Made-2 c).In-Made) (omega (arith, some-few (goal.at.slice_bounds-update-end-in-Made-2 c).In-Made, row-long (goal.at.slice_bounds-update-end-in-Made-2 c).In-Made)))
+slice_bounds-update-end-in-Made-2 c = sym (length-take-le (m (goal.at.slice_bounds-update-end-in-Made-2 c).In-Made).backends
+    (row (goal.at.slice_bounds-update-end-in-Made-2 c).In-Made) (omega (
+      arith,
+      some-few (goal.at.slice_bounds-update-end-in-Made-2 c).In-Made,
+      row-long
+          (goal.at.slice_bounds-update-end-in-Made-2 c).In-Made,
+    )))
 
 pub returns-in-Refused : goal.returns-in-Refused
 returns-in-Refused c =
@@ -126,13 +139,19 @@ returns-in-Made c =
     let long = length-replicate {A = ℕ} list_room 0 in
     let wide = length-replicate {A = ℕ} most_backends 0 in
     record {
-      answer = text-answer a.old.now a.sheet.now a.service (m (goal.at.returns-in-Made c).In-Made) (X (goal.at.returns-in-Made c).In-Made) list₀ (list (goal.at.returns-in-Made c).In-Made) row₀ (names (goal.at.returns-in-Made c).In-Made) row₀ (row (goal.at.returns-in-Made c).In-Made) long wide wide
+      answer = text-answer a.old.now a.sheet.now a.service (m (goal.at.returns-in-Made c).In-Made) (X (goal.at.returns-in-Made c).In-Made) list₀
+          (list (goal.at.returns-in-Made c).In-Made) row₀ (names (goal.at.returns-in-Made c).In-Made) row₀ (row (goal.at.returns-in-Made c).In-Made) long wide
+          wide
           (listed (goal.at.returns-in-Made c).In-Made) (named (goal.at.returns-in-Made c).In-Made) (weighed (goal.at.returns-in-Made c).In-Made)
           (length a.rules.now) c.update-updated.result e.answer v c.of_updated.ensures;
-      rules = text-buffer a.old.now a.sheet.now a.service (m (goal.at.returns-in-Made c).In-Made) (X (goal.at.returns-in-Made c).In-Made) list₀ (list (goal.at.returns-in-Made c).In-Made) row₀ (names (goal.at.returns-in-Made c).In-Made) row₀ (row (goal.at.returns-in-Made c).In-Made) long wide wide
+      rules = text-buffer a.old.now a.sheet.now a.service (m (goal.at.returns-in-Made c).In-Made) (X (goal.at.returns-in-Made c).In-Made) list₀
+          (list (goal.at.returns-in-Made c).In-Made) row₀ (names (goal.at.returns-in-Made c).In-Made) row₀ (row (goal.at.returns-in-Made c).In-Made) long wide
+          wide
           (listed (goal.at.returns-in-Made c).In-Made) (named (goal.at.returns-in-Made c).In-Made) (weighed (goal.at.returns-in-Made c).In-Made)
           (length a.rules.now) c.update-updated.result e.answer v c.of_updated.ensures a.rules.now _ e.rules;
-      promise = text-promised a.old.now a.sheet.now a.service (m (goal.at.returns-in-Made c).In-Made) (X (goal.at.returns-in-Made c).In-Made) list₀ (list (goal.at.returns-in-Made c).In-Made) row₀ (names (goal.at.returns-in-Made c).In-Made) row₀ (row (goal.at.returns-in-Made c).In-Made) long wide wide
+      promise = text-promised a.old.now a.sheet.now a.service (m (goal.at.returns-in-Made c).In-Made) (X (goal.at.returns-in-Made c).In-Made) list₀
+          (list (goal.at.returns-in-Made c).In-Made) row₀ (names (goal.at.returns-in-Made c).In-Made) row₀ (row (goal.at.returns-in-Made c).In-Made) long wide
+          wide
           (listed (goal.at.returns-in-Made c).In-Made) (named (goal.at.returns-in-Made c).In-Made) (weighed (goal.at.returns-in-Made c).In-Made)
           (length a.rules.now) c.update-updated.result e.answer v c.of_updated.ensures _ e.promise;
     }
