@@ -1,4 +1,5 @@
 -- The text of a gauge: times 2^12 a gauge is a whole number, whose decimal over 2^12 is that of the gauge, exactly.
+use Rattle.std.specs.Prelude.{Ok}
 use Prim.Native.Nat.{ℕ, suc, ◌+◌, ◌-◌, ◌*◌, ◌^◌, ◌≤◌, ◌<◌}
 use mathlib.Core.Path.{◌≡◌, refl, sym, ap, ◌∙◌, subst}
 use mathlib.Core.Bool.{true, false}
@@ -20,7 +21,6 @@ use Rattle.sheets.proofs.OrderedLines.{read-proper}
 use Rattle.gauges.specs.Binary64.{dyadic}
 use Rattle.gauges.specs.Gauges.{held, gauges_of, gauges_answer}
 use Rattle.gauges.specs.declared.answer.Gauges.{Gauges}
-use Rattle.gauges.specs.declared.answer.GaugesAnswer.TheVariants.{Made}
 use Rattle.gauges.proofs.Fractions.{dyadic-value}
 use Rattle.gauges.proofs.Operations.{whole-value, whole_in, mul-values}
 use Rattle.gauges.proofs.Answers.{held-most, load-most, whole}
@@ -85,7 +85,7 @@ module _ (x : Float) (g : IsGauge x) where
 gauge-by : (count k : ℕ) → count ≤ most_volume * most_suffixes → k ≤ most_bits → IsGauge (dyadic count k)
 gauge-by count k few bits = record { count = count; k = k; is = refl; few = few; bits = bits }
 
-pub made-gauges : (text : List ℕ) (n volume b : ℕ) (g : Gauges) → Made g ≡ gauges_answer text n volume b → IsGauge g.share × IsGauge g.load
+pub made-gauges : (text : List ℕ) (n volume b : ℕ) (g : Gauges) → Ok g ≡ gauges_answer text n volume b → IsGauge g.share × IsGauge g.load
 unfolding gauges_of
 made-gauges text n volume b g e =
     let w = whole text n volume b g e in

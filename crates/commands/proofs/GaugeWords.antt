@@ -1,4 +1,5 @@
 -- The words of gauge: numbers above their limits are answered as one more than the limit, and what is printed is exact.
+use Rattle.std.specs.Prelude.{IsErr, IsErrAnd, None, Result, Some}
 use Prim.Native.Nat.{ℕ, ◌+◌, ◌*◌, ◌≤◌, ◌<◌, min}
 use mathlib.Core.Path.{◌≡◌, sym, ap, ◌∙◌}
 use mathlib.Core.Bool.{false}
@@ -6,7 +7,7 @@ use mathlib.Core.List.{List, [], ◌∷◌, ◌++◌}
 use native.Mathlib.Omega.{arith}
 use lib.ListN.{length, take, length-append}
 use Rattle.numerals.specs.Limits.{most_id, most_services, most_suffixes, most_volume}
-use Rattle.numerals.specs.declared.digits.Number.TheVariants.{Value, Bad}
+use Rattle.numerals.proofs.Exits.{handed_on, same_ok, not_both}
 use Rattle.sheets.proofs.OneCall.{take-sets}
 use Rattle.sheets.proofs.OrderedLines.{read-proper}
 use Rattle.sheets.proofs.TableChecks.{above_most}
@@ -14,8 +15,6 @@ use Rattle.gauges.specs.Binary64.{dyadic}
 use Rattle.gauges.specs.Gauges.{held, gauges_of, in_range, gauges_in, gauges_answer}
 use Rattle.gauges.proofs.Answers.{over-volume, no-id, held-most, load-most}
 use Rattle.commands.specs.Said.{prints, no_number, on_number, outcome, filled}
-use Rattle.commands.specs.declared.answer.Outcome.{Outcome}
-use Rattle.commands.specs.declared.answer.Outcome.TheVariants.{Answer, NoNumber}
 use Rattle.commands.specs.Numeral.{numeral}
 use Rattle.commands.specs.Inner.Gauge.{gauge_room}
 use Rattle.commands.specs.Inner.Numeral.{capped}
@@ -23,6 +22,8 @@ use Rattle.commands.specs.Gauge.{float_text, gauges_text, gauge_says, PrintsExac
 use Rattle.commands.proofs.Numerals.{capped-value, capped-bad, capped_same}
 use Rattle.commands.proofs.Services.{gauges-capped}
 use Rattle.commands.proofs.GaugeTexts.{gauge-exact, gauge-short}
+use Rattle.commands.proofs.Texts.{not-said}
+use Rattle.commands.specs.declared.answer.NoNumber.{NoNumber}
 
 -- ---- numbers above their limits are answered as one more than the limit
 
@@ -55,22 +56,22 @@ all-capped text n volume b =
 -- ---- the words of the call
 
 module _ (table service volume backend : List ℕ) where
-  pub no-service : capped most_services (numeral service) ≡ Bad → gauge_says table service volume backend ≡ no_number 2
+  pub no-service : capped most_services (numeral service) ≡ None → gauge_says table service volume backend ≡ no_number 2
   unfolding gauge_says on_number
   no-service e = rw (capped-bad most_services (numeral service) e)
 
-  module _ (n : ℕ) (e : capped most_services (numeral service) ≡ Value n) where
-    pub no-volume : capped most_volume (numeral volume) ≡ Bad → gauge_says table service volume backend ≡ no_number 3
+  module _ (n : ℕ) (e : capped most_services (numeral service) ≡ Some n) where
+    pub no-volume : capped most_volume (numeral volume) ≡ None → gauge_says table service volume backend ≡ no_number 3
     unfolding gauge_says on_number
     no-volume f = rw ((capped-value most_services n (numeral service) e).1, capped-bad most_volume (numeral volume) f)
 
-    module _ (v : ℕ) (f : capped most_volume (numeral volume) ≡ Value v) where
-      pub no-backend : capped most_id (numeral backend) ≡ Bad → gauge_says table service volume backend ≡ no_number 4
+    module _ (v : ℕ) (f : capped most_volume (numeral volume) ≡ Some v) where
+      pub no-backend : capped most_id (numeral backend) ≡ None → gauge_says table service volume backend ≡ no_number 4
       unfolding gauge_says on_number
       no-backend h =
           rw ((capped-value most_services n (numeral service) e).1, (capped-value most_volume v (numeral volume) f).1, capped-bad most_id (numeral backend) h)
 
-      pub says : (b : ℕ) → capped most_id (numeral backend) ≡ Value b
+      pub says : (b : ℕ) → capped most_id (numeral backend) ≡ Some b
           → gauge_says table service volume backend ≡ prints (gauges_text (gauges_answer table n v b))
       unfolding gauge_says on_number
       says b h =
@@ -86,12 +87,9 @@ module _ (table service volume backend : List ℕ) where
 
 -- ---- what is printed is exact
 
-answer-same : {m n : ℕ} → Answer m ≡ Answer n → m ≡ n
-answer-same e = cc
-
 module _ (table service volume backend out : List ℕ) where
   line-exact :
-      2 * gauge_room ≤ length out → (r : Outcome) (after : List ℕ) → r ≡ outcome (gauge_says table service volume backend)
+      2 * gauge_room ≤ length out → (r : Result ℕ NoNumber) (after : List ℕ) → r ≡ outcome (gauge_says table service volume backend)
       → after ≡ filled (gauge_says table service volume backend) out → PrintsExactly table service volume backend r after
   unfolding gauge_says on_number gauges_answer gauges_in gauges_text gauges_of
   line-exact room r after answers fills t n v b end is s u w has i e =
@@ -103,7 +101,7 @@ module _ (table service volume backend out : List ℕ) where
       let load = float_text (dyadic (v * held t n b) t.k) in
       let line = (share ++ 32 ∷ []) ++ (load ++ 10 ∷ []) in
       let said : gauge_says table service volume backend ≡ prints line = rw (s, u, w, is, has, i) in
-      let ends : end ≡ length line = answer-same (sym e ∙ answers ∙ ap outcome said) in
+      let ends : end ≡ length line = same_ok (sym e ∙ answers ∙ ap outcome said) in
       let fits : length line ≤ length out =
       omega (
         arith,
@@ -124,19 +122,17 @@ module _ (table service volume backend out : List ℕ) where
       }
 
   -- beside the answer and the buffer
-  abbrev Said-exactly : Outcome → List ℕ → Type 0
+  abbrev Said-exactly : Result ℕ NoNumber → List ℕ → Type 0
   Said-exactly r after =
       (r ≡ outcome (gauge_says table service volume backend))
       × ((after ≡ filled (gauge_says table service volume backend) out) × (PrintsExactly table service volume backend r after))
 
   pub said-exactly :
-      2 * gauge_room ≤ length out → (r : Outcome) (after : List ℕ)
+      2 * gauge_room ≤ length out → (r : Result ℕ NoNumber) (after : List ℕ)
       → (r ≡ outcome (gauge_says table service volume backend)) × (after ≡ filled (gauge_says table service volume backend) out) → Said-exactly r after
   said-exactly room r after p = (p.0, (p.1, line-exact room r after p.0 p.1))
 
   -- nothing was printed
-  pub none-exactly :
-      (place : ℕ) (after : List ℕ)
-      → (NoNumber place ≡ outcome (gauge_says table service volume backend)) × (after ≡ filled (gauge_says table service volume backend) out)
-      → Said-exactly (NoNumber place) after
-  none-exactly place after p = (p.0, (p.1, λ t n v b end is s u w has i e. absurd (let z : ◌≡◌ {A = ℕ} 0 1 = cc in omega arith)))
+  pub none-exactly : {r : Result ℕ NoNumber} {e : NoNumber} (place : ℕ) → IsErr r × IsErrAnd r (λ d. d ≡ e) → e ≡ record { place = place }
+      → gauge_says table service volume backend ≡ no_number place → Said-exactly r out
+  none-exactly place h w is = let p = not-said out place h w _ is in (p.0, (p.1, λ t n v b end i s u x has j g. not_both (sym g ∙ handed_on _ _ h)))

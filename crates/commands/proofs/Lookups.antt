@@ -1,21 +1,19 @@
 -- What lookup prints, by what the table answers for an address of 32 bits: a refusal is one for every address, and where one has a backend,
 -- an address above 32 bits is refused.
+use Rattle.std.specs.Prelude.{Err, None, Ok, Result, Some}
 use Prim.Native.Nat.{ℕ, ◌+◌, ◌≤◌, ◌<◌, min}
 use mathlib.Core.Path.{◌≡◌, refl, sym, ap, ap₂, ◌∙◌}
 use mathlib.Core.Bool.{Bool, true, false}
 use mathlib.Core.List.{List}
-use native.Mathlib.Omega.{arith}
 use borrow.Author.Tests.{le-leb, lt-leb}
 use Rattle.numerals.specs.Limits.{most_services}
 use Rattle.numerals.specs.Pick.{pick}
 use Rattle.numerals.specs.Refusals.{no2}
+use Rattle.numerals.proofs.Exits.{not_both}
 use Rattle.sheets.specs.Reading.{Reading, got, refused}
 use Rattle.sheets.specs.RuleSheet.{Table, read_table}
 use Rattle.sheets.specs.Calls.{refused_at, answered, has_service, lookup_in, lookup_answer}
 use Rattle.sheets.specs.declared.answer.Refused as answer
-use Rattle.sheets.specs.declared.answer.Answer.{Answer}
-use Rattle.sheets.specs.declared.answer.Answer.TheVariants as was
-use Rattle.numerals.specs.declared.digits.Number.TheVariants.{Value, Bad}
 use Rattle.commands.specs.Said.{prints, no_number, on_number}
 use Rattle.commands.specs.Refused.{number_text, refused_text}
 use Rattle.commands.specs.Numeral.{numeral}
@@ -24,58 +22,56 @@ use Rattle.commands.specs.Address.{address_limit, address_of}
 use Rattle.commands.specs.Lookup.{looked_text, lookup_text, lookup_says}
 use Rattle.commands.proofs.Numerals.{capped-value, capped-bad, capped_same}
 use Rattle.commands.proofs.Services.{lookup-capped}
+use Rattle.sheets.specs.declared.answer.Refused.{Refused}
 
 -- two answers that differ by the backend at most
-data Alike : Answer → Answer → Type 0 where
-  refusals : {r : answer.Refused} → Alike (was.Refused r) (was.Refused r)
-  backends : {b c : ℕ} → Alike (was.Value b) (was.Value c)
+data Alike : Result ℕ Refused → Result ℕ Refused → Type 0 where
+  refusals : {r : answer.Refused} → Alike (Err r) (Err r)
+  backends : {b c : ℕ} → Alike (Ok b) (Ok c)
 
 alike : (text : List ℕ) (n a b : ℕ) → Alike (lookup_answer text n a) (lookup_answer text n b)
 unfolding lookup_answer lookup_in
 alike text n a b = go (read_table text)
   where
-    by : (t : Bool) (r : answer.Refused) (x y : ℕ) → Alike (pick t (was.Value x) (was.Refused r)) (pick t (was.Value y) (was.Refused r))
+    by : (t : Bool) (r : answer.Refused) (x y : ℕ) → Alike (pick t (Ok x) (Err r)) (pick t (Ok y) (Err r))
     by true r x y = backends
     by false r x y = refusals
 
-    go : (r : Reading Table) → Alike (answered was.Refused 0 r (λ t. lookup_in t n a)) (answered was.Refused 0 r (λ t. lookup_in t n b))
+    go : (r : Reading Table) → Alike (answered Err 0 r (λ t. lookup_in t n a)) (answered Err 0 r (λ t. lookup_in t n b))
     go (refused why line) = refusals
     go (got t) = by (has_service t n) _ _ _
 
-not-both : {b : ℕ} {r : answer.Refused} {P : Type 0} → was.Value b ≡ was.Refused r → P
-not-both h = absurd (let z : ◌≡◌ {A = ℕ} 0 1 = cc in omega arith)
-
 module _ (text : List ℕ) (n a b : ℕ) where
-  pub refused-too : (r : answer.Refused) → was.Refused r ≡ lookup_answer text n b → lookup_text text n a ≡ refused_text r
+  pub refused-too : (r : answer.Refused) → Err r ≡ lookup_answer text n b → lookup_text text n a ≡ refused_text r
   unfolding lookup_text looked_text
   refused-too r = go (alike text n a b)
     where
-      go : {x y : Answer} → Alike x y → was.Refused r ≡ y → looked_text x a ≡ refused_text r
+      go : {x y : Result ℕ Refused} → Alike x y → Err r ≡ y → looked_text x a ≡ refused_text r
       go refusals h = cc
-      go backends h = not-both (sym h)
+      go backends h = not_both (sym h)
 
-  pub above : (x : ℕ) → was.Value x ≡ lookup_answer text n b → address_limit < a → lookup_text text n a ≡ refused_text (refused_at no2 0)
+  pub above : (x : ℕ) → Ok x ≡ lookup_answer text n b → address_limit < a → lookup_text text n a ≡ refused_text (refused_at no2 0)
   unfolding lookup_text looked_text
   above x e over = go (alike text n a b) e
     where
-      go : {y z : Answer} → Alike y z → was.Value x ≡ z → looked_text y a ≡ refused_text (refused_at no2 0)
-      go refusals h = not-both h
+      go : {y z : Result ℕ Refused} → Alike y z → Ok x ≡ z → looked_text y a ≡ refused_text (refused_at no2 0)
+      go refusals h = not_both h
       go backends h = rw (lt-leb a address_limit over)
 
-pub inside : (text : List ℕ) (n a x : ℕ) → was.Value x ≡ lookup_answer text n a → a ≤ address_limit → lookup_text text n a ≡ number_text x
+pub inside : (text : List ℕ) (n a x : ℕ) → Ok x ≡ lookup_answer text n a → a ≤ address_limit → lookup_text text n a ≡ number_text x
 unfolding lookup_text looked_text
 inside text n a x e h = rw (← e, le-leb a address_limit h)
 
 -- a service above the limit as one more than it, an address above 32 bits as 2^32
 service-capped : (text : List ℕ) (n a : ℕ) → lookup_text text (min n (most_services + 1)) a ≡ lookup_text text n a
 unfolding lookup_text
-service-capped text n a = ap (λ (l : Answer). looked_text l a) (lookup-capped text n a)
+service-capped text n a = ap (λ (l : Result ℕ Refused). looked_text l a) (lookup-capped text n a)
 
 address-capped : (text : List ℕ) (n a : ℕ) → lookup_text text n (min a (address_limit + 1)) ≡ lookup_text text n a
 unfolding lookup_text looked_text
 address-capped text n a = capped_same (lookup_text text n) address_limit a (λ h. go h (alike text n (address_limit + 1) a))
   where
-    go : address_limit < a → {x y : Answer} → Alike x y → looked_text x (address_limit + 1) ≡ looked_text y a
+    go : address_limit < a → {x y : Result ℕ Refused} → Alike x y → looked_text x (address_limit + 1) ≡ looked_text y a
     go h refusals = refl
     go h backends = rw (lt-leb a address_limit h)
 
@@ -84,18 +80,18 @@ text-capped text n a = service-capped text n (min a (address_limit + 1)) ∙ add
 
 -- the words of the call
 module _ (table service address : List ℕ) where
-  pub no-service : capped most_services (numeral service) ≡ Bad → lookup_says table service address ≡ no_number 2
+  pub no-service : capped most_services (numeral service) ≡ None → lookup_says table service address ≡ no_number 2
   unfolding lookup_says on_number
   no-service e = rw (capped-bad most_services (numeral service) e)
 
   pub no_address :
-      (n : ℕ) → capped most_services (numeral service) ≡ Value n → capped address_limit (address_of address) ≡ Bad
+      (n : ℕ) → capped most_services (numeral service) ≡ Some n → capped address_limit (address_of address) ≡ None
       → lookup_says table service address ≡ no_number 3
   unfolding lookup_says on_number
   no_address n e f = rw ((capped-value most_services n (numeral service) e).1, capped-bad address_limit (address_of address) f)
 
   pub says :
-      (n a : ℕ) → capped most_services (numeral service) ≡ Value n → capped address_limit (address_of address) ≡ Value a
+      (n a : ℕ) → capped most_services (numeral service) ≡ Some n → capped address_limit (address_of address) ≡ Some a
       → lookup_says table service address ≡ prints (lookup_text table n a)
   unfolding lookup_says on_number
   says n a e f =

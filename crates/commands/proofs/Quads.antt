@@ -1,4 +1,5 @@
 -- The bytes of a dotted quad read one after the other, each put behind those before it.
+use Rattle.std.specs.Prelude.{None, Option, Some}
 use Prim.Native.Nat.{ℕ, suc, ◌+◌, ◌-◌, ◌*◌, ◌^◌, ◌≤◌, ◌<◌}
 use native.Mathlib.Nat.{le_refl, lt_of_lt_of_le, zero-add, pow-suc, pow-le-pow_right}
 use native.Mathlib.Omega.{arith}
@@ -8,15 +9,13 @@ use lib.ListN.{length}
 use lib.Seq.{slice, take-length}
 use Rattle.numerals.specs.Digits.{on_value}
 use Rattle.numerals.specs.Text.{split, index_of}
-use Rattle.numerals.specs.declared.digits.Number.{Number}
-use Rattle.numerals.specs.declared.digits.Number.TheVariants.{Value, Bad}
 use Rattle.numerals.proofs.Decimal.{only-text}
 use Rattle.sheets.proofs.FieldParts.{fields_left, left-all, left-none, left-more}
 use Rattle.commands.specs.Address.{address_limit, byte, quad}
 
 -- what v is once the bytes of these fields are put behind it
-unfoldable pub bytes_from : ℕ → List (List ℕ) → Number
-bytes_from v [] = Value v
+unfoldable pub bytes_from : ℕ → List (List ℕ) → Option ℕ
+bytes_from v [] = Some v
 bytes_from v (f ∷ fs) = on_value (byte f) (λ b. bytes_from (v * 256 + b) fs)
 
 quad-bytes : (fs : List (List ℕ)) → length fs ≡ 4 → quad fs ≡ bytes_from 0 fs
@@ -28,7 +27,7 @@ quad-bytes (a ∷ b ∷ c ∷ []) h = absurd (omega arith)
 quad-bytes (a ∷ b ∷ c ∷ d ∷ []) h = simp zero-add
 quad-bytes (a ∷ b ∷ c ∷ d ∷ e ∷ fs) h = absurd (omega arith)
 
-pub quad-other : (fs : List (List ℕ)) → (length fs ≡ 4 → ⊥) → quad fs ≡ Bad
+pub quad-other : (fs : List (List ℕ)) → (length fs ≡ 4 → ⊥) → quad fs ≡ None
 unfolding quad
 quad-other [] n = refl
 quad-other (a ∷ []) n = refl
@@ -61,7 +60,7 @@ read_none s h =
       small = rw (all, four) (omega arith);
     }
 
-pub read_all : {s : List ℕ} {v at : ℕ} → ReadTo s v at → length s < at → quad (split 46 s) ≡ Value v
+pub read_all : {s : List ℕ} {v at : ℕ} → ReadTo s v at → length s < at → quad (split 46 s) ≡ Some v
 unfolding bytes_from
 read_all {s} {v} {at} q h = q.whole ∙ ap (bytes_from v) (left-none 46 at (length s) s h)
 
@@ -81,11 +80,11 @@ module _
     unfolding bytes_from
     reads = q.whole ∙ ap (bytes_from v) more
 
-    pub read-bad : byte (slice at e s) ≡ Bad → quad (split 46 s) ≡ Bad
+    pub read-bad : byte (slice at e s) ≡ None → quad (split 46 s) ≡ None
     unfolding on_value
     read-bad bad = reads ∙ rw bad
 
-    pub read_next : (b : ℕ) → byte (slice at e s) ≡ Value b → ReadTo s (v * 256 + b) (e + 1)
+    pub read_next : (b : ℕ) → byte (slice at e s) ≡ Some b → ReadTo s (v * 256 + b) (e + 1)
     unfolding on_value byte
     read_next b good =
         let n = length (rest s (e + 1)) in

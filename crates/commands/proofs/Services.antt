@@ -1,4 +1,5 @@
 -- No table that was read has a service above 64: every number above that is answered as 65 is.
+use Rattle.std.specs.Prelude.{Err}
 use Prim.Native.Nat.{ℕ, ◌+◌, ◌<◌, min}
 use mathlib.Core.Path.{◌≡◌, refl}
 use mathlib.Core.Bool.{false}
@@ -11,14 +12,11 @@ use Rattle.sheets.specs.Reading.{Reading, got, refused}
 use Rattle.sheets.specs.PercentageSheet.{Sheet, read_sheet}
 use Rattle.sheets.specs.RuleSheet.{Table, count_of, read_table}
 use Rattle.sheets.specs.Calls.{answered, has_service, lookup_in, lookup_answer, churn_of, churn_answer}
-use Rattle.sheets.specs.declared.answer.Answer.TheVariants.{Refused}
 use Rattle.sheets.proofs.TableChecks.{InOrder, formed}
 use Rattle.sheets.proofs.OrderedLines.{read-proper}
 use Rattle.gauges.specs.Gauges.{gauges_in, gauges_answer}
-use Rattle.gauges.specs.declared.answer.GaugesAnswer.TheVariants as gauges
 use Rattle.expansion.specs.declared.rule.Rule.{Rule}
 use Rattle.update.specs.Sheets.{sheets_in, sheets_answer}
-use Rattle.update.specs.declared.answer.SheetUpdated.TheVariants as updates
 use Rattle.commands.specs.Update.{updated_text, list_room, update_text}
 use Rattle.commands.proofs.Numerals.{capped_same}
 
@@ -37,7 +35,7 @@ unfolding lookup_answer lookup_in
 lookup-capped text n a = capped_same (λ (m : ℕ). lookup_answer text m a) most_services n (λ h. go h (read_table text) refl)
   where
     go : most_services < n → (r : Reading Table) → read_table text ≡ r
-        → answered Refused 0 r (λ t. lookup_in t (most_services + 1) a) ≡ answered Refused 0 r (λ t. lookup_in t n a)
+        → answered Err 0 r (λ t. lookup_in t (most_services + 1) a) ≡ answered Err 0 r (λ t. lookup_in t n a)
     go h (got t) e = rw (unknown text t e n h, unknown text t e (most_services + 1) (omega arith))
     go h (refused why line) e = refl
 
@@ -46,8 +44,8 @@ unfolding churn_answer churn_of
 churn-capped old new n = capped_same (λ (m : ℕ). churn_answer old new m) most_services n (λ h. go h (read_table old) (read_table new) refl)
   where
     go : most_services < n → (r s : Reading Table) → read_table old ≡ r
-        → answered Refused 1 r (λ o. answered Refused 2 s (λ m. churn_of o m (most_services + 1)))
-        ≡ answered Refused 1 r (λ o. answered Refused 2 s (λ m. churn_of o m n))
+        → answered Err 1 r (λ o. answered Err 2 s (λ m. churn_of o m (most_services + 1)))
+        ≡ answered Err 1 r (λ o. answered Err 2 s (λ m. churn_of o m n))
     go h (refused why line) s e = refl
     go h (got t) (refused why line) e = refl
     go h (got t) (got u) e = rw (unknown old t e n h, unknown old t e (most_services + 1) (omega arith))
@@ -57,7 +55,7 @@ unfolding gauges_answer gauges_in
 gauges-capped text n volume b = capped_same (λ (m : ℕ). gauges_answer text m volume b) most_services n (λ h. go h (read_table text) refl)
   where
     go : most_services < n → (r : Reading Table) → read_table text ≡ r
-        → answered gauges.Refused 0 r (λ t. gauges_in t (most_services + 1) volume b) ≡ answered gauges.Refused 0 r (λ t. gauges_in t n volume b)
+        → answered Err 0 r (λ t. gauges_in t (most_services + 1) volume b) ≡ answered Err 0 r (λ t. gauges_in t n volume b)
     go h (got t) e = rw (unknown text t e n h, unknown text t e (most_services + 1) (omega arith))
     go h (refused why line) e = refl
 
@@ -67,9 +65,9 @@ unfolding update_text updated_text sheets_answer sheets_in
 update-capped old sheet n = capped_same (λ (m : ℕ). update_text old sheet m) most_services n (λ h. go h _ _ (read_table old) (read_sheet sheet) refl)
   where
     go : most_services < n → (a b : List Rule) (r : Reading Table) (s : Reading Sheet) → read_table old ≡ r
-        → updated_text (answered updates.Refused 1 r (λ t. answered updates.Refused 2 s (λ S. sheets_in t S (most_services + 1) list_room)))
+        → updated_text (answered Err 1 r (λ t. answered Err 2 s (λ S. sheets_in t S (most_services + 1) list_room)))
         (most_services + 1) a
-        ≡ updated_text (answered updates.Refused 1 r (λ t. answered updates.Refused 2 s (λ S. sheets_in t S n list_room))) n b
+        ≡ updated_text (answered Err 1 r (λ t. answered Err 2 s (λ S. sheets_in t S n list_room))) n b
     go h a b (refused why line) s e = refl
     go h a b (got t) (refused why line) e = refl
     go h a b (got t) (got S) e = rw (unknown old t e n h, unknown old t e (most_services + 1) (omega arith))

@@ -1,4 +1,5 @@
 -- What the splitting of a percentage sheet prints: its rule sheet, which is never longer than a text may be, and that of four-place percentages as promised.
+use Rattle.std.specs.Prelude.{Err, Ok}
 use Prim.Native.Nat.{ℕ, ◌≤◌}
 use mathlib.Core.Path.{◌≡◌, refl, ap, ◌∙◌}
 use mathlib.Core.List.{List}
@@ -13,7 +14,6 @@ use Rattle.sheets.specs.FirstLine.{first_line}
 use Rattle.sheets.specs.RuleSheet.{table_line, read_table}
 use Rattle.sheets.specs.Calls.{print_text, print_read, values_of, sheet_text}
 use Rattle.sheets.specs.declared.answer.Refused as answer
-use Rattle.sheets.specs.declared.answer.Answer.TheVariants.{Value, Refused}
 use Rattle.sheets.proofs.Readings.{unless-got, then-got, not-got}
 use Rattle.sheets.proofs.DemandThree.{demand-three}
 use Rattle.commands.specs.Refused.{refused_text}
@@ -29,32 +29,32 @@ sheet-fits text S e =
     leb-true (length (sheet_text S)) text_limit (unless-got _ _ _ _ line.1).0
 
 module _ (text : List ℕ) where
-  prints : (S : Sheet) → read_sheet text ≡ got S → print_text (sheet_text S) text_limit ≡ Value (length (sheet_text S))
+  prints : (S : Sheet) → read_sheet text ≡ got S → print_text (sheet_text S) text_limit ≡ Ok (length (sheet_text S))
   unfolding print_text
   prints S e = rw (le-leb (length (sheet_text S)) text_limit (sheet-fits text S e))
 
   -- the rule sheet was printed
   pub ended :
-      (n : ℕ) → Value n ≡ print_read (read_sheet text) sheet_text text_limit
+      (n : ℕ) → Ok n ≡ print_read (read_sheet text) sheet_text text_limit
       → (n ≡ length (split_prints text)) × (values_of (read_sheet text) sheet_text ≡ split_prints text)
   unfolding split_prints split_of
   ended n = go (read_sheet text) refl
     where
       go :
-          (r : Reading Sheet) → read_sheet text ≡ r → Value n ≡ print_read r sheet_text text_limit
+          (r : Reading Sheet) → read_sheet text ≡ r → Ok n ≡ print_read r sheet_text text_limit
           → (n ≡ length (split_of r)) × (values_of r sheet_text ≡ split_of r)
       go (got S) e h = (cc (prints S e), refl)
       go (refused why line) e h = absurd (let z : ◌≡◌ {A = ℕ} 0 1 = cc in omega arith)
 
   -- it was refused
   pub not-printed :
-      (r : answer.Refused) → Refused r ≡ print_read (read_sheet text) sheet_text text_limit
+      (r : answer.Refused) → Err r ≡ print_read (read_sheet text) sheet_text text_limit
       → (split_prints text ≡ refused_text r) × ((S : Sheet) → read_sheet text ≡ got S → ⊥)
   unfolding split_prints split_of
   not-printed w = go (read_sheet text) refl
     where
       go :
-          (r : Reading Sheet) → read_sheet text ≡ r → Refused w ≡ print_read r sheet_text text_limit
+          (r : Reading Sheet) → read_sheet text ≡ r → Err w ≡ print_read r sheet_text text_limit
           → (split_of r ≡ refused_text w) × ((S : Sheet) → r ≡ got S → ⊥)
       go (got S) e h = absurd (let z : ◌≡◌ {A = ℕ} 0 1 = cc (prints S e) in omega arith)
       go (refused why line) e h = (cc, λ S g. not-got g)

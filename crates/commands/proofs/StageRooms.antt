@@ -1,4 +1,5 @@
 -- The commands' own buffers are long enough: what is answered of a change is what would be with any more room, so no answer is 7.
+use Rattle.std.specs.Prelude.{Err, Result}
 use Prim.Native.Nat.{ℕ, zero, suc, ◌-◌, ◌*◌, ◌^◌, ◌≤◌, ◌<◌}
 use mathlib.Core.Path.{◌≡◌, refl}
 use mathlib.Core.Bool.{Bool, true, false}
@@ -19,8 +20,6 @@ use Rattle.packing.specs.Count.{own_rules}
 use Rattle.sheets.specs.Reading.{Reading, got, refused}
 use Rattle.sheets.specs.RuleSheet.{Table, read_table}
 use Rattle.sheets.specs.Calls.{refused_at, answered, of_service, has_service, print_text}
-use Rattle.sheets.specs.declared.answer.Answer.{Answer}
-use Rattle.sheets.specs.declared.answer.Answer.TheVariants.{Refused}
 use Rattle.sheets.proofs.FirstMatch.{first-few}
 use Rattle.sheets.proofs.OrderedLines.{read-proper}
 use Rattle.stages.specs.Stages.{Change, row}
@@ -33,6 +32,7 @@ use Rattle.stages.proofs.NodeLaws.{cut_below, cut-from}
 use Rattle.stages.proofs.StageText.{text-room}
 use Rattle.commands.proofs.Services.{unknown}
 use Rattle.commands.proofs.StageRows.{few-stages}
+use Rattle.sheets.specs.declared.answer.Refused.{Refused}
 
 -- a stage of a row that isn't crowded
 sparse : (C : Change) (capacity : ℕ) (ps : List ℕ) → crowded C capacity ps ≡ false → (i : ℕ) → i < length ps
@@ -61,31 +61,31 @@ module _ (C : Change) (limit capacity number : ℕ) (values : List ℕ) (room mo
   room-alike = go (in_range C limit capacity number) refl (crowded C capacity (row C limit)) refl
     where
       go : (a : Bool) → in_range C limit capacity number ≡ a → (b : Bool) → crowded C capacity (row C limit) ≡ b
-          → pick a (pick b (Refused (refused_at no14 0)) (print_text values room)) (Refused (refused_at no2 0))
-          ≡ pick a (pick b (Refused (refused_at no14 0)) (print_text values more)) (Refused (refused_at no2 0))
+          → pick a (pick b (Err (refused_at no14 0)) (print_text values room)) (Err (refused_at no2 0))
+          ≡ pick a (pick b (Err (refused_at no14 0)) (print_text values more)) (Err (refused_at no2 0))
       go true d true e = refl
       go true d false e = let f = fit d e in rw (le-leb (length values) room f.0, le-leb (length values) more f.1)
       go false d b e = refl
 
 -- changes that are answered alike
-module _ (old new : List ℕ) (n : ℕ) (f g : Change → Answer) where
+module _ (old new : List ℕ) (n : ℕ) (f g : Change → Result ℕ Refused) where
   sheets-alike : ((t u : Table) → read_table old ≡ got t → read_table new ≡ got u → has_service t n ≡ true → f (change_of t u n) ≡ g (change_of t u n))
       → of_sheets old new n f ≡ of_sheets old new n g
   unfolding of_sheets
   sheets-alike h = go (read_table old) refl (read_table new) refl
     where
       alike : (t u : Table) → read_table old ≡ got t → read_table new ≡ got u → (a b c : Bool) → has_service t n ≡ a
-          → of_service Refused a b c (f (change_of t u n)) ≡ of_service Refused a b c (g (change_of t u n))
+          → of_service Err a b c (f (change_of t u n)) ≡ of_service Err a b c (g (change_of t u n))
       alike t u d e true true true s = h t u d e s
       alike t u d e true true false s = refl
       alike t u d e true false c s = refl
       alike t u d e false b c s = refl
 
       go : (r : Reading Table) → read_table old ≡ r → (s : Reading Table) → read_table new ≡ s
-          → answered Refused 1 r (λ t. answered Refused 2 s (λ u.
-          of_service Refused (has_service t n) (has_service u n) (eqb t.k u.k) (f (change_of t u n))))
-          ≡ answered Refused 1 r (λ t. answered Refused 2 s (λ u.
-          of_service Refused (has_service t n) (has_service u n) (eqb t.k u.k) (g (change_of t u n))))
+          → answered Err 1 r (λ t. answered Err 2 s (λ u.
+          of_service Err (has_service t n) (has_service u n) (eqb t.k u.k) (f (change_of t u n))))
+          ≡ answered Err 1 r (λ t. answered Err 2 s (λ u.
+          of_service Err (has_service t n) (has_service u n) (eqb t.k u.k) (g (change_of t u n))))
       go (got t) d (got u) e = alike t u d e (has_service t n) (has_service u n) (eqb t.k u.k) refl
       go (got t) d (refused why line) e = refl
       go (refused why line) d s e = refl

@@ -1,4 +1,5 @@
 -- The row of a change in stages, whatever the sheets are: how many places it has and how large they are; and the lines of places: one more, none left.
+use Rattle.std.specs.Prelude.{Err, Ok, Result}
 use Prim.Native.Nat.{ℕ, zero, suc, ◌+◌, ◌^◌, ◌≤◌, ◌<◌}
 use mathlib.Core.Path.{◌≡◌, refl, sym, ap, ◌∙◌}
 use mathlib.Core.Bool.{Bool, true, false}
@@ -7,26 +8,25 @@ use native.Mathlib.Omega.{arith}
 use lib.Dec.{leb, ltb, eqb}
 use lib.ListN.{length, get_or, take, drop, get_or-append, length-append}
 use lib.Pow.{pow_mono}
-use lib.Seq.{slice, sets, sets-eq, length-sets}
+use lib.Seq.{sets, sets-eq, length-sets}
 use borrow.Author.Tests.{leb-true}
+use Rattle.std.proofs.lemmas.List.{drop_all, drop_more}
 use Rattle.numerals.specs.Pick.{pick}
 use Rattle.numerals.specs.Limits.{most_suffixes, text_limit}
 use Rattle.numerals.specs.Decimal.{decimal}
 use Rattle.numerals.specs.Refusals.{no2, no7, no14}
 use Rattle.numerals.proofs.Decimal.{length-decimal, width-least}
-use Rattle.numerals.proofs.Slice.{slice-more, slice-none}
 use Rattle.sheets.specs.Inner.Writing.{Wrote}
 use Rattle.sheets.specs.Reading.{Reading, got, refused}
 use Rattle.sheets.specs.RuleSheet.{Table, read_table}
 use Rattle.sheets.specs.Calls.{refused_at, answered, of_service, has_service, print_text}
 use Rattle.sheets.specs.declared.answer.Refused.{Refused as Why}
-use Rattle.sheets.specs.declared.answer.Answer.{Answer}
-use Rattle.sheets.specs.declared.answer.Answer.TheVariants.{Value, Refused}
 use Rattle.sheets.proofs.OneCall.{take-sets}
 use Rattle.sheets.proofs.OrderedLines.{read-proper}
 use Rattle.stages.specs.Stages.{Change, next_place, row_from, row}
 use Rattle.stages.specs.Lines.{stage_text}
-use Rattle.stages.specs.Calls.{change_of, crowded, in_range, of_change, of_sheets, values_for, places_answer, places_written, place_of, lines_answer, lines_written}
+use Rattle.stages.specs.Calls.{change_of, crowded, in_range, of_change, of_sheets, values_for, places_answer, places_written, place_of, lines_answer}
+use Rattle.stages.specs.Calls.{lines_written}
 use Rattle.stages.proofs.Rows.{next-most}
 use Rattle.commands.specs.Refused.{number_text, refused_of_text}
 use Rattle.commands.specs.Stages.{places_text, staged_text, stages_text, one_stage_text}
@@ -87,37 +87,37 @@ pub record Made (old new : List ℕ) (n : ℕ) (values : Change → List ℕ) (r
   pub count : m ≡ length (values (change_of t u n))
   pub fits : length (values (change_of t u n)) ≤ room
 
-no_value : {r : Why} {m : ℕ} {P : Type 0} → Refused r ≡ Value m → P
+no_value : {r : Why} {m : ℕ} {P : Type 0} → Err r ≡ Ok m → P
 no_value h = absurd (let z : ◌≡◌ {A = ℕ} 0 1 = cc in omega arith)
 
-printed : (vs : List ℕ) (room m : ℕ) → print_text vs room ≡ Value m → (m ≡ length vs) × (length vs ≤ room)
+printed : (vs : List ℕ) (room m : ℕ) → print_text vs room ≡ Ok m → (m ≡ length vs) × (length vs ≤ room)
 unfolding print_text
 printed vs room m = go (leb (length vs) room) refl
   where
-    go : (b : Bool) → leb (length vs) room ≡ b → pick b (Value (length vs)) (Refused (refused_at no7 0)) ≡ Value m → (m ≡ length vs) × (length vs ≤ room)
+    go : (b : Bool) → leb (length vs) room ≡ b → pick b (Ok (length vs)) (Err (refused_at no7 0)) ≡ Ok m → (m ≡ length vs) × (length vs ≤ room)
     go true e h = (cc, leb-true (length vs) room e)
     go false e h = no_value h
 
-changed : (C : Change) (limit capacity number : ℕ) (vs : List ℕ) (room m : ℕ) → of_change C limit capacity number vs room ≡ Value m
-    → print_text vs room ≡ Value m
+changed : (C : Change) (limit capacity number : ℕ) (vs : List ℕ) (room m : ℕ) → of_change C limit capacity number vs room ≡ Ok m
+    → print_text vs room ≡ Ok m
 unfolding of_change
 changed C limit capacity number vs room m = go (in_range C limit capacity number) (crowded C capacity (row C limit))
   where
-    go : (a b : Bool) → pick a (pick b (Refused (refused_at no14 0)) (print_text vs room)) (Refused (refused_at no2 0)) ≡ Value m → print_text vs room ≡ Value m
+    go : (a b : Bool) → pick a (pick b (Err (refused_at no14 0)) (print_text vs room)) (Err (refused_at no2 0)) ≡ Ok m → print_text vs room ≡ Ok m
     go true true h = no_value h
     go true false h = h
     go false b h = no_value h
 
 module _ (old new : List ℕ) (n limit capacity number : ℕ) (values : Change → List ℕ) (room m : ℕ) where
-  abbrev f : Change → Answer
+  abbrev f : Change → Result ℕ Why
   f C = of_change C limit capacity number (values C) room
 
-  pub made : of_sheets old new n f ≡ Value m → Made old new n values room m
+  pub made : of_sheets old new n f ≡ Ok m → Made old new n values room m
   unfolding of_sheets
   made = go (read_table old) refl (read_table new) refl
     where
       in_both : (t u : Table) → read_table old ≡ got t → read_table new ≡ got u → (a b c : Bool)
-          → of_service Refused a b c (f (change_of t u n)) ≡ Value m → Made old new n values room m
+          → of_service Err a b c (f (change_of t u n)) ≡ Ok m → Made old new n values room m
       in_both t u d e true true true h =
           let p = printed (values (change_of t u n)) room m (changed (change_of t u n) limit capacity number (values (change_of t u n)) room m h) in
           record { t = t; u = u; is-old = d; is-new = e; count = p.0; fits = p.1 }
@@ -126,8 +126,8 @@ module _ (old new : List ℕ) (n limit capacity number : ℕ) (values : Change �
       in_both t u d e false b c h = no_value h
 
       go : (r : Reading Table) → read_table old ≡ r → (s : Reading Table) → read_table new ≡ s
-          → answered Refused 1 r (λ t. answered Refused 2 s (λ u.
-          of_service Refused (has_service t n) (has_service u n) (eqb t.k u.k) (f (change_of t u n)))) ≡ Value m
+          → answered Err 1 r (λ t. answered Err 2 s (λ u.
+          of_service Err (has_service t n) (has_service u n) (eqb t.k u.k) (f (change_of t u n)))) ≡ Ok m
           → Made old new n values room m
       go (got t) d (got u) e h = in_both t u d e (has_service t n) (has_service u n) (eqb t.k u.k) h
       go (got t) d (refused why line) e h = no_value h
@@ -138,7 +138,7 @@ module _ (old new : List ℕ) (n limit capacity number : ℕ) (values : Change �
 
 -- the row that was cut stands in the buffer that was lent for it
 
-module _ (old new : List ℕ) (n limit capacity m : ℕ) (is : places_answer old new n limit capacity most_suffixes ≡ Value m) where
+module _ (old new : List ℕ) (n limit capacity m : ℕ) (is : places_answer old new n limit capacity most_suffixes ≡ Ok m) where
   M : Made old new n (λ C. row C limit) most_suffixes m
   unfolding places_answer
   M = made old new n limit capacity 1 (λ C. row C limit) most_suffixes m is
@@ -174,7 +174,7 @@ module _ (old new : List ℕ) (n limit capacity m : ℕ) (is : places_answer old
         (ap places_text
         (ap (λ (i : ℕ). take i after) M.count ∙ ap (take (length ps)) holds ∙ take-sets out ps (omega (arith, M.fits)) ∙ sym written))
 
-pub not-cut : (old new : List ℕ) (n limit capacity : ℕ) (r : Why) → places_answer old new n limit capacity most_suffixes ≡ Refused r
+pub not-cut : (old new : List ℕ) (n limit capacity : ℕ) (r : Why) → places_answer old new n limit capacity most_suffixes ≡ Err r
     → refused_of_text r ≡ stages_text old new n limit capacity
 unfolding stages_text staged_text
 not-cut old new n limit capacity r is = rw is
@@ -182,7 +182,7 @@ not-cut old new n limit capacity r is = rw is
 -- the lines of a stage
 
 module _ (old new : List ℕ) (n limit capacity number : ℕ) where
-  pub listed : (m : ℕ) → lines_answer old new n limit capacity number text_limit ≡ Value m → (out after : List ℕ)
+  pub listed : (m : ℕ) → lines_answer old new n limit capacity number text_limit ≡ Ok m → (out after : List ℕ)
       → after ≡ sets out 0 (lines_written old new n limit number) → Wrote out after 0 m (one_stage_text old new n limit capacity number)
   unfolding lines_answer lines_written one_stage_text staged_text
   listed m is out after filled =
@@ -192,7 +192,7 @@ module _ (old new : List ℕ) (n limit capacity number : ℕ) where
       let ends : m ≡ length (values_for old new n text) = M.count ∙ ap length (sym written) in
       rw is (record { ends = omega (arith, ends); holds = filled })
 
-  pub not_listed : (r : Why) → lines_answer old new n limit capacity number text_limit ≡ Refused r
+  pub not_listed : (r : Why) → lines_answer old new n limit capacity number text_limit ≡ Err r
       → refused_of_text r ≡ one_stage_text old new n limit capacity number
   unfolding one_stage_text staged_text
   not_listed r is = rw is
@@ -203,17 +203,17 @@ left {a} {b} {c} {at} {next} {bs} e w = record { ends = w.ends; holds = w.holds 
 
 -- the lines of the places from place i on
 
-abbrev pub lines_from : List ℕ → ℕ → ℕ → List ℕ
-lines_from ps n i = places_text (slice i n ps)
+abbrev pub lines_from : List ℕ → ℕ → List ℕ
+lines_from ps i = places_text (drop i ps)
 
-module _ (ps : List ℕ) (n : ℕ) (room : n ≤ length ps) where
-  pub lines_more : (i : ℕ) → i < n → lines_from ps n i ≡ (decimal (get_or ps i 0) ++ 10 ∷ []) ++ lines_from ps n (i + 1)
+module _ (ps : List ℕ) (i : ℕ) where
+  pub lines_more : i < length ps → lines_from ps i ≡ (decimal (get_or ps i 0) ++ 10 ∷ []) ++ lines_from ps (i + 1)
   unfolding places_text number_text
-  lines_more i h = ap places_text (slice-more i n ps h (omega arith))
+  lines_more h = ap places_text (drop_more ps i 0 h)
 
-  pub lines_none : (i : ℕ) → n ≤ i → lines_from ps n i ≡ []
+  pub lines_none : length ps ≤ i → lines_from ps i ≡ []
   unfolding places_text
-  lines_none i h = ap places_text (slice-none i n ps (omega arith))
+  lines_none h = ap places_text (drop_all i ps h)
 
 -- where a place and its line's end are
 pub place-soon : {a b : List ℕ} {at next p : ℕ} → Wrote a b at next (decimal p ++ 10 ∷ []) → p ≤ most_suffixes → next ≤ at + place_room

@@ -1,4 +1,5 @@
 -- The words of stages and of stage: numbers above their limits are answered as one more than the limit.
+use Rattle.std.specs.Prelude.{Err, None, Result, Some}
 use Prim.Native.Nat.{ℕ, ◌+◌, ◌<◌, min}
 use mathlib.Core.Path.{◌≡◌, refl, sym, ap, ◌∙◌}
 use mathlib.Core.Bool.{Bool, true, false}
@@ -8,15 +9,12 @@ use lib.Dec.{eqb}
 use lib.ListN.{length}
 use Rattle.numerals.specs.Limits.{most_services, most_suffixes, most_capacity}
 use Rattle.numerals.specs.Refusals.{no2}
-use Rattle.numerals.specs.declared.digits.Number.TheVariants.{Value, Bad}
 use Rattle.numerals.proofs.Choice.{both_false}
 use Rattle.expansion.specs.Answer.{in_limits}
 use Rattle.sheets.specs.Reading.{Reading, got, refused}
 use Rattle.sheets.specs.RuleSheet.{Table, read_table}
 use Rattle.sheets.specs.Calls.{refused_at, answered, of_service, has_service}
 use Rattle.sheets.specs.declared.answer.Refused.{Refused as Why}
-use Rattle.sheets.specs.declared.answer.Answer.{Answer}
-use Rattle.sheets.specs.declared.answer.Answer.TheVariants.{Refused}
 use Rattle.sheets.proofs.TableChecks.{above_most}
 use Rattle.stages.specs.Stages.{Change, row}
 use Rattle.stages.specs.Calls.{change_of, in_range, of_change, of_sheets, places_answer, lines_answer}
@@ -29,39 +27,39 @@ use Rattle.commands.proofs.Services.{unknown}
 use Rattle.commands.proofs.StageRows.{few-stages}
 
 -- a service that no table has: the same refusal
-service-same : (old new : List ℕ) (n : ℕ) (f g : Change → Answer) (ps qs : List ℕ) → most_services < n
+service-same : (old new : List ℕ) (n : ℕ) (f g : Change → Result ℕ Why) (ps qs : List ℕ) → most_services < n
     → staged_text (of_sheets old new (most_services + 1) f) ps ≡ staged_text (of_sheets old new n g) qs
 unfolding of_sheets staged_text
 service-same old new n f g ps qs h = go (read_table old) (read_table new) refl
   where
     go : (r s : Reading Table) → read_table old ≡ r
-        → staged_text (answered Refused 1 r (λ t. answered Refused 2 s (λ u.
-        of_service Refused (has_service t (most_services + 1)) (has_service u (most_services + 1)) (eqb t.k u.k) (f (change_of t u (most_services + 1)))))) ps
-        ≡ staged_text (answered Refused 1 r (λ t. answered Refused 2 s (λ u.
-        of_service Refused (has_service t n) (has_service u n) (eqb t.k u.k) (g (change_of t u n))))) qs
+        → staged_text (answered Err 1 r (λ t. answered Err 2 s (λ u.
+        of_service Err (has_service t (most_services + 1)) (has_service u (most_services + 1)) (eqb t.k u.k) (f (change_of t u (most_services + 1)))))) ps
+        ≡ staged_text (answered Err 1 r (λ t. answered Err 2 s (λ u.
+        of_service Err (has_service t n) (has_service u n) (eqb t.k u.k) (g (change_of t u n))))) qs
     go (refused why line) s e = refl
     go (got t) (refused why line) e = refl
     go (got t) (got u) e = rw (unknown old t e n h, unknown old t e (most_services + 1) (omega arith))
 
 -- changes that are refused alike
-module _ (old new : List ℕ) (n : ℕ) (f g : Change → Answer) (ps qs : List ℕ) (w : Why) where
-  refused-same : ((t u : Table) → read_table old ≡ got t → (f (change_of t u n) ≡ Refused w) × (g (change_of t u n) ≡ Refused w))
+module _ (old new : List ℕ) (n : ℕ) (f g : Change → Result ℕ Why) (ps qs : List ℕ) (w : Why) where
+  refused-same : ((t u : Table) → read_table old ≡ got t → (f (change_of t u n) ≡ Err w) × (g (change_of t u n) ≡ Err w))
       → staged_text (of_sheets old new n f) ps ≡ staged_text (of_sheets old new n g) qs
   unfolding of_sheets staged_text
   refused-same h = go (read_table old) (read_table new) refl
     where
-      alike : (x y : Answer) → x ≡ Refused w → y ≡ Refused w → (a b c : Bool)
-          → staged_text (of_service Refused a b c x) ps ≡ staged_text (of_service Refused a b c y) qs
+      alike : (x y : Result ℕ Why) → x ≡ Err w → y ≡ Err w → (a b c : Bool)
+          → staged_text (of_service Err a b c x) ps ≡ staged_text (of_service Err a b c y) qs
       alike x y d e true true true = rw (d, e)
       alike x y d e true true false = refl
       alike x y d e true false c = refl
       alike x y d e false b c = refl
 
       go : (r s : Reading Table) → read_table old ≡ r
-          → staged_text (answered Refused 1 r (λ t. answered Refused 2 s (λ u.
-          of_service Refused (has_service t n) (has_service u n) (eqb t.k u.k) (f (change_of t u n))))) ps
-          ≡ staged_text (answered Refused 1 r (λ t. answered Refused 2 s (λ u.
-          of_service Refused (has_service t n) (has_service u n) (eqb t.k u.k) (g (change_of t u n))))) qs
+          → staged_text (answered Err 1 r (λ t. answered Err 2 s (λ u.
+          of_service Err (has_service t n) (has_service u n) (eqb t.k u.k) (f (change_of t u n))))) ps
+          ≡ staged_text (answered Err 1 r (λ t. answered Err 2 s (λ u.
+          of_service Err (has_service t n) (has_service u n) (eqb t.k u.k) (g (change_of t u n))))) qs
       go (refused why line) s e = refl
       go (got t) (refused why line) e = refl
       go (got t) (got u) e =
@@ -70,7 +68,7 @@ module _ (old new : List ℕ) (n : ℕ) (f g : Change → Answer) (ps qs : List 
 -- numbers out of their limits
 module _ (C : Change) (limit capacity number : ℕ) (values : List ℕ) (room : ℕ) where
   abbrev no : Type 0
-  no = of_change C limit capacity number values room ≡ Refused (refused_at no2 0)
+  no = of_change C limit capacity number values room ≡ Err (refused_at no2 0)
 
   over-limit : most_suffixes < limit → no
   unfolding of_change in_range
@@ -124,17 +122,17 @@ module _ (old new : List ℕ) where
   stages-read x y z n l c p q r = rw (p, q, r) (sym (stages-capped x y z))
 
   module _ (service limit capacity : List ℕ) where
-    pub no-service : capped most_services (numeral service) ≡ Bad → stages_says old new service limit capacity ≡ no_number 3
+    pub no-service : capped most_services (numeral service) ≡ None → stages_says old new service limit capacity ≡ no_number 3
     unfolding stages_says on_number
     no-service e = rw (capped-bad most_services (numeral service) e)
 
-    module _ (n : ℕ) (e : capped most_services (numeral service) ≡ Value n) where
-      pub no-limit : capped most_suffixes (numeral limit) ≡ Bad → stages_says old new service limit capacity ≡ no_number 4
+    module _ (n : ℕ) (e : capped most_services (numeral service) ≡ Some n) where
+      pub no-limit : capped most_suffixes (numeral limit) ≡ None → stages_says old new service limit capacity ≡ no_number 4
       unfolding stages_says on_number
       no-limit f = rw ((capped-value most_services n (numeral service) e).1, capped-bad most_suffixes (numeral limit) f)
 
-      module _ (l : ℕ) (f : capped most_suffixes (numeral limit) ≡ Value l) where
-        pub no-capacity : capped most_capacity (numeral capacity) ≡ Bad → stages_says old new service limit capacity ≡ no_number 5
+      module _ (l : ℕ) (f : capped most_suffixes (numeral limit) ≡ Some l) where
+        pub no-capacity : capped most_capacity (numeral capacity) ≡ None → stages_says old new service limit capacity ≡ no_number 5
         unfolding stages_says on_number
         no-capacity g =
             rw (
@@ -143,7 +141,7 @@ module _ (old new : List ℕ) where
               capped-bad most_capacity (numeral capacity) g,
             )
 
-        pub says : (c : ℕ) → capped most_capacity (numeral capacity) ≡ Value c
+        pub says : (c : ℕ) → capped most_capacity (numeral capacity) ≡ Some c
             → stages_says old new service limit capacity ≡ prints (stages_text old new n l c)
         unfolding stages_says on_number
         says c g =
@@ -203,17 +201,17 @@ module _ (old new : List ℕ) where
   stage-read w x y z n l c i o p q r = rw (o, p, q, r) (sym (stage-capped w x y z))
 
   module _ (service limit capacity number : List ℕ) where
-    pub stage-no-service : capped most_services (numeral service) ≡ Bad → stage_says old new service limit capacity number ≡ no_number 3
+    pub stage-no-service : capped most_services (numeral service) ≡ None → stage_says old new service limit capacity number ≡ no_number 3
     unfolding stage_says on_number
     stage-no-service e = rw (capped-bad most_services (numeral service) e)
 
-    module _ (n : ℕ) (e : capped most_services (numeral service) ≡ Value n) where
-      pub stage-no-limit : capped most_suffixes (numeral limit) ≡ Bad → stage_says old new service limit capacity number ≡ no_number 4
+    module _ (n : ℕ) (e : capped most_services (numeral service) ≡ Some n) where
+      pub stage-no-limit : capped most_suffixes (numeral limit) ≡ None → stage_says old new service limit capacity number ≡ no_number 4
       unfolding stage_says on_number
       stage-no-limit f = rw ((capped-value most_services n (numeral service) e).1, capped-bad most_suffixes (numeral limit) f)
 
-      module _ (l : ℕ) (f : capped most_suffixes (numeral limit) ≡ Value l) where
-        pub stage-no-capacity : capped most_capacity (numeral capacity) ≡ Bad → stage_says old new service limit capacity number ≡ no_number 5
+      module _ (l : ℕ) (f : capped most_suffixes (numeral limit) ≡ Some l) where
+        pub stage-no-capacity : capped most_capacity (numeral capacity) ≡ None → stage_says old new service limit capacity number ≡ no_number 5
         unfolding stage_says on_number
         stage-no-capacity g =
             rw (
@@ -222,8 +220,8 @@ module _ (old new : List ℕ) where
               capped-bad most_capacity (numeral capacity) g,
             )
 
-        module _ (c : ℕ) (g : capped most_capacity (numeral capacity) ≡ Value c) where
-          pub not_a_number : capped most_suffixes (numeral number) ≡ Bad → stage_says old new service limit capacity number ≡ no_number 6
+        module _ (c : ℕ) (g : capped most_capacity (numeral capacity) ≡ Some c) where
+          pub not_a_number : capped most_suffixes (numeral number) ≡ None → stage_says old new service limit capacity number ≡ no_number 6
           unfolding stage_says on_number
           not_a_number h =
               rw (
@@ -233,7 +231,7 @@ module _ (old new : List ℕ) where
                 capped-bad most_suffixes (numeral number) h,
               )
 
-          pub stage-says : (i : ℕ) → capped most_suffixes (numeral number) ≡ Value i
+          pub stage-says : (i : ℕ) → capped most_suffixes (numeral number) ≡ Some i
               → stage_says old new service limit capacity number ≡ prints (one_stage_text old new n l c i)
           unfolding stage_says on_number
           stage-says i h =

@@ -1,4 +1,5 @@
 -- Updates as an operator may call them: the lines of one that was made, and each refusal with its sheet.
+use Rattle.std.specs.Prelude.{Ok}
 use Prim.Native.String.{String}
 use mathlib.Core.Path.{◌≡◌, refl}
 use mathlib.Core.List.{[], ◌∷◌}
@@ -16,13 +17,13 @@ use Rattle.packing.specs.Table.{lines_of}
 use Rattle.sheets.specs.Cases.{bytes}
 use Rattle.sheets.specs.Reading.{then, unless, on_field, same}
 use Rattle.sheets.specs.FirstLine.{first_line, opening_lines, opening_fields}
-use Rattle.sheets.specs.PercentageSheet.{weight_fields, sum, service_fields, service_lines, volumes_of, ids_of, weights_of, whole, sheet_line, read_sheet, read_sheet_at}
+use Rattle.sheets.specs.PercentageSheet.{weight_fields, sum, service_fields, service_lines, volumes_of, ids_of, weights_of, whole, sheet_line}
+use Rattle.sheets.specs.PercentageSheet.{read_sheet, read_sheet_at}
 use Rattle.sheets.specs.RuleSheet.{on_suffix, count_of, in_order, placed, rule_fields, rule_lines, closed}
 use Rattle.sheets.specs.RuleSheet.{whole_table, table_line, read_table, line_text, lines_text}
 use Rattle.sheets.specs.Calls.{has_service}
 use Rattle.sheets.specs.Update.{has_weights}
 use Rattle.update.specs.Sheets.{sheets_in, sheets_answer}
-use Rattle.update.specs.declared.answer.SheetUpdated.TheVariants.{Made}
 use Rattle.commands.specs.Said.{Said, prints, no_number, on_number}
 use Rattle.commands.specs.Refused.{number_text, refusal, refused_of_text}
 use Rattle.commands.specs.Numeral.{numeral}
@@ -65,7 +66,7 @@ all-updates = record { first = refl; second = refl; unknown = refl; no-weights =
 
 -- the lines of an update that was made, the newest rule first
 pub lines :
-    updated_text (Made (record { k = 5; kept = 1; rules = 3; churn = 8 })) 64 (rules_from (5 ∷ 3 ∷ 2 ∷ 3 ∷ 1 ∷ 9999 ∷ 0 ∷ 0 ∷ 1 ∷ []))
+    updated_text (Ok (record { k = 5; kept = 1; rules = 3; churn = 8 })) 64 (rules_from (5 ∷ 3 ∷ 2 ∷ 3 ∷ 1 ∷ 9999 ∷ 0 ∷ 0 ∷ 1 ∷ []))
     ≡ bytes "UPDATE 5 1 3 8\n64 *00011 2\n64 *001 9999\n64 * 1\n"
 unfolding updated_text update_head bytes decimal width width_in lowest rules_from lines_of lines_text line_text suffix_text
 lines = refl

@@ -1,5 +1,6 @@
 -- The lines of an update: its first line and a rule line in parts, and the lines of rules in numbers, three of each: one more, none left, and those that
 -- a call filled in.
+use Rattle.std.specs.Prelude.{Result}
 use Prim.Native.Nat.{ℕ, ◌+◌, ◌*◌, ◌≤◌, ◌<◌}
 use mathlib.Core.Path.{◌≡◌, ap, ◌∙◌}
 use mathlib.Core.Bool.{true}
@@ -11,9 +12,8 @@ use Rattle.numerals.specs.Decimal.{decimal}
 use Rattle.numerals.specs.Digits.{put, put_end}
 use Rattle.numerals.specs.Suffix.{is_suffix, suffix_text, put_suffix, put_suffix_end}
 use Rattle.numerals.specs.Limits.{most_bits, most_rules}
-use Rattle.numerals.specs.declared.digits.Written.{Written}
 use Rattle.numerals.proofs.Slice.{slice-more, slice-none}
-use Rattle.numerals.proofs.Suffix.{suffix-limits, length-suffix}
+use Rattle.numerals.proofs.SuffixTexts.{suffix-limits, length-suffix}
 use Rattle.expansion.specs.FirstMatch.{is_rule}
 use Rattle.expansion.specs.OldList.{rules_from}
 use Rattle.expansion.specs.Inner.OldList.{rule_at}
@@ -26,6 +26,7 @@ use Rattle.sheets.proofs.Writes.{text, before-end}
 use Rattle.update.specs.declared.answer.Update.{Update}
 use Rattle.commands.specs.Update.{update_head}
 use Rattle.commands.specs.Inner.Update.{line_of, rules_in, Rules, suffix_room}
+use Rattle.numerals.specs.declared.refusal.Refusal.{Refusal}
 
 -- UPDATE and a space
 abbrev pub word : List ℕ
@@ -50,7 +51,7 @@ module _ (len value : ℕ) (is : is_suffix most_bits len value ≡ true) where
       (out : List ℕ)
       (at : ℕ)
       (room : at + suffix_room ≤ length out)
-      (w : Written)
+      (w : Result ℕ Refusal)
       (after : List ℕ)
       (ends : w ≡ put_suffix_end out at len value)
       (puts : after ≡ put_suffix out at len value)

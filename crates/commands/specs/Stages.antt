@@ -1,12 +1,11 @@
 -- stages OLD NEW SERVICE LIMIT CAPACITY: the places at which a change is cut into stages; stage .. NUMBER: one of these stages (document 02, Req 06).
-use Rattle.std.specs.Prelude.{ℕ, List, [], ◌∷◌, ◌++◌}
+use Rattle.std.specs.Prelude.{ℕ, List, [], ◌∷◌, ◌++◌, Err, Ok, Result}
 use Rattle.numerals.specs.Limits.{most_suffixes, text_limit}
-use Rattle.sheets.specs.declared.answer.Answer.{Answer}
-use Rattle.sheets.specs.declared.answer.Answer.TheVariants.{Value, Refused}
 use Rattle.stages.specs.Calls.{places_answer, places_written, lines_answer, lines_written}
 use Rattle.commands.specs.Said.{Said, prints, on_number}
 use Rattle.commands.specs.Refused.{number_text, refused_of_text}
 use Rattle.commands.specs.Numeral.{numeral}
+use Rattle.sheets.specs.declared.answer.Refused.{Refused}
 
 -- each place as a line
 unfoldable pub places_text : List ℕ → List ℕ
@@ -14,9 +13,9 @@ places_text [] = []
 places_text (p ∷ ps) = number_text p ++ places_text ps
 
 -- a text, or a refusal and the sheet that it is about
-unfoldable pub staged_text : Answer → List ℕ → List ℕ
-staged_text (Value n) text = text
-staged_text (Refused r) text = refused_of_text r
+unfoldable pub staged_text : Result ℕ Refused → List ℕ → List ℕ
+staged_text (Ok n) text = text
+staged_text (Err r) text = refused_of_text r
 
 -- the command's own buffer has room for every row: no service has more suffixes
 unfoldable pub stages_text : List ℕ → List ℕ → ℕ → ℕ → ℕ → List ℕ

@@ -1,5 +1,5 @@
 -- update OLD SHEET SERVICE: new weights on a loaded table (document 02, Req 03 to 05).
-use Rattle.std.specs.Prelude.{ℕ, ◌*◌, List, [], ◌∷◌, ◌++◌}
+use Rattle.std.specs.Prelude.{ℕ, ◌*◌, List, [], ◌∷◌, ◌++◌, Err, Ok, Result}
 use Rattle.numerals.specs.Limits.{most_rules}
 use Rattle.numerals.specs.Decimal.{decimal}
 use Rattle.expansion.specs.OldList.{rules_from}
@@ -9,11 +9,10 @@ use Rattle.sheets.specs.Cases.{bytes}
 use Rattle.sheets.specs.RuleSheet.{lines_text}
 use Rattle.update.specs.Sheets.{sheets_answer, sheets_numbers}
 use Rattle.update.specs.declared.answer.Update.{Update}
-use Rattle.update.specs.declared.answer.SheetUpdated.{SheetUpdated}
-use Rattle.update.specs.declared.answer.SheetUpdated.TheVariants.{Made, Refused}
 use Rattle.commands.specs.Said.{Said, prints, on_number}
 use Rattle.commands.specs.Refused.{refused_of_text}
 use Rattle.commands.specs.Numeral.{numeral}
+use Rattle.sheets.specs.declared.answer.Refused.{Refused}
 
 -- UPDATE k r n churn
 unfoldable pub update_head : Update → List ℕ
@@ -21,9 +20,9 @@ update_head u =
     bytes "UPDATE " ++ decimal u.k ++ 32 ∷ decimal u.kept ++ 32 ∷ decimal u.rules ++ 32 ∷ decimal u.churn ++ 10 ∷ []
 
 -- behind that, the service's lines as in a rule sheet, the newest rule first; or a refusal and the sheet that it is about
-unfoldable pub updated_text : SheetUpdated → ℕ → List Rule → List ℕ
-updated_text (Made u) n new = update_head u ++ lines_text (lines_of n new)
-updated_text (Refused r) n new = refused_of_text r
+unfoldable pub updated_text : Result Update Refused → ℕ → List Rule → List ℕ
+updated_text (Ok u) n new = update_head u ++ lines_text (lines_of n new)
+updated_text (Err r) n new = refused_of_text r
 
 -- the numbers of the longest list: the command's own buffer has room for every list
 abbrev pub list_room : ℕ

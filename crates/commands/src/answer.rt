@@ -13,10 +13,9 @@ pub enum Command {
     Unknown,
 }
 
-// An answer, the first n bytes of the lent buffer, for standard output; or a word of the call that is no numeral, by its
-// place among the command's words from 1, and nothing written.
-#[derive(Drop)]
-pub enum Outcome {
-    Answer(usize),
-    NoNumber(usize),
+// A word of the call that is no numeral, by its place among the command's words from 1. What a command comes to otherwise is
+// how many bytes of the lent buffer are its answer, for standard output.
+#[derive(Clone, Copy)]
+pub struct NoNumber {
+    pub place: usize,
 }

@@ -19,6 +19,7 @@ fn put_decimals(out: &mut [u8], at: usize, rest: u64) -> usize
     let mut all = PARTS;
     let mut left = rest;
     let mut end = at;
+    // it ends where no digit is left, and not after so many
     while 0 < left {
         all = all / 2;
         left = left * 5;

@@ -6,9 +6,8 @@ ghost use Rattle.commands.specs.Said.{outcome, filled};
 ghost use Rattle.commands.specs.Gauge.{float_text, gauges_text, gauge_says, PrintsExactly};
 ghost use Rattle.commands.specs.Inner.Gauge.{IsGauge, gauge_room};
 
-use crate::answer::Outcome;
-use gauges::GaugesAnswer;
-use numerals::Number;
+use crate::answer::NoNumber;
+use crate::numeral::{MOST_ID, MOST_SERVICE, word};
 
 // A gauge as a decimal, and a separator behind it; the position after them.
 fn put_gauge(out: &mut [u8], at: usize, x: f64, separator: u8) -> usize
@@ -25,13 +24,12 @@ fn measure(table: &[u8], service: u64, volume: u64, backend: u64, out: &mut [u8]
     requires { 2 * gauge_room ≤ length out.old }
     ensures { Wrote out.old out.new 0 result (gauges_text (gauges_answer table.now service volume backend)) }
 {
-    let made = gauges::gauge_record(table, service as usize, volume, backend as usize);
-    match made {
-        GaugesAnswer::Made(g) => {
+    match gauges::gauge_record(table, service as usize, volume, backend as usize) {
+        Ok(g) => {
             let at = put_gauge(out, 0, g.share, 32);
             put_gauge(out, at, g.load, 10)
         }
-        GaugesAnswer::Refused(r) => crate::writing::put_refused(out, r),
+        Err(r) => crate::writing::put_refused(out, r),
     }
 }
 
@@ -42,23 +40,14 @@ pub fn gauge(
     volume: &[u8],
     backend: &[u8],
     out: &mut [u8; crate::LINES_ROOM],
-) -> Outcome
+) -> Result<usize, NoNumber>
     ensures answer { result ≡ outcome (gauge_says table.now service.now volume.now backend.now) }
     ensures buffer { out.new
         ≡ filled (gauge_says table.now service.now volume.now backend.now) out.old }
     ensures exact { PrintsExactly table.now service.now volume.now backend.now result out.new }
 {
-    let number = crate::numeral::read_numeral(service, crate::numeral::MOST_SERVICE);
-    let Number::Value(n) = number else {
-        return Outcome::NoNumber(2);
-    };
-    let traffic = crate::numeral::read_numeral(volume, numerals::MOST_VOLUME);
-    let Number::Value(v) = traffic else {
-        return Outcome::NoNumber(3);
-    };
-    let holder = crate::numeral::read_numeral(backend, crate::numeral::MOST_ID);
-    let Number::Value(b) = holder else {
-        return Outcome::NoNumber(4);
-    };
-    Outcome::Answer(measure(table, n, v, b, out))
+    let n = word(service, MOST_SERVICE, 2)?;
+    let v = word(volume, numerals::MOST_VOLUME, 3)?;
+    let b = word(backend, MOST_ID, 4)?;
+    Ok(measure(table, n, v, b, out))
 }

@@ -1,55 +1,37 @@
 // The commands by their words, the text of help, and usages.
 ghost use Rattle.std.specs.Prelude.{◌≡◌, length};
 ghost use Rattle.std.proofs.lemmas.List.Edits.{sets};
-ghost use Rattle.sheets.specs.Reading.{same as same_text};
 ghost use Rattle.commands.specs.Help.{command_of, help_text, usage_text};
 
 use crate::answer::Command;
 use crate::writing::put_bytes;
 
-// Whether two texts are the same.
-fn same(a: &[u8], b: &[u8]) -> bool
-    ensures { result ≡ same_text a.now b.now }
-{
-    if a.len() != b.len() {
-        return false;
-    }
-    let mut i = 0;
-    while i < a.len() {
-        if a[i] != b[i] {
-            return false;
-        }
-        i += 1;
-    }
-    true
-}
-
 // The command that a word names.
 pub fn command(word: &[u8]) -> Command
     ensures { result ≡ command_of word.now }
 {
-    if same(word, b"split") {
+    if word == b"split".as_slice() {
         return Command::Split;
     }
-    if same(word, b"lookup") {
+    if word == b"lookup".as_slice() {
         return Command::Lookup;
     }
-    if same(word, b"churn") {
+    if word == b"churn".as_slice() {
         return Command::Churn;
     }
-    if same(word, b"update") {
+    if word == b"update".as_slice() {
         return Command::Update;
     }
-    if same(word, b"stages") {
+    if word == b"stages".as_slice() {
         return Command::Stages;
     }
-    if same(word, b"stage") {
+    if word == b"stage".as_slice() {
         return Command::Stage;
     }
-    if same(word, b"gauge") {
+    if word == b"gauge".as_slice() {
         return Command::Gauge;
     }
-    if same(word, b"help") {
+    if word == b"help".as_slice() {
         return Command::Help;
     }
     Command::Unknown

@@ -14,7 +14,7 @@ mod staging;
 mod updating;
 mod writing;
 
-pub use answer::{Command, Outcome};
+pub use answer::{Command, NoNumber};
 pub use churning::churn;
 pub use gauging::gauge;
 pub use helping::{command, help, usage};

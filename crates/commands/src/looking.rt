@@ -4,10 +4,10 @@ ghost use Rattle.sheets.specs.Inner.Writing.{Wrote};
 ghost use Rattle.commands.specs.Said.{outcome, filled};
 ghost use Rattle.commands.specs.Lookup.{lookup_text, lookup_says};
 
-use crate::answer::Outcome;
-use crate::numeral::MOST_ADDRESS;
-use numerals::{Number, Refusal};
-use sheets::{Answer, Refused};
+use crate::answer::NoNumber;
+use crate::numeral::{MOST_ADDRESS, MOST_SERVICE, word};
+use crate::writing::{put_answer, put_refused};
+use numerals::Refusal;
 
 // The addresses of 32 bits.
 const ADDRESSES: u64 = MOST_ADDRESS + 1;
@@ -17,20 +17,10 @@ fn look(table: &[u8], service: u64, address: u64, out: &mut [u8]) -> usize
     requires { 50 ≤ length out.old }
     ensures { Wrote out.old out.new 0 result (lookup_text table.now service address) }
 {
-    let looked = sheets::lookup(table, service as usize, (address % ADDRESSES) as u32);
-    match looked {
-        Answer::Refused(r) => crate::writing::put_refused(out, r),
-        Answer::Value(b) => {
-            if MOST_ADDRESS < address {
-                let r = Refused {
-                    why: Refusal::BadField,
-                    line: 0,
-                    of: 0,
-                };
-                return crate::writing::put_refused(out, r);
-            }
-            crate::writing::put_answer(out, b)
-        }
+    match sheets::lookup(table, service as usize, (address % ADDRESSES) as u32) {
+        Ok(_) if MOST_ADDRESS < address => put_refused(out, Refusal::BadField.into()),
+        Ok(b) => put_answer(out, b),
+        Err(r) => put_refused(out, r),
     }
 }
 
@@ -40,17 +30,11 @@ pub fn lookup(
     service: &[u8],
     address: &[u8],
     out: &mut [u8; crate::LINES_ROOM],
-) -> Outcome
+) -> Result<usize, NoNumber>
     ensures answer { result ≡ outcome (lookup_says table.now service.now address.now) }
     ensures buffer { out.new ≡ filled (lookup_says table.now service.now address.now) out.old }
 {
-    let number = crate::numeral::read_numeral(service, crate::numeral::MOST_SERVICE);
-    let Number::Value(n) = number else {
-        return Outcome::NoNumber(2);
-    };
-    let place = crate::address::read_address(address);
-    let Number::Value(a) = place else {
-        return Outcome::NoNumber(3);
-    };
-    Outcome::Answer(look(table, n, a, out))
+    let n = word(service, MOST_SERVICE, 2)?;
+    let a = crate::address::read_address(address).ok_or(NoNumber { place: 3 })?;
+    Ok(look(table, n, a, out))
 }

@@ -6,11 +6,9 @@ ghost use Rattle.commands.specs.Said.{outcome, filled};
 ghost use Rattle.commands.specs.Stages.{places_text, stages_text, one_stage_text, stages_says, stage_says};
 ghost use Rattle.commands.specs.Inner.Stages.{Places, places_room};
 
-use crate::answer::Outcome;
-use crate::numeral::{MOST_CAPACITY, MOST_SERVICE, MOST_SUFFIXES, read_numeral};
+use crate::answer::NoNumber;
+use crate::numeral::{MOST_CAPACITY, MOST_SERVICE, MOST_SUFFIXES, word};
 use crate::writing::{put_number, put_refused_of};
-use numerals::Number;
-use sheets::Answer;
 
 // The first n places, each as a line; the position after them.
 fn put_places(out: &mut [u8], places: &[usize], n: usize) -> usize
@@ -18,10 +16,8 @@ fn put_places(out: &mut [u8], places: &[usize], n: usize) -> usize
     ensures { Wrote out.old out.new 0 result (places_text (take n places.now)) }
 {
     let mut end = 0;
-    let mut i = 0;
-    while i < n {
-        end = put_number(out, end, places[i] as u64, 10);
-        i += 1;
+    for place in &places[..n] {
+        end = put_number(out, end, *place as u64, 10);
     }
     end
 }
@@ -32,17 +28,16 @@ fn cut(old: &[u8], new: &[u8], service: u64, limit: u64, capacity: u64, out: &mu
     ensures { Wrote out.old out.new 0 result (stages_text old.now new.now service limit capacity) }
 {
     let mut places = [0usize; numerals::MOST_SUFFIXES];
-    let row = stages::stage_places(
+    match stages::stage_places(
         old,
         new,
         service as usize,
         limit as usize,
         capacity as usize,
         &mut places,
-    );
-    match row {
-        Answer::Value(n) => put_places(out, &places, n),
-        Answer::Refused(r) => put_refused_of(out, r),
+    ) {
+        Ok(n) => put_places(out, &places, n),
+        Err(r) => put_refused_of(out, r),
     }
 }
 
@@ -60,7 +55,7 @@ fn list(
     ensures { Wrote out.old out.new 0 result
         (one_stage_text old.now new.now service limit capacity number) }
 {
-    let listed = stages::stage_lines(
+    match stages::stage_lines(
         old,
         new,
         service as usize,
@@ -68,10 +63,9 @@ fn list(
         capacity as usize,
         number as usize,
         out,
-    );
-    match listed {
-        Answer::Value(n) => n,
-        Answer::Refused(r) => put_refused_of(out, r),
+    ) {
+        Ok(n) => n,
+        Err(r) => put_refused_of(out, r),
     }
 }
 
@@ -83,25 +77,16 @@ pub fn stages(
     limit: &[u8],
     capacity: &[u8],
     out: &mut [u8; crate::ROOM],
-) -> Outcome
+) -> Result<usize, NoNumber>
     ensures answer { result ≡ outcome
         (stages_says old.now new.now service.now limit.now capacity.now) }
     ensures buffer { out.new ≡ filled
         (stages_says old.now new.now service.now limit.now capacity.now) out.old }
 {
-    let number = read_numeral(service, MOST_SERVICE);
-    let Number::Value(n) = number else {
-        return Outcome::NoNumber(3);
-    };
-    let most = read_numeral(limit, MOST_SUFFIXES);
-    let Number::Value(l) = most else {
-        return Outcome::NoNumber(4);
-    };
-    let room = read_numeral(capacity, MOST_CAPACITY);
-    let Number::Value(c) = room else {
-        return Outcome::NoNumber(5);
-    };
-    Outcome::Answer(cut(old, new, n, l, c, out))
+    let n = word(service, MOST_SERVICE, 3)?;
+    let l = word(limit, MOST_SUFFIXES, 4)?;
+    let c = word(capacity, MOST_CAPACITY, 5)?;
+    Ok(cut(old, new, n, l, c, out))
 }
 
 // One of these stages by its number, from 1: its lines for the switch.
@@ -113,27 +98,15 @@ pub fn stage(
     capacity: &[u8],
     number: &[u8],
     out: &mut [u8; crate::ROOM],
-) -> Outcome
+) -> Result<usize, NoNumber>
     ensures answer { result ≡ outcome (stage_says old.now new.now service.now limit.now
         capacity.now number.now) }
     ensures buffer { out.new ≡ filled (stage_says old.now new.now service.now limit.now
         capacity.now number.now) out.old }
 {
-    let name = read_numeral(service, MOST_SERVICE);
-    let Number::Value(n) = name else {
-        return Outcome::NoNumber(3);
-    };
-    let most = read_numeral(limit, MOST_SUFFIXES);
-    let Number::Value(l) = most else {
-        return Outcome::NoNumber(4);
-    };
-    let room = read_numeral(capacity, MOST_CAPACITY);
-    let Number::Value(c) = room else {
-        return Outcome::NoNumber(5);
-    };
-    let wanted = read_numeral(number, MOST_SUFFIXES);
-    let Number::Value(i) = wanted else {
-        return Outcome::NoNumber(6);
-    };
-    Outcome::Answer(list(old, new, n, l, c, i, out))
+    let n = word(service, MOST_SERVICE, 3)?;
+    let l = word(limit, MOST_SUFFIXES, 4)?;
+    let c = word(capacity, MOST_CAPACITY, 5)?;
+    let i = word(number, MOST_SUFFIXES, 6)?;
+    Ok(list(old, new, n, l, c, i, out))
 }

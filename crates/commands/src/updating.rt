@@ -1,21 +1,20 @@
 // update OLD SHEET SERVICE
-ghost use Rattle.std.specs.Prelude.{◌≡◌, true, [], ◌∷◌, ◌++◌, ◌+◌, ◌*◌, ◌≤◌, length};
+ghost use Rattle.std.specs.Prelude.{◌≡◌, true, [], ◌∷◌, ◌++◌, ◌+◌, ◌*◌, ◌≤◌, length, Ok};
 ghost use Rattle.numerals.specs.Limits.{most_bits};
 ghost use Rattle.numerals.specs.Suffix.{is_suffix, suffix_text};
 ghost use Rattle.expansion.specs.FirstMatch.{is_rule};
 ghost use Rattle.packing.specs.Table.{lines_of};
 ghost use Rattle.sheets.specs.RuleSheet.{line_text, lines_text};
 ghost use Rattle.sheets.specs.Inner.Writing.{Wrote};
-ghost use Rattle.update.specs.declared.answer.SheetUpdated.TheVariants.{Made};
 ghost use Rattle.commands.specs.Said.{outcome, filled};
 ghost use Rattle.commands.specs.Update.{update_head, updated_text, update_text, update_says};
 ghost use Rattle.commands.specs.Inner.Update.{line_of, rules_in, Rules, suffix_room, head_room, line_room, update_room};
 
-use crate::answer::Outcome;
+use crate::answer::NoNumber;
+use crate::numeral::{MOST_SERVICE, word};
 use crate::writing::{put_bytes, put_number, put_pair};
 use expansion::{MOST_NUMBERS, PER_RULE, Rule};
-use numerals::{Number, Written};
-use update::{SheetUpdated, Update};
+use update::Update;
 
 // UPDATE k r n churn; the position after it.
 fn put_head(out: &mut [u8], u: Update) -> usize
@@ -34,10 +33,7 @@ fn put_suffix(out: &mut [u8], at: usize, len: usize, value: usize) -> usize
     ensures text { Wrote out.old out.new at result (suffix_text len value ++ 32 ∷ []) }
     ensures end { result ≤ at + suffix_room }
 {
-    let written = numerals::write_suffix(out, at, len, value);
-    let Written::End(end) = written else {
-        return at;
-    };
+    let end = numerals::write_suffix(out, at, len, value).unwrap();
     out[end] = 32;
     end + 1
 }
@@ -59,8 +55,7 @@ fn put_lines(out: &mut [u8], at: usize, service: u64, rules: &[usize], n: usize)
     ensures { Wrote out.old out.new at result (lines_text (lines_of service (rules_in rules.now n))) }
 {
     let mut end = at;
-    let mut i = 0;
-    while i < n {
+    for i in 0..n {
         let c = PER_RULE * i;
         let rule = Rule {
             len: rules[c],
@@ -68,7 +63,6 @@ fn put_lines(out: &mut [u8], at: usize, service: u64, rules: &[usize], n: usize)
             backend: rules[c + 2],
         };
         end = put_line(out, end, service, rule);
-        i += 1;
     }
     end
 }
@@ -76,7 +70,7 @@ fn put_lines(out: &mut [u8], at: usize, service: u64, rules: &[usize], n: usize)
 // An update and its rules, three numbers each; the position after their lines.
 fn put_updated(out: &mut [u8], u: Update, service: u64, rules: &[usize]) -> usize
     requires { Rules rules.now u.rules × (update_room ≤ length out.old) }
-    ensures { Wrote out.old out.new 0 result (updated_text (Made u) service (rules_in rules.now u.rules)) }
+    ensures { Wrote out.old out.new 0 result (updated_text (Ok u) service (rules_in rules.now u.rules)) }
 {
     let at = put_head(out, u);
     put_lines(out, at, service, rules, u.rules)
@@ -88,10 +82,9 @@ fn renew(old: &[u8], sheet: &[u8], service: u64, out: &mut [u8]) -> usize
     ensures { Wrote out.old out.new 0 result (update_text old.now sheet.now service) }
 {
     let mut rules = [0usize; MOST_NUMBERS];
-    let updated = update::update_sheets(old, sheet, service as usize, &mut rules);
-    match updated {
-        SheetUpdated::Made(u) => put_updated(out, u, service, &rules),
-        SheetUpdated::Refused(r) => crate::writing::put_refused_of(out, r),
+    match update::update_sheets(old, sheet, service as usize, &mut rules) {
+        Ok(u) => put_updated(out, u, service, &rules),
+        Err(r) => crate::writing::put_refused_of(out, r),
     }
 }
 
@@ -101,13 +94,10 @@ pub fn update(
     sheet: &[u8],
     service: &[u8],
     out: &mut [u8; crate::LINES_ROOM],
-) -> Outcome
+) -> Result<usize, NoNumber>
     ensures answer { result ≡ outcome (update_says old.now sheet.now service.now) }
     ensures buffer { out.new ≡ filled (update_says old.now sheet.now service.now) out.old }
 {
-    let number = crate::numeral::read_numeral(service, crate::numeral::MOST_SERVICE);
-    let Number::Value(n) = number else {
-        return Outcome::NoNumber(3);
-    };
-    Outcome::Answer(renew(old, sheet, n, out))
+    let n = word(service, MOST_SERVICE, 3)?;
+    Ok(renew(old, sheet, n, out))
 }

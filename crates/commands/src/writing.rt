@@ -4,7 +4,6 @@ ghost use Rattle.numerals.specs.Decimal.{decimal};
 ghost use Rattle.sheets.specs.Inner.Writing.{Wrote};
 ghost use Rattle.commands.specs.Refused.{number_text, refusal, refused_text, refused_of_text};
 
-use numerals::{Written, refusal_number};
 use sheets::Refused;
 
 // A text at a position; the position after it.
@@ -12,12 +11,9 @@ pub fn put_bytes(out: &mut [u8], at: usize, text: &[u8]) -> usize
     requires { at + length text.now ≤ length out.old }
     ensures { Wrote out.old out.new at result text.now }
 {
-    let mut i = 0;
-    while i < text.len() {
-        out[at + i] = text[i];
-        i += 1;
-    }
-    at + i
+    let end = at + text.len();
+    out[at..end].copy_from_slice(text);
+    end
 }
 
 // A number, and a separator behind it; the position after them. No number has more than 20 digits, so it fits.
@@ -26,10 +22,7 @@ pub fn put_number(out: &mut [u8], at: usize, n: u64, separator: u8) -> usize
     ensures text { Wrote out.old out.new at result (decimal n ++ separator ∷ []) }
     ensures end { result ≤ at + 21 }
 {
-    let written = numerals::write_number(out, at, n);
-    let Written::End(end) = written else {
-        return at;
-    };
+    let end = numerals::write_number(out, at, n).unwrap();
     out[end] = separator;
     end + 1
 }
@@ -58,9 +51,8 @@ fn put_refusal(out: &mut [u8], r: Refused, separator: u8) -> usize
     ensures text { Wrote out.old out.new 0 result (refusal r ++ separator ∷ []) }
     ensures end { result ≤ 50 }
 {
-    let why = r.why;
     let at = put_bytes(out, 0, b"REFUSED ");
-    put_pair(out, at, refusal_number(why), r.line as u64, separator)
+    put_pair(out, at, u64::from(r.why), r.line as u64, separator)
 }
 
 // A refusal as the whole answer.

@@ -1,4 +1,5 @@
 -- What a call answers, by its cases: refused by a check, too little room, or the list that the program made.
+use Rattle.std.specs.Prelude.{Err, Ok}
 use Prim.Native.Nat.{ℕ, zero, suc, ◌+◌, ◌-◌, ◌≤◌, ◌<◌}
 use mathlib.Core.Bool.{true, false}
 use mathlib.Core.List.{List, [], ◌∷◌, ◌++◌, reverse, map}
@@ -16,12 +17,10 @@ use Rattle.expansion.specs.declared.rule.Rule.{Rule}
 use Rattle.numerals.specs.declared.refusal.Refusal.{Refusal}
 use Rattle.numerals.specs.declared.refusal.Refusal.TheVariants.{ShortLoan}
 use Rattle.expansion.specs.declared.run.Run.{Run}
-use Rattle.expansion.specs.declared.call.Checked.TheVariants.{Sound as Passed, Refused as Failed}
-use Rattle.expansion.specs.declared.call.Expanded.TheVariants.{Made as Answered, Refused}
 use Rattle.expansion.proofs.Listing.{length-newest, column-newest}
 
-pub answer-refused : (k tolerance budget : ℕ) (ids ws : List ℕ) (at room : ℕ) (why : Refusal) → check_call k tolerance budget ids ws ≡ Failed why
-    → answer k tolerance budget ids ws at room ≡ Refused why
+pub answer-refused : (k tolerance budget : ℕ) (ids ws : List ℕ) (at room : ℕ) (why : Refusal) → check_call k tolerance budget ids ws ≡ Err why
+    → answer k tolerance budget ids ws at room ≡ Err why
 unfolding answer
 answer-refused k tolerance budget ids ws at room why e = rw e
 
@@ -66,8 +65,8 @@ module _ (k tolerance budget : ℕ) (ids ws : List ℕ) (r : Run) (M : Made (fra
       ∙ ap (stairs_to (frame_made k tolerance ids ws) (list_made k tolerance budget ids ws)) made-count
 
   -- too little room, or enough
-  pub answer-short : (at room : ℕ) → check_call k tolerance budget ids ws ≡ Passed → leb (at + r.list.count) room ≡ false
-      → answer k tolerance budget ids ws at room ≡ Refused ShortLoan
+  pub answer-short : (at room : ℕ) → check_call k tolerance budget ids ws ≡ Ok tt → leb (at + r.list.count) room ≡ false
+      → answer k tolerance budget ids ws at room ≡ Err ShortLoan
   unfolding answer
   answer-short at room e short =
       let none : leb (at + length (list_made k tolerance budget ids ws)) room ≡ false =
@@ -75,10 +74,10 @@ module _ (k tolerance budget : ℕ) (ids ws : List ℕ) (r : Run) (M : Made (fra
       (omega (arith, made-count, leb-false (at + r.list.count) room short)) in
       rw (e, none)
 
-  pub answer-made : (at room : ℕ) → check_call k tolerance budget ids ws ≡ Passed → at + r.list.count ≤ room
-      → answer k tolerance budget ids ws at room ≡ Answered (record { ended = r.ended; rules = r.list.count })
+  pub answer-made : (at room : ℕ) → check_call k tolerance budget ids ws ≡ Ok tt → at + r.list.count ≤ room
+      → answer k tolerance budget ids ws at room ≡ Ok (record { ended = r.ended; rules = r.list.count })
   unfolding answer
   answer-made at room e l =
       let some : leb (at + length (list_made k tolerance budget ids ws)) room ≡ true =
       le-leb (at + length (list_made k tolerance budget ids ws)) room (omega (arith, made-count)) in
-      rw (e, some) (ap Answered made-record)
+      rw (e, some) (ap Ok made-record)

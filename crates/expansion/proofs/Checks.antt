@@ -1,4 +1,5 @@
 -- What the checks of a call leave.
+use Rattle.std.specs.Prelude.{Err, Ok, Result}
 use Prim.Native.Nat.{ℕ, suc, ◌≤◌, ◌<◌}
 use mathlib.Core.Bool.{Bool, true, false}
 use mathlib.Core.List.{List}
@@ -6,7 +7,7 @@ use mathlib.Core.Path.{◌≡◌, refl}
 use native.Mathlib.Omega.{arith}
 use lib.Dec.{leb, ltb, eqb, lit<}
 use lib.ListN.{length, get_or}
-use borrow.Author.Tests.{leb-true, ltb-true, eqb-true, eq-eqb, lt-ltb, le-ltb, lt-leb, le-leb}
+use borrow.Author.Tests.{leb-true, ltb-true, eqb-true, eq-eqb, lt-ltb, le-leb}
 use Rattle.numerals.specs.Sums.{sum_to, all_to, argmax}
 use Rattle.expansion.specs.Imbalance.{backends}
 use Rattle.expansion.specs.Steps.{frame, first_rule}
@@ -16,19 +17,17 @@ use Rattle.numerals.specs.Limits.{most_bits, most_backends, most_rules, most_id,
 use Rattle.expansion.specs.Inner.Run.{Valid, Fits}
 use Rattle.numerals.specs.declared.refusal.Refusal.{Refusal}
 use Rattle.numerals.specs.declared.refusal.Refusal.TheVariants.{Malformed, BadField, Unbalanced, TooMany}
-use Rattle.expansion.specs.declared.call.Checked.{Checked}
-use Rattle.expansion.specs.declared.call.Checked.TheVariants.{Sound as Passed, Refused as Failed}
 use Rattle.expansion.proofs.Base.{first-known, base-sound}
 use Rattle.expansion.proofs.Ids.{Rises, rises-distinct, rises-named}
 use Rattle.numerals.proofs.Searches.{both_true, all_true, all-false}
 
 -- both checks passed
-pub both-passed : (a b : Checked) → and_then a b ≡ Passed → (a ≡ Passed) × (b ≡ Passed)
-both-passed Passed b e = (refl, e)
-both-passed (Failed why) b e = (cc, cc)
+pub both-passed : (a b : (Result (Unit {0}) Refusal)) → and_then a b ≡ Ok tt → (a ≡ Ok tt) × (b ≡ Ok tt)
+both-passed (Ok tt) b e = (refl, e)
+both-passed (Err why) b e = (cc, cc)
 
 -- the test of a check that passed
-pub test-passed : (t : Bool) (why : Refusal) → or_else t why ≡ Passed → t ≡ true
+pub test-passed : (t : Bool) (why : Refusal) → or_else t why ≡ Ok tt → t ≡ true
 test-passed true why e = refl
 test-passed false why e = cc
 
@@ -47,21 +46,9 @@ pub record Weighed (ids ws : List ℕ) : Type 0 where
   pub each : (b : ℕ) → b < length ws → get_or ws b 0 ≤ unit
   pub balanced : sum_to (length ws) (λ b. get_or ws b 0) ≡ unit
 
-pub weights-none : (ids ws : List ℕ) → length ws ≡ 0 → check_weights ids ws ≡ Failed BadField
-unfolding check_weights
-weights-none ids ws e = simp (le-ltb 0 (length ws) (omega arith))
-
 module _ (ids ws : List ℕ) (some : 0 < length ws) where
-  pub weights-many : most_backends < length ws → check_weights ids ws ≡ Failed TooMany
-  unfolding check_weights
-  weights-many h = simp (lt-ltb 0 (length ws) some, lt-leb (length ws) most_backends h)
-
-  pub weights-unpaired : length ws ≤ most_backends → eqb (length ids) (length ws) ≡ false → check_weights ids ws ≡ Failed Malformed
-  unfolding check_weights
-  weights-unpaired few e = simp (lt-ltb 0 (length ws) some, le-leb (length ws) most_backends few, e)
-
   module _ (few : length ws ≤ most_backends) (paired : length ids ≡ length ws) where
-    pub weights-bad : (b : ℕ) → b < length ws → is_backend ids ws b ≡ false → check_weights ids ws ≡ Failed BadField
+    pub weights-bad : (b : ℕ) → b < length ws → is_backend ids ws b ≡ false → check_weights ids ws ≡ Err BadField
     unfolding check_weights
     weights-bad b l e =
         simp (
@@ -90,7 +77,7 @@ is-backend ids ws b e =
     let l = limits (suc (id_before ids b)) most_id (get_or ids b 0) p.0 in
     (l.0, (l.1, leb-true (get_or ws b 0) unit p.1))
 
-pub weights-passed : (ids ws : List ℕ) → check_weights ids ws ≡ Passed → Weighed ids ws
+pub weights-passed : (ids ws : List ℕ) → check_weights ids ws ≡ Ok tt → Weighed ids ws
 unfolding check_weights
 weights-passed ids ws e =
     let n = length ws in
@@ -113,27 +100,14 @@ weights-passed ids ws e =
       balanced = eqb-true sum unit (test-passed (eqb sum unit) Unbalanced r.1);
     }
 
--- the checks of a call, one after the other
+-- what is left of the checks of a call
 module _ (k tolerance budget : ℕ) (ids ws : List ℕ) where
-  pub call-bits : in_limits 1 most_bits k ≡ false → check_call k tolerance budget ids ws ≡ Failed BadField
-  unfolding check_call
-  call-bits e = simp e
-
-  pub call-tolerance : in_limits 1 most_bits k ≡ true → unit < tolerance → check_call k tolerance budget ids ws ≡ Failed BadField
-  unfolding check_call
-  call-tolerance e l = simp (e, lt-leb tolerance unit l)
-
-  pub call-budget : in_limits 1 most_bits k ≡ true → tolerance ≤ unit → in_limits 1 most_rules budget ≡ false
-      → check_call k tolerance budget ids ws ≡ Failed BadField
-  unfolding check_call
-  call-budget e l f = simp (e, le-leb tolerance unit l, f)
-
   pub call-weights : in_limits 1 most_bits k ≡ true → tolerance ≤ unit → in_limits 1 most_rules budget ≡ true
       → check_call k tolerance budget ids ws ≡ check_weights ids ws
   unfolding check_call
   call-weights e l f = simp (e, le-leb tolerance unit l, f)
 
-pub call-passed : (k tolerance budget : ℕ) (ids ws : List ℕ) → check_call k tolerance budget ids ws ≡ Passed
+pub call-passed : (k tolerance budget : ℕ) (ids ws : List ℕ) → check_call k tolerance budget ids ws ≡ Ok tt
     → Valid k tolerance ids ws × (1 ≤ budget) × (budget ≤ most_rules) × ((b : ℕ) → b < length ws → get_or ws b 0 ≤ unit)
 unfolding check_call
 call-passed k tolerance budget ids ws e =

@@ -1,18 +1,19 @@
 -- A start with more backends beyond the tolerance than two for each rule that may still be added ends in no list that is within.
 use Prim.Native.Nat.{ℕ, zero, suc, ◌+◌, ◌-◌, ◌*◌, ◌^◌, ◌≤◌, ◌<◌}
-use mathlib.Core.Bool.{Bool, true}
+use mathlib.Core.Bool.{Bool, true, false}
 use mathlib.Core.List.{List, ◌∷◌}
 use mathlib.Core.Logic.{◌≢◌}
 use mathlib.Core.Path.{◌≡◌, refl, ap, ap₂, sym, ◌∙◌, subst}
 use native.Mathlib.Omega.{arith}
 use lib.Dec.{leb, ltb}
 use lib.ListN.{length, get_or}
+use Rattle.std.proofs.lemmas.Bool.{false_from_ne_true}
 use borrow.Author.Tests.{leb-true, le-ltb, ltb-true}
-use Rattle.numerals.specs.Limits.{most_rules, most_suffixes, unit}
+use Rattle.numerals.specs.Limits.{most_suffixes, unit}
 use Rattle.numerals.specs.Pick.{pick, both}
 use Rattle.numerals.specs.Sums.{count_to}
 use Rattle.numerals.proofs.Powers.{pow-few}
-use Rattle.numerals.proofs.Searches.{both_true, all_true, clash}
+use Rattle.numerals.proofs.Searches.{both_true, all_true}
 use Rattle.numerals.proofs.Sums.{sum-two, sum-zero, count-ext, one-most}
 use Rattle.expansion.specs.FirstMatch.{share, churn}
 use Rattle.expansion.specs.Imbalance.{backends, label, weight, has, wants, excess, shortfall, giver, receiver}
@@ -21,14 +22,13 @@ use Rattle.expansion.specs.Resume.{frame_from}
 use Rattle.expansion.specs.Inner.Hopeless.{is_apart, beyond_to}
 use Rattle.expansion.specs.Inner.Laying.{Starts}
 use Rattle.expansion.specs.Inner.Lists.{newest_first}
-use Rattle.expansion.specs.Inner.Resume.{Tried}
+use Rattle.expansion.specs.Inner.Resume.{Ended}
 use Rattle.expansion.specs.Inner.Run.{labelled_by, Made}
 use Rattle.expansion.specs.Inner.Sound.{Sound}
 use Rattle.expansion.specs.declared.rule.Rule.{Rule}
 use Rattle.expansion.specs.declared.rule.Ended.TheVariants.{Within}
 use Rattle.expansion.specs.declared.list.RuleList.{RuleList}
 use Rattle.expansion.specs.declared.run.Run.{Run}
-use Rattle.expansion.specs.declared.resuming.Attempt.{Attempt}
 use Rattle.expansion.proofs.Balance.{giver-lt, receiver-lt}
 use Rattle.expansion.proofs.Bounds.{share-le, weight-le}
 use Rattle.expansion.proofs.KeptLists.{sound-kept, within-ended}
@@ -126,35 +126,19 @@ module _ (k tolerance : ℕ) (labels ws : List ℕ) (list : RuleList) (holder sh
   starts-enough w =
       omega (arith, beyond-is, enough_turns F sound budget w, count-is k tolerance labels ws list holder shares budget S)
 
-  few-kept : list.count ≤ most_rules
-  few-kept = omega (arith, S.within, S.few)
-
-  -- it doesn't end within
-  tried-none : (is_within F (list_of F budget) ≡ true → ⊥) → (old : List Rule) (none : Attempt) → none ≡ record { kept = 0; churn = 0; list = list }
-      → Tried F budget list.count old none
-  tried-none no' old none is =
-      subst (Tried F budget list.count old) (sym is)
-      (record { few = few-kept; number = λ w. absurd (no' w); rules = λ w. absurd (no' w); moved = λ w. absurd (no' w); other = λ _. refl })
-
   -- a hopeless start
-  pub tried-hopeless : ltb (2 * (budget - list.count)) (beyond_to k tolerance ws shares (length ws)) ≡ true
-      → (old : List Rule) (none : Attempt) → none ≡ record { kept = 0; churn = 0; list = list } → Tried F budget list.count old none
+  pub tried-hopeless : ltb (2 * (budget - list.count)) (beyond_to k tolerance ws shares (length ws)) ≡ true → is_within F (list_of F budget) ≡ false
   tried-hopeless e =
-      tried-none (λ w. omega (arith, starts-enough w, ltb-true (2 * (budget - list.count)) (beyond_to k tolerance ws shares (length ws)) e))
+      false_from_ne_true (is_within F (list_of F budget)) (λ w.
+      omega (arith, starts-enough w, ltb-true (2 * (budget - list.count)) (beyond_to k tolerance ws shares (length ws)) e))
 
   -- a run that was made
-  module _ (run : Run) (M : Made F budget run) (old : List Rule) where
-    pub tried_other : run.ended ≢ Within → (none : Attempt) → none ≡ record { kept = 0; churn = 0; list = list } → Tried F budget list.count old none
-    tried_other d = tried-none (λ w. d (M.ended ∙ ended-within F (list_of F budget) w)) old
+  module _ (run : Run) (M : Made F budget run) where
+    pub tried_other : run.ended ≢ Within → is_within F (list_of F budget) ≡ false
+    tried_other d = false_from_ne_true (is_within F (list_of F budget)) (λ w. d (M.ended ∙ ended-within F (list_of F budget) w))
 
-    pub tried-within : run.ended ≡ Within → (moved : ℕ) → moved ≡ churn k old (list_of F budget)
-        → Tried F budget list.count old (record { kept = list.count; churn = moved; list = run.list })
+    pub tried-within : run.ended ≡ Within → (old : List Rule) (moved : ℕ) → moved ≡ churn k old (list_of F budget)
+        → Ended F budget list.count old (record { kept = list.count; churn = moved; list = run.list })
     unfolding frame_from
-    tried-within e moved is =
-        record {
-          few = M.few_rules;
-          number = λ w. refl;
-          rules = λ w. M.rules;
-          moved = λ w. is;
-          other = λ w. absurd (clash (is_within F (list_of F budget)) (within-ended F (list_of F budget) (sym M.ended ∙ e)) w);
-        }
+    tried-within e old moved is =
+        record { within = within-ended F (list_of F budget) (sym M.ended ∙ e); few = M.few_rules; number = refl; rules = M.rules; moved = is }

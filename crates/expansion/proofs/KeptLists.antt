@@ -1,4 +1,5 @@
 -- The lists that come of kept rules: how they end, that the checks of an old list never refuse as they may, and what their rules are.
+use Rattle.std.specs.Prelude.{Err, Ok, Result}
 use Prim.Native.Nat.{ℕ, zero, suc, ◌-◌, ◌≤◌, ◌<◌, min}
 use mathlib.Core.Bool.{Bool, true, false, not}
 use mathlib.Core.List.{List, [], ◌∷◌, map}
@@ -27,8 +28,6 @@ use Rattle.expansion.specs.Inner.OldList.{Known, Proper}
 use Rattle.expansion.specs.Inner.Run.{labelled_by, Valid}
 use Rattle.expansion.specs.declared.rule.Rule.{Rule}
 use Rattle.expansion.specs.declared.rule.Ended.TheVariants.{Within, NoGain, Budget}
-use Rattle.expansion.specs.declared.call.Checked.{Checked}
-use Rattle.expansion.specs.declared.call.Checked.TheVariants.{Sound as Passed, Refused as Failed}
 use Rattle.expansion.proofs.Checks.{some-unit}
 use Rattle.expansion.proofs.FirstMatch.{rule-short, lengths-mono}
 use Rattle.expansion.proofs.KeptStart.{lengths-of, longest-le, lengths-longest, first-known}
@@ -56,13 +55,13 @@ ended-other F rs w e = clash (is_within F rs) (within-ended F rs e) w
 abbrev mild : Refusal → Bool
 mild why = both (not (eqb (number_of why) 7)) (not (eqb (number_of why) 13))
 
-abbrev Early : Checked → Type 0
-Early Passed = Unit {0}
-Early (Failed why) = mild why ≡ true
+abbrev Early : Result (Unit {0}) Refusal → Type 0
+Early (Ok tt) = Unit {0}
+Early (Err why) = mild why ≡ true
 
-early-then : (a b : Checked) → Early a → Early b → Early (and_then a b)
-early-then Passed b f g = g
-early-then (Failed why) b f g = f
+early-then : (a b : (Result (Unit {0}) Refusal)) → Early a → Early b → Early (and_then a b)
+early-then (Ok tt) b f g = g
+early-then (Err why) b f g = f
 
 early-test : (t : Bool) (why : Refusal) → mild why ≡ true → Early (or_else t why)
 early-test true why h = tt
@@ -108,7 +107,7 @@ early-old k tolerance cs ids ws =
     (early-then some (check_rules k 0 k cs) (early-test (ltb 0 (length cs)) no2 refl) (early-rules k 0 k cs))
     (early-weights ids ws)))
 
-pub early : (k tolerance : ℕ) (cs ids ws : List ℕ) (why : Refusal) → check_old k tolerance cs ids ws ≡ Failed why → (why ≢ no7) × (why ≢ no13)
+pub early : (k tolerance : ℕ) (cs ids ws : List ℕ) (why : Refusal) → check_old k tolerance cs ids ws ≡ Err why → (why ≢ no7) × (why ≢ no13)
 unfolding number_of
 early k tolerance cs ids ws why e =
     let h : mild why ≡ true = subst Early e (early-old k tolerance cs ids ws) in
@@ -159,7 +158,7 @@ formed-at k labelled n (r ∷ rs) h zero l = h.0
 formed-at k labelled n (r ∷ rs) h (suc i) l = formed-at k labelled n rs h.1 i (omega arith)
 
 -- the list of the r oldest rules of an old list that passed
-module _ (k tolerance : ℕ) (cs ids ws : List ℕ) (r : ℕ) (passed : check_old k tolerance cs ids ws ≡ Passed) (some : 1 ≤ r)
+module _ (k tolerance : ℕ) (cs ids ws : List ℕ) (r : ℕ) (passed : check_old k tolerance cs ids ws ≡ Ok tt) (some : 1 ≤ r)
     (few : r ≤ length (rules_from cs)) where
   abbrev R : List Rule
   R = rules_from cs

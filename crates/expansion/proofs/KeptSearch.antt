@@ -7,6 +7,7 @@ use native.Mathlib.Omega.{arith}
 use lib.ListN.{length, get_or, drop, set, replicate, length-set}
 use lib.Seq.{get_or-set_same, get_or-set_other, drop-length}
 use Rattle.numerals.specs.Limits.{most_bits, most_known, most_rules, most_suffixes}
+use Rattle.std.specs.Prelude.{Option, None}
 use Rattle.expansion.specs.Imbalance.{Targets}
 use Rattle.expansion.specs.Steps.{oldest}
 use Rattle.expansion.specs.OldList.{rules_from}
@@ -159,7 +160,7 @@ held_first k labels cs few A proper star e to P =
     (held-star k star P.rule few (ap (λ (r : Rule). r.len) (sym is) ∙ first-star k labels cs proper) labels A to P)
 
 -- the search has come down to the rules of a list: of the numbers above, the best, and who held what after the whole old list
-pub record Searched (k tolerance : ℕ) (labels ws cs whole holder shares : List ℕ) (list : RuleList) (had : List ℕ) (best : Attempt) : Type 0 where
+pub record Searched (k tolerance : ℕ) (labels ws cs whole holder shares : List ℕ) (list : RuleList) (had : List ℕ) (best : Option Attempt) : Type 0 where
   pub laid : LaidTo k labels (rules_from cs) list.count holder shares list.rules had
   pub full : (all : List ℕ) × Held k labels (rules_from cs) whole all
   pub above : BestAbove (labelled_by k labels ws) tolerance (rules_from cs) list.count best
@@ -168,16 +169,14 @@ pub record Searched (k tolerance : ℕ) (labels ws cs whole holder shares : List
 pub searched-none : (k tolerance : ℕ) (labels ws cs : List ℕ) → Proper k labels (rules_from cs)
     → (holder shares : List ℕ) (list : RuleList) (had : List ℕ)
     → list.count ≡ length (rules_from cs) → LaidTo k labels (rules_from cs) (length (rules_from cs)) holder shares list.rules had
-    → (none : Attempt) → none ≡ record { kept = 0; churn = 0; list = list } → Searched k tolerance labels ws cs holder holder shares list had none
-searched-none k tolerance labels ws cs proper holder shares list had all L none is =
+    → Searched k tolerance labels ws cs holder holder shares list had None
+searched-none k tolerance labels ws cs proper holder shares list had all L =
     let R = rules_from cs in
-    let few : none.list.count ≤ most_rules = omega (arith, ap (λ (a : Attempt). a.list.count) is, all, proper.few) in
     record {
       laid = subst (λ (n : ℕ). LaidTo k labels R n holder shares list.rules had) (sym all) L;
       full = (shares, subst (λ (rs : List Rule). Held k labels rs holder shares) (oldest-all (length R) R (omega arith)) L.held);
       above =
-          subst (λ (n : ℕ). BestAbove (labelled_by k labels ws) tolerance R n none) (sym all)
-          (best-start (labelled_by k labels ws) tolerance R none (ap (λ (a : Attempt). a.kept) is) few);
+          subst (λ (n : ℕ). BestAbove (labelled_by k labels ws) tolerance R n None) (sym all) (best-start (labelled_by k labels ws) tolerance R);
     }
 
 module _ (k tolerance : ℕ) (labels ws cs : List ℕ) (valid : Valid k tolerance labels ws) (proper : Proper k labels (rules_from cs))
@@ -203,7 +202,7 @@ module _ (k tolerance : ℕ) (labels ws cs : List ℕ) (valid : Valid k toleranc
       }
 
   -- the try from where it stands
-  pub tried_here : (tried : Attempt) → Tried (frame_from T tolerance (newest_first list.rules c)) (length cs / 3) c old tried
+  pub tried_here : (tried : Option Attempt) → Tried (frame_from T tolerance (newest_first list.rules c)) (length cs / 3) c old tried
       → Tried (frame_kept T tolerance old c) (length old) c old tried
   unfolding frame_kept
   tried_here tried M =

@@ -6,7 +6,7 @@ use native.Mathlib.Nat.{zero-add, add-zero, add-suc, suc-add}
 use native.Mathlib.Numerals.{add-one}
 use native.Mathlib.Omega.{arith}
 use lib.ListN.{length, get_or, set, take, drop, length-map}
-use lib.Seq.{sets, length-sets, take-suc, length-take-le, get_or-set_same, get_or-set_other}
+use lib.Seq.{sets, take-suc, length-take-le, get_or-set_same, get_or-set_other}
 use Rattle.expansion.specs.Steps.{oldest}
 use Rattle.expansion.specs.Inner.Lists.{no_rule, newest_first}
 use Rattle.expansion.specs.declared.rule.Rule.{Rule}
@@ -66,10 +66,6 @@ sets_last l i (v ∷ vs) a =
 -- a buffer into which the first i values of a listing were stored, from a position on
 pub record Copied {A : Type 0} (f : A → ℕ) (xs : List A) (at i : ℕ) (l out : List ℕ) : Type 0 where
   pub is : out ≡ sets l at (map f (take i xs))
-
-pub copied-length :
-    {A : Type 0} {f : A → ℕ} {xs : List A} {at i : ℕ} {l out : List ℕ} → Copied f xs at i l out → length out ≡ length l
-copied-length {A} {f} {xs} {at} {i} {l} {out} S = ap length S.is ∙ length-sets l at (map f (take i xs))
 
 -- one more value
 pub copied_more : {A : Type 0} {f : A → ℕ} {xs : List A} {at i : ℕ} {l out : List ℕ} (d : A) → i < length xs → Copied f xs at i l out

@@ -1,4 +1,5 @@
 -- The checks of an old list, one test after the other, and what they leave.
+use Rattle.std.specs.Prelude.{Result, Err, Ok}
 use Prim.Native.Nat.{ℕ, zero, suc, ◌+◌, ◌-◌, ◌*◌, ◌/◌, ◌≤◌, ◌<◌}
 use mathlib.Core.Bool.{true, false}
 use mathlib.Core.List.{List, [], ◌∷◌, map}
@@ -25,7 +26,6 @@ use Rattle.expansion.specs.Inner.OldList.{rule_at, Proper}
 use Rattle.expansion.specs.Inner.Run.{Valid}
 use Rattle.expansion.specs.Inner.Sound.{Lengths, Falling}
 use Rattle.expansion.specs.declared.rule.Rule.{Rule}
-use Rattle.expansion.specs.declared.call.Checked.TheVariants.{Sound as Passed, Refused as Failed}
 use Rattle.numerals.proofs.Searches.{both_true}
 use Rattle.expansion.proofs.FirstMatch.{lengths-mono}
 use Rattle.expansion.proofs.Checks.{both-passed, test-passed, limits, Weighed, weights-passed}
@@ -44,17 +44,17 @@ module _ (k last : ℕ) (cs : List ℕ) (i : ℕ) (h : i < length cs / 3) where
   unfolding check_rules
   tests = ap (check_rules k i last) (three-more cs i h) ∙ rw (add-one i)
 
-  pub rule-bad : is_proper k (rule_at cs i) ≡ false → check_rules k i last (drop (3 * i) cs) ≡ Failed BadField
+  pub rule-bad : is_proper k (rule_at cs i) ≡ false → check_rules k i last (drop (3 * i) cs) ≡ Err BadField
   rule-bad e = tests ∙ simp e
 
-  pub rule-many : is_proper k (rule_at cs i) ≡ true → most_rules ≤ i → check_rules k i last (drop (3 * i) cs) ≡ Failed TooMany
+  pub rule-many : is_proper k (rule_at cs i) ≡ true → most_rules ≤ i → check_rules k i last (drop (3 * i) cs) ≡ Err TooMany
   rule-many e m = tests ∙ simp (e, le-ltb i most_rules m)
 
-  pub rule-behind : is_proper k (rule_at cs i) ≡ true → i < most_rules → last ≡ 0 → check_rules k i last (drop (3 * i) cs) ≡ Failed Order
+  pub rule-behind : is_proper k (rule_at cs i) ≡ true → i < most_rules → last ≡ 0 → check_rules k i last (drop (3 * i) cs) ≡ Err Order
   rule-behind e m z = tests ∙ simp (e, lt-ltb i most_rules m, le-ltb 0 last (omega arith))
 
   pub rule-longer :
-      is_proper k (rule_at cs i) ≡ true → i < most_rules → 0 < last → last < (rule_at cs i).len → check_rules k i last (drop (3 * i) cs) ≡ Failed Order
+      is_proper k (rule_at cs i) ≡ true → i < most_rules → 0 < last → last < (rule_at cs i).len → check_rules k i last (drop (3 * i) cs) ≡ Err Order
   rule-longer e m s l = tests ∙ simp (e, lt-ltb i most_rules m, lt-ltb 0 last s, lt-leb (rule_at cs i).len last l)
 
   pub rule-next :
@@ -63,7 +63,7 @@ module _ (k last : ℕ) (cs : List ℕ) (i : ℕ) (h : i < length cs / 3) where
   rule-next e m s l = tests ∙ simp (e, lt-ltb i most_rules m, lt-ltb 0 last s, le-leb (rule_at cs i).len last l)
 
 -- behind the last rule: numbers left over, or the end
-pub rules-broken : (k n last : ℕ) (cs : List ℕ) → 0 < length cs → length cs < 3 → check_rules k n last cs ≡ Failed Malformed
+pub rules-broken : (k n last : ℕ) (cs : List ℕ) → 0 < length cs → length cs < 3 → check_rules k n last cs ≡ Err Malformed
 unfolding check_rules
 rules-broken k n last [] s h = absurd (omega arith)
 rules-broken k n last (l ∷ []) s h = refl
@@ -93,10 +93,10 @@ record Passing (k n last : ℕ) (rs : List Rule) : Type 0 where
   falling : Lengths last rs × Falling rs
   star : end_len last rs ≡ 0
 
-failed : (why : Refusal) → Failed why ≡ Passed → ⊥
+failed : (why : Refusal) → ◌≡◌ {A = Result (Unit {0}) Refusal} (Err why) (Ok tt) → ⊥
 failed why e = let z : ◌≡◌ {A = ℕ} 0 1 = cc in omega arith
 
-rules-passed : (k n last : ℕ) (cs : List ℕ) → n ≤ most_rules → check_rules k n last cs ≡ Passed → Passing k n last (rules_from cs)
+rules-passed : (k n last : ℕ) (cs : List ℕ) → n ≤ most_rules → check_rules k n last cs ≡ Ok tt → Passing k n last (rules_from cs)
 unfolding check_rules rules_from end_len Lengths Falling
 rules-passed k n last [] h e =
     record { few = omega arith; each = λ i l. absurd (omega arith); falling = (tt, tt); star = eqb-true last 0 (test-passed (eqb last 0) Order e) }
@@ -200,7 +200,7 @@ module _ (k tolerance : ℕ) (rs : List Rule) (ids ws : List ℕ) (bits : in_lim
         proper = rules-proper k ids rs (limits 1 most_bits k bits).0 P;
       }
 
-pub old-passed : (k tolerance : ℕ) (cs ids ws : List ℕ) → check_old k tolerance cs ids ws ≡ Passed → OldPassed k tolerance (rules_from cs) ids ws
+pub old-passed : (k tolerance : ℕ) (cs ids ws : List ℕ) → check_old k tolerance cs ids ws ≡ Ok tt → OldPassed k tolerance (rules_from cs) ids ws
 unfolding check_old check_list
 old-passed k tolerance cs ids ws e =
     let listed = and_then (check_list k cs) (check_weights ids ws) in
@@ -210,25 +210,6 @@ old-passed k tolerance cs ids ws e =
     let l = both-passed (or_else (ltb 0 (length cs)) BadField) (check_rules k 0 k cs) r.0 in
     passed k tolerance (rules_from cs) ids ws (test-passed (in_limits 1 most_bits k) BadField p.0)
     (leb-true tolerance unit (test-passed (leb tolerance unit) BadField q.0)) (rules-passed k 0 k cs (omega arith) l.1) (weights-passed ids ws r.1)
-
--- the checks of a call with an old list, one after the other
-module _ (k tolerance : ℕ) (cs ids ws : List ℕ) where
-  pub old-bits : in_limits 1 most_bits k ≡ false → check_old k tolerance cs ids ws ≡ Failed BadField
-  unfolding check_old
-  old-bits e = simp e
-
-  pub old-tolerance : in_limits 1 most_bits k ≡ true → unit < tolerance → check_old k tolerance cs ids ws ≡ Failed BadField
-  unfolding check_old
-  old-tolerance e l = simp (e, lt-leb tolerance unit l)
-
-  pub old-none : in_limits 1 most_bits k ≡ true → tolerance ≤ unit → length cs ≡ 0 → check_old k tolerance cs ids ws ≡ Failed BadField
-  unfolding check_old check_list
-  old-none e l z = simp (e, le-leb tolerance unit l, le-ltb 0 (length cs) (omega arith))
-
-  pub old-rules : in_limits 1 most_bits k ≡ true → tolerance ≤ unit → 0 < length cs
-      → check_old k tolerance cs ids ws ≡ and_then (check_rules k 0 k cs) (check_weights ids ws)
-  unfolding check_old check_list
-  old-rules e l s = simp (e, le-leb tolerance unit l, lt-ltb 0 (length cs) s)
 
 falling-drop : (n : ℕ) (rs : List Rule) → Falling rs → Falling (drop n rs)
 unfolding Falling

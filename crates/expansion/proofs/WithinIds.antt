@@ -1,4 +1,5 @@
 -- An update that ends within is so for every id (document 02, Req 04), known or not: one that is missing from the new weights counts as weight 0.
+use Rattle.std.specs.Prelude.{Ok}
 use Prim.Native.Nat.{ℕ, suc, ◌+◌, ◌*◌, ◌^◌, ◌≤◌, ◌<◌}
 use mathlib.Core.Bool.{Bool, true, false, true≢false}
 use mathlib.Core.List.{List, [], ◌∷◌, map}
@@ -21,7 +22,6 @@ use Rattle.expansion.specs.Resume.{frame_from, frame_kept, list_kept, ends_withi
 use Rattle.expansion.specs.Inner.Lists.{no_rule}
 use Rattle.expansion.specs.Inner.Known.{Above, Among, place_in, is_there}
 use Rattle.expansion.specs.declared.rule.Rule.{Rule}
-use Rattle.expansion.specs.declared.call.Checked.TheVariants.{Sound as Passed}
 use Rattle.expansion.proofs.FirstMatch.{gives-matched, gives-passed}
 use Rattle.expansion.proofs.KnownIds.{above_at, weight-none, known-id, there-found}
 use Rattle.expansion.proofs.KeptLists.{kept-known}
@@ -61,7 +61,7 @@ told id ids some above = go (is_there id ids) refl (ltb (place_in id ids) (lengt
           get_or-eq_default ids 0 {n = place_in id ids} (ltb-false (place_in id ids) (length ids) v),
         ))
 
-module _ (k tolerance : ℕ) (cs ids ws : List ℕ) (r : ℕ) (passed : check_old k tolerance cs ids ws ≡ Passed) (some : 1 ≤ r)
+module _ (k tolerance : ℕ) (cs ids ws : List ℕ) (r : ℕ) (passed : check_old k tolerance cs ids ws ≡ Ok tt) (some : 1 ≤ r)
     (few : r ≤ length (rules_from cs)) where
   abbrev R : List Rule
   R = rules_from cs

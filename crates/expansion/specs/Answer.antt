@@ -1,5 +1,5 @@
 -- The expansion without a text (document 01, "Turned-back work"): what it checks, in this order, and what it answers and writes.
-use Rattle.std.specs.Prelude.{ℕ, zero, suc, ◌+◌, Bool, true, false, List, reverse, map, leb, ltb, eqb, length, get_or}
+use Rattle.std.specs.Prelude.{ℕ, zero, suc, ◌+◌, Bool, true, false, List, reverse, map, leb, ltb, eqb, length, get_or, Err, Ok, Result}
 use Rattle.numerals.specs.Pick.{pick, both}
 use Rattle.numerals.specs.Limits.{most_bits, most_backends, most_rules, most_id, unit}
 use Rattle.numerals.specs.Sums.{sum_to, all_to}
@@ -8,25 +8,21 @@ use Rattle.expansion.specs.declared.rule.Rule.{Rule}
 use Rattle.expansion.specs.declared.rule.Record.{Record}
 use Rattle.numerals.specs.declared.refusal.Refusal.{Refusal}
 use Rattle.numerals.specs.Refusals.{no1, no2, no3, no4, no7}
-use Rattle.expansion.specs.declared.call.Checked.{Checked}
-use Rattle.expansion.specs.declared.call.Checked.TheVariants.{Sound as Passed, Refused as Failed}
-use Rattle.expansion.specs.declared.call.Expanded.{Expanded}
-use Rattle.expansion.specs.declared.call.Expanded.TheVariants.{Made, Refused}
 
 -- the next check, where the ones before passed
-abbrev pub and_then : Checked → Checked → Checked
-and_then Passed next = next
-and_then (Failed why) next = Failed why
+abbrev pub and_then : Result (Unit {0}) Refusal → Result (Unit {0}) Refusal → Result (Unit {0}) Refusal
+and_then (Ok tt) next = next
+and_then (Err why) next = Err why
 
 -- what is answered where all checks passed
-abbrev pub on_checked : {A : Type 0} → (Refusal → A) → Checked → A → A
-on_checked refuse Passed made = made
-on_checked refuse (Failed why) made = refuse why
+abbrev pub on_checked : {A : Type 0} → (Refusal → A) → Result (Unit {0}) Refusal → A → A
+on_checked refuse (Ok tt) made = made
+on_checked refuse (Err why) made = refuse why
 
 -- refused, unless the test passes
-abbrev pub or_else : Bool → Refusal → Checked
-or_else true why = Passed
-or_else false why = Failed why
+abbrev pub or_else : Bool → Refusal → Result (Unit {0}) Refusal
+or_else true why = Ok tt
+or_else false why = Err why
 
 -- least ≤ x ≤ most
 unfoldable pub in_limits : ℕ → ℕ → ℕ → Bool
@@ -42,7 +38,7 @@ unfoldable pub is_backend : List ℕ → List ℕ → ℕ → Bool
 is_backend ids ws b = both (in_limits (suc (id_before ids b)) most_id (get_or ids b 0)) (leb (get_or ws b 0) unit)
 
 -- backends (0 is 2, a 33rd is 4), other than one id for each weight (1), then the id and the weight of each, then the sum
-unfoldable pub check_weights : List ℕ → List ℕ → Checked
+unfoldable pub check_weights : List ℕ → List ℕ → Result (Unit {0}) Refusal
 check_weights ids ws =
     and_then (or_else (ltb 0 (length ws)) no2)
     (and_then (or_else (leb (length ws) most_backends) no4)
@@ -51,7 +47,7 @@ check_weights ids ws =
     (or_else (eqb (sum_to (length ws) (λ b. get_or ws b 0)) unit) no3))))
 
 -- k, tolerance, budget, then the weights
-unfoldable pub check_call : ℕ → ℕ → ℕ → List ℕ → List ℕ → Checked
+unfoldable pub check_call : ℕ → ℕ → ℕ → List ℕ → List ℕ → Result (Unit {0}) Refusal
 check_call k tolerance budget ids ws =
     and_then (or_else (in_limits 1 most_bits k) no2)
     (and_then (or_else (leb tolerance unit) no2)
@@ -79,15 +75,15 @@ record_made k tolerance budget ids ws =
     }
 
 -- the answer, where the shortest lent buffer has `room` places and is filled from position `at` on
-unfoldable pub answer : ℕ → ℕ → ℕ → List ℕ → List ℕ → ℕ → ℕ → Expanded
+unfoldable pub answer : ℕ → ℕ → ℕ → List ℕ → List ℕ → ℕ → ℕ → Result Record Refusal
 answer k tolerance budget ids ws at room =
-    on_checked Refused (check_call k tolerance budget ids ws)
-    (pick (leb (at + length (list_made k tolerance budget ids ws)) room) (Made (record_made k tolerance budget ids ws)) (Refused no7))
+    on_checked Err (check_call k tolerance budget ids ws)
+    (pick (leb (at + length (list_made k tolerance budget ids ws)) room) (Ok (record_made k tolerance budget ids ws)) (Err no7))
 
 -- a list was made; only then are the lent buffers filled
-abbrev pub is_made : Expanded → Bool
-is_made (Made r) = true
-is_made (Refused why) = false
+abbrev pub is_made : Result Record Refusal → Bool
+is_made (Ok r) = true
+is_made (Err why) = false
 
 -- the rules, the oldest first, as the three buffers have them
 unfoldable pub lens_made : ℕ → ℕ → ℕ → List ℕ → List ℕ → List ℕ

@@ -1,7 +1,7 @@
 -- The expansion from kept rules (document 02, Req 03 to 05): of an old list the r oldest rules are kept, and the steps of document 01 go on from the shares
 -- that these give, for new weights; of all r that end within tolerance the one with the lowest churn is answered, the largest if equal. What the call checks,
 -- in this order, and what it answers and writes.
-use Rattle.std.specs.Prelude.{ℕ, suc, ◌-◌, min, max, Bool, true, false, List, [], ◌∷◌, leb, eqb, length}
+use Rattle.std.specs.Prelude.{ℕ, suc, ◌-◌, min, max, Bool, true, false, List, [], ◌∷◌, leb, eqb, length, Err, Ok, Result}
 use Rattle.numerals.specs.Pick.{pick, both}
 use Rattle.numerals.specs.Limits.{most_bits, unit}
 use Rattle.numerals.specs.Refusals.{no2, no7, no13}
@@ -13,10 +13,8 @@ use Rattle.expansion.specs.Answer.{and_then, on_checked, or_else, in_limits, che
 use Rattle.expansion.specs.Known.{targets_known}
 use Rattle.expansion.specs.OldList.{rules_from, numbers_of, check_list}
 use Rattle.expansion.specs.declared.rule.Rule.{Rule}
-use Rattle.expansion.specs.declared.call.Checked.{Checked}
 use Rattle.expansion.specs.declared.resuming.Kept.{Kept}
-use Rattle.expansion.specs.declared.resuming.Resumed.{Resumed}
-use Rattle.expansion.specs.declared.resuming.Resumed.TheVariants.{Made, Refused}
+use Rattle.numerals.specs.declared.refusal.Refusal.{Refusal}
 
 -- the length of the longest of these suffixes, which is the smallest: it covers 2^(k - longest)
 unfoldable pub longest : List Rule → ℕ
@@ -60,7 +58,7 @@ unfoldable pub list_resumed : Targets → ℕ → List Rule → List Rule
 list_resumed T tolerance old = list_kept T tolerance old (kept_of T tolerance old)
 
 -- k, tolerance, the old list, then the ids and weights
-unfoldable pub check_old : ℕ → ℕ → List ℕ → List ℕ → List ℕ → Checked
+unfoldable pub check_old : ℕ → ℕ → List ℕ → List ℕ → List ℕ → Result (Unit {0}) Refusal
 check_old k tolerance old ids ws =
     and_then (or_else (in_limits 1 most_bits k) no2)
     (and_then (or_else (leb tolerance unit) no2)
@@ -81,18 +79,18 @@ record_resumed T tolerance old =
     }
 
 -- after the checks: 13 where no r ends within; 7 last, where the lent buffer, of `room` places, is too short
-unfoldable pub resume_of : Targets → ℕ → List Rule → ℕ → Resumed
+unfoldable pub resume_of : Targets → ℕ → List Rule → ℕ → Result Kept Refusal
 resume_of T tolerance old room =
-    pick (eqb (kept_of T tolerance old) 0) (Refused no13)
+    pick (eqb (kept_of T tolerance old) 0) (Err no13)
     (pick (leb (length (numbers_of (list_resumed T tolerance old))) room)
-    (Made (record_resumed T tolerance old))
-    (Refused no7))
+    (Ok (record_resumed T tolerance old))
+    (Err no7))
 
-unfoldable pub resume_answer : ℕ → ℕ → List ℕ → List ℕ → List ℕ → ℕ → Resumed
+unfoldable pub resume_answer : ℕ → ℕ → List ℕ → List ℕ → List ℕ → ℕ → Result Kept Refusal
 resume_answer k tolerance ids ws old room =
-    on_checked Refused (check_old k tolerance old ids ws) (resume_of (targets_known k (rules_from old) ids ws) tolerance (rules_from old) room)
+    on_checked Err (check_old k tolerance old ids ws) (resume_of (targets_known k (rules_from old) ids ws) tolerance (rules_from old) room)
 
 -- a list was made; only then is the lent buffer filled
-abbrev pub is_resumed : Resumed → Bool
-is_resumed (Made r) = true
-is_resumed (Refused why) = false
+abbrev pub is_resumed : Result Kept Refusal → Bool
+is_resumed (Ok r) = true
+is_resumed (Err why) = false

@@ -10,90 +10,66 @@ use crate::list::RuleList;
 use crate::rule::Record;
 use numerals::{MOST_BACKENDS, MOST_BITS, MOST_ID, MOST_RULES, Refusal, UNIT};
 
-// What the expansion answers: the record of the list, or why it is refused.
-#[derive(Drop)]
-pub enum Expanded {
-    Made(Record),
-    Refused(Refusal),
-}
-
-// What a check of the numbers handed in finds.
-#[derive(Drop)]
-pub enum Checked {
-    Sound,
-    Refused(Refusal),
-}
-
 // The backends: 1 to MOST_BACKENDS of them, an id for each weight; ids ascend, and each weight is at most the unit, which they
 // sum to.
-pub fn check_weights(ids: &[usize], weights: &[u64]) -> Checked
+#[tactic(auto, unfolding(crate::specs::Answer::check_weights, numerals::specs::Limits::unit))]
+pub fn check_weights(ids: &[usize], weights: &[u64]) -> Result<(), Refusal>
     ensures { result ≡ check_weights ids.now weights.now }
 {
     let n = weights.len();
     if n == 0 {
-        return Checked::Refused(Refusal::BadField);
+        return Err(Refusal::BadField);
     }
     if MOST_BACKENDS < n {
-        return Checked::Refused(Refusal::TooMany);
+        return Err(Refusal::TooMany);
     }
     if ids.len() != n {
-        return Checked::Refused(Refusal::Malformed);
+        return Err(Refusal::Malformed);
     }
     let mut sum: u64 = 0;
     let mut before = 0;
-    let mut b = 0;
-    while b < n {
+    for (b, w) in weights.iter().enumerate() {
         let id = ids[b];
-        let w = weights[b];
-        if !is_backend(before, id, w) {
-            return Checked::Refused(Refusal::BadField);
+        if !is_backend(before, id, *w) {
+            return Err(Refusal::BadField);
         }
         before = id;
-        sum += w;
-        b += 1;
+        sum += *w;
     }
     if sum == UNIT {
-        Checked::Sound
+        Ok(())
     } else {
-        Checked::Refused(Refusal::Unbalanced)
+        Err(Refusal::Unbalanced)
     }
 }
 
 // Whether a backend may stand behind one with the id `before`.
+#[tactic(auto, unfolding(crate::specs::Answer::in_limits, numerals::specs::Limits::unit))]
 fn is_backend(before: usize, id: usize, weight: u64) -> bool
     ensures { result ≡ both (in_limits (suc before) most_id id) (leb weight unit) }
 {
-    if id <= before {
-        return false;
-    }
-    if MOST_ID < id {
-        return false;
-    }
-    weight <= UNIT
-}
-
-// Whether least ≤ x ≤ most.
-pub fn in_limits(least: usize, most: usize, x: usize) -> bool
-    ensures { result ≡ in_limits least most x }
-{
-    if x < least {
-        return false;
-    }
-    x <= most
+    before < id && id <= MOST_ID && weight <= UNIT
 }
 
 // k, tolerance and budget, then the backends.
-fn check_call(k: usize, tolerance: u64, budget: usize, ids: &[usize], weights: &[u64]) -> Checked
+#[tactic(auto, unfolding(crate::specs::Answer::check_call, crate::specs::Answer::in_limits, numerals::specs::Limits::unit))]
+fn check_call(
+    k: usize,
+    tolerance: u64,
+    budget: usize,
+    ids: &[usize],
+    weights: &[u64],
+) -> Result<(), Refusal>
     ensures { result ≡ check_call k tolerance budget ids.now weights.now }
 {
-    if !in_limits(1, MOST_BITS, k) {
-        return Checked::Refused(Refusal::BadField);
+    if !(1..=MOST_BITS).contains(&k) {
+        return Err(Refusal::BadField);
     }
     if UNIT < tolerance {
-        return Checked::Refused(Refusal::BadField);
+        return Err(Refusal::BadField);
     }
-    if !in_limits(1, MOST_RULES, budget) {
-        return Checked::Refused(Refusal::BadField);
+    if !(1..=MOST_RULES).contains(&budget) {
+        return Err(Refusal::BadField);
     }
     check_weights(ids, weights)
 }
@@ -115,28 +91,20 @@ fn copy_out(
     ensures stairs { stairs.new ≡ sets stairs.old at (take list.count list.stairs) }
 {
     let n = list.count;
-    let mut i = 0;
-    while i < n {
+    for i in 0..n {
         let rule = list.rules[i];
         lens[at + i] = rule.len;
         values[at + i] = rule.value;
         backends[at + i] = rule.backend;
-        stairs[at + i] = list.stairs[i];
-        i += 1;
     }
-}
-
-fn smaller(a: usize, b: usize) -> usize
-    ensures { result ≡ min a b }
-{
-    if a < b { a } else { b }
+    stairs[at..at + n].copy_from_slice(&list.stairs[..n]);
 }
 
 // Whether a buffer of `len` places has room for n more from a position on.
 fn has_room(len: usize, at: usize, n: usize) -> bool
     ensures { result ≡ leb (at + n) len }
 {
-    if len < at { false } else { n <= len - at }
+    at <= len && n <= len - at
 }
 
 // The list of one service: its rules, the oldest first, by length, value and id of the backend, and the
@@ -152,7 +120,7 @@ pub fn expand(
     values: &mut [usize],
     backends: &mut [usize],
     stairs: &mut [u64],
-) -> Expanded
+) -> Result<Record, Refusal>
     ensures answer { result ≡ answer k tolerance budget ids.now weights.now at
         (min (min (length lens.old) (length values.old)) (min (length backends.old) (length stairs.old))) }
     ensures lens { lens.new ≡ filled (is_made result) lens.old at
@@ -164,19 +132,16 @@ pub fn expand(
     ensures stairs { stairs.new ≡ filled (is_made result) stairs.old at
         (stairs_made k tolerance budget ids.now weights.now) }
 {
-    let checked = check_call(k, tolerance, budget, ids, weights);
-    if let Checked::Refused(why) = checked {
-        return Expanded::Refused(why);
-    }
+    check_call(k, tolerance, budget, ids, weights)?;
     let made = crate::run::make_list(k, tolerance, budget, ids, weights);
     let list = made.list;
     let ended = made.ended;
     let n = list.count;
-    let rules = smaller(lens.len(), values.len());
-    let ends = smaller(backends.len(), stairs.len());
-    if !has_room(smaller(rules, ends), at, n) {
-        return Expanded::Refused(Refusal::ShortLoan);
+    let rules = lens.len().min(values.len());
+    let ends = backends.len().min(stairs.len());
+    if !has_room(rules.min(ends), at, n) {
+        return Err(Refusal::ShortLoan);
     }
     copy_out(list, at, lens, values, backends, stairs);
-    Expanded::Made(Record { ended, rules: n })
+    Ok(Record { ended, rules: n })
 }

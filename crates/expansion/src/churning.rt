@@ -1,6 +1,6 @@
 // Churn: who holds each suffix before and after, in the order of tree places, and how many have another backend. The loop counts
-// those that have the same, which LLVM does with fewer instructions. It ends by `!=`, and `same` has 16 bits: with `<` against a
-// shifted number, or with a wider count, LLVM doesn't take eight places at a time.
+// those that have the same, which LLVM does with fewer instructions. Measured: `same` has 16 bits, since with a wider count LLVM
+// doesn't take eight places at a time; nor does it in a `while` that ends by `<` against a shifted number.
 ghost use Rattle.std.specs.Prelude.{◌≡◌, not, ◌^◌, ◌≤◌, eqb, length, get_or};
 ghost use Rattle.numerals.specs.Limits.{most_bits, most_suffixes};
 ghost use Rattle.numerals.specs.Sums.{count_to};
@@ -12,12 +12,10 @@ pub fn count_unlike(before: &[u16], after: &[u16], k: usize) -> usize
 {
     let all: usize = 1 << k;
     let mut same: u16 = 0;
-    let mut p = 0;
-    while p != all {
+    for p in 0..all {
         if before[p] == after[p] {
             same += 1;
         }
-        p += 1;
     }
     all - same as usize
 }

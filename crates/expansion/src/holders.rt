@@ -14,43 +14,31 @@ use numerals::MOST_BITS;
 fn lowest_whole(holder: &[u16], from: usize, nodes: usize, size: usize, giver: u16) -> usize
     requires size_nonzero { (0 < size) × (nodes * size ≤ length holder.now) }
     requires size_value { 2 < size → size % 4 ≡ 0 }
+    requires from_le_nodes { from ≤ nodes }
     ensures { result ≡ held.lowest_held holder.now size giver from nodes }
 {
-    let fours = size - size % 4;
-    let mut node = from;
-    'nodes: while node < nodes {
+    let mut lowest = nodes;
+    'nodes: for node in from..nodes {
         let at = node * size;
-        if holder[at + size - 1] != giver {
-            node += 1;
+        if holder[at + size - 1] != giver || holder[at] != giver {
             continue 'nodes;
         }
-        if holder[at] != giver {
-            node += 1;
-            continue 'nodes;
-        }
-        let mut left = fours;
+        let mut left = size - size % 4;
         while 0 < left {
-            if holder[at + left - 1] != giver {
-                node += 1;
-                continue 'nodes;
-            }
-            if holder[at + left - 2] != giver {
-                node += 1;
-                continue 'nodes;
-            }
-            if holder[at + left - 3] != giver {
-                node += 1;
-                continue 'nodes;
-            }
-            if holder[at + left - 4] != giver {
-                node += 1;
+            let four = at + left - 4;
+            if holder[four + 3] != giver
+                || holder[four + 2] != giver
+                || holder[four + 1] != giver
+                || holder[four] != giver
+            {
                 continue 'nodes;
             }
             left -= 4;
         }
+        lowest = node;
         break 'nodes;
     }
-    node
+    lowest
 }
 
 // The places of a node go to a backend.
@@ -58,10 +46,8 @@ pub fn give(holder: &mut [u16], at: usize, size: usize, receiver: u16)
     requires { at + size ≤ length holder.old }
     ensures { held.Given at size receiver holder.old holder.new }
 {
-    let mut i = 0;
-    while i < size {
-        holder[at + i] = receiver;
-        i += 1;
+    for place in &mut holder[at..at + size] {
+        *place = receiver;
     }
 }
 
@@ -72,7 +58,7 @@ fn note_lows(low: &mut [u16], giver: usize, receiver: usize, at: usize, end: usi
 {
     let had = low[receiver];
     low[giver] = end as u16;
-    low[receiver] = if at < had as usize { at as u16 } else { had };
+    low[receiver] = had.min(at as u16);
 }
 
 // The suffix of k bits that has a tree place, read from the listing of all twelve-bit ones.

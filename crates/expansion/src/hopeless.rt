@@ -13,10 +13,7 @@ fn is_beyond(weight: u64, share: u64, k: usize, tolerance: u64) -> bool
     let has = share * UNIT;
     let wants = weight * (1 << k);
     let slack = tolerance * (1 << k);
-    if wants + slack < has {
-        return true;
-    }
-    has + slack < wants
+    slack < has.abs_diff(wants)
 }
 
 // Whether more backends are beyond the tolerance than so many moves can bring within.
@@ -28,12 +25,10 @@ pub fn is_hopeless(weights: &[u64], shares: &[u64], k: usize, tolerance: u64, mo
         (beyond_to k tolerance weights.now shares.now (length weights.now)) }
 {
     let mut count = 0;
-    let mut b = 0;
-    while b < weights.len() {
-        if is_beyond(weights[b], shares[b], k, tolerance) {
+    for (b, w) in weights.iter().enumerate() {
+        if is_beyond(*w, shares[b], k, tolerance) {
             count += 1;
         }
-        b += 1;
     }
     2 * moves < count
 }

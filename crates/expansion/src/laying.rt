@@ -82,16 +82,11 @@ fn longest_of(list: RuleList) -> usize
     requires { list.count ≤ most_rules }
     ensures { result ≡ longest (newest_first list.rules list.count) }
 {
-    let mut most = 0;
-    let mut i = 0;
-    while i < list.count {
-        let rule = list.rules[i];
-        if most < rule.len {
-            most = rule.len;
-        }
-        i += 1;
-    }
-    most
+    list.rules[..list.count]
+        .iter()
+        .map(|rule| rule.len)
+        .max()
+        .unwrap_or(0)
 }
 
 // No term may exceed the smallest kept suffix or half the tree.

@@ -56,10 +56,8 @@ pub fn opened(weights: &[u64], shares: &[u64], k: usize) -> Ledger
     let mut ledger = Ledger {
         at: [entry(0, 0, 0); MOST_KNOWN],
     };
-    let mut b = 0;
-    while b < weights.len() {
-        ledger.at[b] = entry(weights[b], shares[b], k);
-        b += 1;
+    for (b, w) in weights.iter().enumerate() {
+        ledger.at[b] = entry(*w, shares[b], k);
     }
     ledger
 }
@@ -88,17 +86,14 @@ pub fn survey_of(ledger: Ledger, n: usize) -> Survey
     };
     let mut take = give;
     let mut imbalance: u64 = 0;
-    let mut b = 0;
-    while b < n {
-        let backend = ledger.at[b];
-        let e = backend.error;
+    for b in 0..n {
+        let e = ledger.at[b].error;
         if 0 < e {
             imbalance += e as u64;
             give = raised(give, b, e);
         } else {
             take = raised(take, b, -e);
         }
-        b += 1;
     }
     Survey {
         give,
@@ -119,7 +114,7 @@ fn changed(b: Backend, lost: u64, gained: u64) -> Backend
     }
 }
 
-// In a lent ledger, `count` suffixes go from the giver to the receiver. This and `moved` are walked by hand: both stay thin.
+// In a lent ledger, `count` suffixes go from the giver to the receiver.
 fn shift(ledger: &mut [Backend], giver: usize, receiver: usize, count: u64)
     requires { kept.Movable ledger.old giver receiver count }
     ensures { ledger.new ≡ kept.moved_of ledger.old giver receiver count }
@@ -130,7 +125,7 @@ fn shift(ledger: &mut [Backend], giver: usize, receiver: usize, count: u64)
     ledger[receiver] = changed(to, 0, count);
 }
 
-// The ledger after `count` suffixes went from the giver to the receiver. Whoever calls this needs no walk.
+// The ledger after `count` suffixes went from the giver to the receiver.
 pub fn moved(ledger: Ledger, giver: usize, receiver: usize, count: u64) -> Ledger
     requires { kept.Movable ledger.at giver receiver count }
     ensures { result.at ≡ kept.moved_of ledger.at giver receiver count }

@@ -15,7 +15,7 @@ mod rule;
 mod run;
 mod term;
 
-pub use call::{Checked, Expanded, check_weights, expand};
+pub use call::{check_weights, expand};
 pub use old_list::{MOST_NUMBERS, PER_RULE};
-pub use resuming::{Kept, Resumed, resume};
+pub use resuming::{Kept, resume};
 pub use rule::{Ended, Record, Rule};

@@ -8,7 +8,6 @@ ghost use Rattle.expansion.specs.Resume.{check_old};
 ghost use Rattle.expansion.specs.Inner.Lists.{newest_first};
 ghost use Rattle.expansion.specs.Inner.OldList.{rule_at};
 
-use crate::call::Checked;
 use crate::list::RuleList;
 use crate::rule::Rule;
 use numerals::{MOST_BITS, MOST_ID, MOST_RULES, Refusal, UNIT};
@@ -36,67 +35,62 @@ fn is_proper(k: usize, rule: Rule) -> bool
     requires { k ≤ most_bits }
     ensures { result ≡ is_proper k rule }
 {
-    if k < rule.len {
-        return false;
-    }
-    let all: usize = 1 << rule.len;
-    if all <= rule.value {
-        return false;
-    }
-    crate::call::in_limits(1, MOST_ID, rule.backend)
+    rule.len <= k && rule.value < 1 << rule.len && (1..=MOST_ID).contains(&rule.backend)
 }
 
 // Rule by rule, then the end: numbers left over are a last rule of too few.
-fn check_rules(k: usize, old: &[usize]) -> Checked
+fn check_rules(k: usize, old: &[usize]) -> Result<(), Refusal>
     requires { k ≤ most_bits }
     ensures { result ≡ check_rules k 0 k old.now }
 {
     let mut last = k;
-    let mut i = 0;
-    while i < old.len() / PER_RULE {
+    for i in 0..old.len() / PER_RULE {
         let rule = rule_at(old, i);
         if !is_proper(k, rule) {
-            return Checked::Refused(Refusal::BadField);
+            return Err(Refusal::BadField);
         }
         if MOST_RULES <= i {
-            return Checked::Refused(Refusal::TooMany);
+            return Err(Refusal::TooMany);
         }
         if last == 0 {
-            return Checked::Refused(Refusal::Order);
+            return Err(Refusal::Order);
         }
         if last < rule.len {
-            return Checked::Refused(Refusal::Order);
+            return Err(Refusal::Order);
         }
         last = rule.len;
-        i += 1;
     }
     if old.len() % PER_RULE != 0 {
-        return Checked::Refused(Refusal::Malformed);
+        return Err(Refusal::Malformed);
     }
     if last == 0 {
-        Checked::Sound
+        Ok(())
     } else {
-        Checked::Refused(Refusal::Order)
+        Err(Refusal::Order)
     }
 }
 
 // k, tolerance, the old list, then the ids and weights.
-pub fn check_old(k: usize, tolerance: u64, old: &[usize], ids: &[usize], weights: &[u64]) -> Checked
+#[tactic(auto, unfolding(crate::specs::Resume::check_old, crate::specs::OldList::check_list, crate::specs::Answer::in_limits, numerals::specs::Limits::unit))]
+pub fn check_old(
+    k: usize,
+    tolerance: u64,
+    old: &[usize],
+    ids: &[usize],
+    weights: &[u64],
+) -> Result<(), Refusal>
     ensures { result ≡ check_old k tolerance old.now ids.now weights.now }
 {
-    if !crate::call::in_limits(1, MOST_BITS, k) {
-        return Checked::Refused(Refusal::BadField);
+    if !(1..=MOST_BITS).contains(&k) {
+        return Err(Refusal::BadField);
     }
     if UNIT < tolerance {
-        return Checked::Refused(Refusal::BadField);
+        return Err(Refusal::BadField);
     }
     if old.len() == 0 {
-        return Checked::Refused(Refusal::BadField);
+        return Err(Refusal::BadField);
     }
-    let ruled = check_rules(k, old);
-    if let Checked::Refused(why) = ruled {
-        return Checked::Refused(why);
-    }
+    check_rules(k, old)?;
     crate::call::check_weights(ids, weights)
 }
 
@@ -106,13 +100,11 @@ pub fn store_rules(list: RuleList, out: &mut [usize])
     ensures { out.new ≡ sets out.old 0 (numbers_of (newest_first list.rules list.count)) }
 {
     let n = list.count;
-    let mut i = 0;
-    while i < n {
+    for i in 0..n {
         let rule = list.rules[n - 1 - i];
         let at = PER_RULE * i;
         out[at] = rule.len;
         out[at + 1] = rule.value;
         out[at + 2] = rule.backend;
-        i += 1;
     }
 }

@@ -1,5 +1,5 @@
 // The expansion from kept rules: of an old list the oldest rules are kept, and the steps go on for new weights.
-ghost use Rattle.std.specs.Prelude.{List, ◌≡◌, ℕ, ◌≤◌, length};
+ghost use Rattle.std.specs.Prelude.{List, ◌≡◌, ℕ, ◌≤◌, length, Ok};
 ghost use Rattle.numerals.specs.Buffer.{filled};
 ghost use Rattle.numerals.specs.Limits.{most_bits, most_suffixes};
 ghost use Rattle.numerals.specs.Suffix.{Places};
@@ -14,12 +14,10 @@ ghost use Rattle.expansion.specs.Inner.OldList.{Proper};
 ghost use Rattle.expansion.specs.Inner.Known.{Ascending};
 ghost use Rattle.expansion.specs.Inner.Run.{labelled_by, Valid, Made};
 ghost use Rattle.expansion.specs.Inner.Laying.{Held, LaidTo, Starts};
-ghost use Rattle.expansion.specs.Inner.Resume.{Found, Tried, Judged};
-ghost use Rattle.expansion.specs.declared.call.Checked.TheVariants as checked;
+ghost use Rattle.expansion.specs.Inner.Resume.{Found, Tried, is_lower};
 ghost use Rattle.expansion.specs.declared.ledger.Ledger as ledger;
 ghost use Rattle.expansion.specs.declared.rule.Rule as rule;
 
-use crate::call::Checked;
 use crate::list::RuleList;
 use crate::old_list::PER_RULE;
 use crate::rule::Ended;
@@ -35,13 +33,6 @@ pub struct Kept {
     pub churn: usize,
 }
 
-// What the call answers.
-#[derive(Drop)]
-pub enum Resumed {
-    Made(Kept),
-    Refused(Refusal),
-}
-
 // The rules of an old list, the oldest first, and for each but the `*` the backend that had its suffix before.
 #[derive(Drop)]
 pub struct Laid {
@@ -49,8 +40,7 @@ pub struct Laid {
     pub had: [usize; MOST_RULES],
 }
 
-// A number of kept rules that was tried, the list that it came to and its churn, where that ended within tolerance; 0 where it
-// didn't.
+// A number of kept rules that was tried and ended within tolerance: the list that it came to and its churn.
 #[derive(Drop)]
 pub struct Attempt {
     pub kept: usize,
@@ -90,17 +80,6 @@ fn run_kept(
     )
 }
 
-// No attempt that ended within; its list means nothing.
-fn none_of(list: RuleList) -> Attempt
-    ensures { result ≡ record { kept = 0; churn = 0; list = list } }
-{
-    Attempt {
-        kept: 0,
-        churn: 0,
-        list,
-    }
-}
-
 // One number of kept rules. Where too many backends are beyond the tolerance, the list can't end within and isn't run. The
 // holders go by value: the next try starts from them again.
 fn try_kept(
@@ -114,7 +93,7 @@ fn try_kept(
     k: usize,
     tolerance: u64,
     budget: usize,
-) -> Attempt
+) -> Option<Attempt>
     requires starts { Starts k tolerance ids.now weights.now list holder shares.now budget × Places most_bits places.now }
     requires whole_len { length whole.now ≡ most_suffixes }
     ensures { (old : List rule.Rule) (held : List ℕ) → Held k ids.now old whole.now held
@@ -123,7 +102,7 @@ fn try_kept(
 {
     let kept = list.count;
     if crate::hopeless::is_hopeless(weights, shares, k, tolerance, budget - kept) {
-        return none_of(list);
+        return None;
     }
     let mut work = holder;
     let run = run_kept(
@@ -134,28 +113,21 @@ fn try_kept(
         Ended::Within => {
             let churn = crate::churning::count_unlike(whole, &work, k);
             let list = run.list;
-            Attempt { kept, churn, list }
+            Some(Attempt { kept, churn, list })
         }
-        Ended::NoGain => none_of(list),
-        Ended::Budget => none_of(list),
+        Ended::NoGain | Ended::Budget => None,
     }
 }
 
-// Whether an attempt is better than the best of those that keep more rules: it ended within, and none of these did or its churn
-// is lower.
-fn is_better(tried: usize, churn: usize, best: usize, lowest: usize) -> bool
-    ensures { Judged tried churn best lowest result }
+// Whether an attempt with such a churn is better than the best of those that keep more rules: there is none of these or its
+// churn is higher.
+fn is_better(churn: usize, best: &Option<Attempt>) -> bool
+    ensures { result ≡ is_lower churn best.now }
 {
-    if tried == 0 {
-        return false;
+    match best {
+        Some(best) => churn < best.churn,
+        None => true,
     }
-    if best == 0 {
-        return true;
-    }
-    if lowest <= churn {
-        return false;
-    }
-    true
 }
 
 // All rules of an old list laid on top of its `*`.
@@ -177,12 +149,10 @@ fn lay_all(
     let star = crate::old_list::rule_at(old, n - 1);
     let mut list = crate::list::of_one(star, 0);
     let mut had = [0usize; MOST_RULES];
-    let mut i = 1;
-    while i < n {
+    for i in 1..n {
         let rule = crate::old_list::rule_at(old, n - 1 - i);
         had[i] = crate::laying::lay(holder, shares, places, k, ids, rule);
         list.rules[i] = rule;
-        i += 1;
     }
     list.count = n;
     Laid { list, had }
@@ -190,7 +160,13 @@ fn lay_all(
 
 // Of the numbers of kept rules whose lists end within tolerance, the one with the lowest churn, the largest if equal. All rules
 // are laid, and the newest is taken back before each further try. Nothing is lower than a churn of 0.
-fn search(k: usize, tolerance: u64, old: &[usize], ids: &[usize], weights: &[u64]) -> Attempt
+fn search(
+    k: usize,
+    tolerance: u64,
+    old: &[usize],
+    ids: &[usize],
+    weights: &[u64],
+) -> Option<Attempt>
     requires { Valid k tolerance ids.now weights.now × (Ascending ids.now × Proper k ids.now (rules_from old.now)) }
     ensures { Found (labelled_by k ids.now weights.now) tolerance (rules_from old.now) result }
 {
@@ -205,18 +181,18 @@ fn search(k: usize, tolerance: u64, old: &[usize], ids: &[usize], weights: &[u64
     let mut list = laid.list;
     let had = laid.had;
     let whole = holder;
-    let mut best = none_of(list);
-    loop {
+    let mut best = None;
+    for left in (0..n).rev() {
         let tried = try_kept(
             &whole, holder, &shares, &places, list, ids, weights, k, tolerance, n,
         );
-        if is_better(tried.kept, tried.churn, best.kept, best.churn) {
-            best = tried;
-        }
-        let left = list.count - 1;
-        if 0 < best.kept {
-            if best.churn == 0 {
-                return best;
+        if let Some(tried) = tried {
+            let churn = tried.churn;
+            if is_better(churn, &best) {
+                best = Some(tried);
+                if churn == 0 {
+                    return best;
+                }
             }
         }
         if left == 0 {
@@ -226,11 +202,18 @@ fn search(k: usize, tolerance: u64, old: &[usize], ids: &[usize], weights: &[u64
         crate::laying::take_back(&mut holder, &mut shares, &places, k, rule, had[left]);
         list.count = left;
     }
+    best
 }
 
 // The same for an old list and new weights: first the backends that are known, then the search among them.
-fn find_best(k: usize, tolerance: u64, old: &[usize], ids: &[usize], weights: &[u64]) -> Attempt
-    requires { check_old k tolerance old.now ids.now weights.now ≡ checked.Sound }
+fn find_best(
+    k: usize,
+    tolerance: u64,
+    old: &[usize],
+    ids: &[usize],
+    weights: &[u64],
+) -> Option<Attempt>
+    requires { check_old k tolerance old.now ids.now weights.now ≡ Ok tt }
     ensures { let R = rules_from old.now in Found (targets_known k R ids.now weights.now) tolerance R result }
 {
     let mut known = [0usize; MOST_KNOWN];
@@ -250,27 +233,21 @@ pub fn resume(
     ids: &[usize],
     weights: &[u64],
     rules: &mut [usize],
-) -> Resumed
+) -> Result<Kept, Refusal>
     ensures answer { result ≡ resume_answer k tolerance ids.now weights.now old.now (length rules.old) }
     ensures rules { rules.new ≡ filled (is_resumed result) rules.old 0
         (numbers_resumed k tolerance ids.now weights.now old.now) }
 {
-    let checked = crate::old_list::check_old(k, tolerance, old, ids, weights);
-    if let Checked::Refused(why) = checked {
-        return Resumed::Refused(why);
-    }
-    let best = find_best(k, tolerance, old, ids, weights);
+    crate::old_list::check_old(k, tolerance, old, ids, weights)?;
+    let best = find_best(k, tolerance, old, ids, weights).ok_or(Refusal::Stuck)?;
     let kept = best.kept;
-    if kept == 0 {
-        return Resumed::Refused(Refusal::Stuck);
-    }
     let list = best.list;
     let n = list.count;
     if rules.len() < PER_RULE * n {
-        return Resumed::Refused(Refusal::ShortLoan);
+        return Err(Refusal::ShortLoan);
     }
     crate::old_list::store_rules(list, rules);
-    Resumed::Made(Kept {
+    Ok(Kept {
         kept,
         rules: n,
         churn: best.churn,

@@ -47,12 +47,10 @@ fn heaviest(weights: &[u64]) -> usize
     ensures { result ≡ argmax (λ b. get_or weights.now b 0) (length weights.now) }
 {
     let mut best = 0;
-    let mut b = 1;
-    while b < weights.len() {
+    for b in 1..weights.len() {
         if weights[best] < weights[b] {
             best = b;
         }
-        b += 1;
     }
     best
 }
@@ -66,10 +64,8 @@ fn decide(give: Extreme, take: Extreme, k: usize, tolerance: u64, cap: usize) ->
     let slack = (tolerance * (1 << k)) as i64;
     let o = give.size;
     let u = take.size;
-    if o <= slack {
-        if u <= slack {
-            return Next::Stop(Ended::Within);
-        }
+    if o <= slack && u <= slack {
+        return Next::Stop(Ended::Within);
     }
     let term = crate::term::best_term(u, o, cap);
     if term.reduction <= 0 {
@@ -183,6 +179,7 @@ pub fn go_on(
         × (SharesKept F.targets (list_of F budget) list.count state.ledger result.kept
         × Holds F.targets (list_of F budget) holder.new low.new) }
 {
+    // no index is counted: the state says when the list ends
     loop {
         let n = list.count;
         let wanted = state.next;

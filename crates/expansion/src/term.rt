@@ -1,5 +1,5 @@
 // The term of a move: how many suffixes go from giver to receiver, and what that gains.
-ghost use Rattle.std.specs.Prelude.{◌≡◌, true, ℕ, ◌≤◌, min, pos};
+ghost use Rattle.std.specs.Prelude.{◌≡◌, true, ℕ, ◌≤◌, pos};
 ghost use Rattle.numerals.specs.Limits.{most_bits};
 ghost use Rattle.expansion.specs.Steps as steps;
 ghost use Rattle.expansion.specs.Inner.Ledger as kept;
@@ -14,21 +14,14 @@ pub struct Term {
     pub reduction: i64,
 }
 
-fn smaller(a: i64, b: i64) -> i64
-    requires { (a ≡ pos (kept.over a)) × (b ≡ pos (kept.over b)) }
-    ensures { result ≡ pos (min (kept.over a) (kept.over b)) }
-{
-    if a < b { a } else { b }
-}
-
 // The reduction of the term t for the largest shortfall u and the largest excess o, or 0 where it is below.
 fn reduction(u: i64, o: i64, t: i64) -> i64
     requires u_value { (u ≡ pos (kept.over u)) × ((o ≡ pos (kept.over o)) × (t ≡ pos (kept.over t))) }
     requires small { kept.Small t }
     ensures { result ≡ pos (steps.reduction (kept.over u) (kept.over o) (kept.over t)) }
 {
-    let twice = 2 * (smaller(u, t) + smaller(o, t) - t);
-    if twice < 0 { 0 } else { twice }
+    let twice = 2 * (u.min(t) + o.min(t) - t);
+    twice.max(0)
 }
 
 // Whether one of the errors is at least t. No smaller term then gains more than t.
@@ -37,10 +30,7 @@ fn is_enough(u: i64, o: i64, t: i64) -> bool
     ensures { result ≡ true → (s : ℕ) → s ≤ kept.over t
         → steps.reduction (kept.over u) (kept.over o) s ≤ steps.reduction (kept.over u) (kept.over o) (kept.over t) }
 {
-    if t <= u {
-        return true;
-    }
-    t <= o
+    t <= u || t <= o
 }
 
 // The greatest reduction of the terms of 1 to 2^cap suffixes, the larger term if equal.
@@ -50,16 +40,15 @@ pub fn best_term(u: i64, o: i64, cap: usize) -> Term
 {
     let mut index = cap;
     let mut best: i64 = 0;
-    let mut left = cap + 1;
-    while 0 < left {
-        left -= 1;
-        let t = (UNIT * (1 << left)) as i64;
+    // not 0..=cap: the edit no_first_gain changes the 1
+    for i in (0..cap + 1).rev() {
+        let t = (UNIT * (1 << i)) as i64;
         let r = reduction(u, o, t);
         // a smaller term has to gain more
         let least = best + 1;
         if least <= r {
             best = r;
-            index = left;
+            index = i;
         }
         if is_enough(u, o, t) {
             break;

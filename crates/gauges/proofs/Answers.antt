@@ -1,4 +1,5 @@
 -- What the count of a share answers decides the record, and the record the reading; both are exact.
+use Rattle.std.specs.Prelude.{Err, Ok, Result}
 use Prim.Native.Nat.{ℕ, ◌*◌, ◌≤◌, ◌<◌}
 use mathlib.Core.Path.{◌≡◌, refl, sym, ap, ◌∙◌, subst}
 use mathlib.Core.Bool.{Bool, true, false}
@@ -21,20 +22,16 @@ use Rattle.sheets.specs.Calls.{refused_at, has_service}
 use Rattle.sheets.specs.Shares.{share_in, share_answer}
 use Rattle.sheets.specs.declared.answer.Refused.{Refused as Why}
 use Rattle.sheets.specs.declared.answer.ShareRecord.{ShareRecord}
-use Rattle.sheets.specs.declared.answer.ShareRead.TheVariants as count
 use Rattle.sheets.proofs.NeverEight.{never-eight}
 use Rattle.sheets.proofs.OrderedLines.{read-proper}
 use Rattle.sheets.proofs.Readings.{got_same}
+use Rattle.numerals.proofs.Exits.{same_ok, same_err, not_both}
 use Rattle.gauges.specs.Gauges.{held, gauges_of, in_range, gauges_in, gauges_answer, reading_of, reading_in, reading_answer, ExactGauges, ExactReading}
 use Rattle.gauges.specs.Inner.Absence.{in_place_of_8}
 use Rattle.gauges.specs.declared.answer.Gauge.{Gauge}
 use Rattle.gauges.specs.declared.answer.Gauge.TheVariants as which
 use Rattle.gauges.specs.declared.answer.Gauges.{Gauges}
 use Rattle.gauges.specs.declared.answer.Reading.{Reading}
-use Rattle.gauges.specs.declared.answer.ReadingAnswer.{ReadingAnswer}
-use Rattle.gauges.specs.declared.answer.ReadingAnswer.TheVariants as reading
-use Rattle.gauges.specs.declared.answer.GaugesAnswer.{GaugesAnswer}
-use Rattle.gauges.specs.declared.answer.GaugesAnswer.TheVariants.{Made, Refused}
 use Rattle.gauges.proofs.Fractions.{exactly}
 
 -- the numbers beside the text, by their limits
@@ -54,31 +51,6 @@ module _ (volume b : ℕ) where
   both-within : volume ≤ most_volume → in_limits 1 most_id b ≡ true → in_range volume b ≡ true
   unfolding in_range
   both-within h i = rw (le-leb volume most_volume h, i)
-
--- answers of one case have one value, and no answer is of two cases
-count_same : {m n : ShareRecord} → count.Made m ≡ count.Made n → m ≡ n
-count_same e = cc
-
-uncounted-same : {r q : Why} → count.Refused r ≡ count.Refused q → r ≡ q
-uncounted-same e = cc
-
-not-counted : {m : ShareRecord} {r : Why} {P : Type 0} → count.Made m ≡ count.Refused r → P
-not-counted e = absurd (let z : ◌≡◌ {A = ℕ} 0 1 = cc in omega arith)
-
-record_same : {g h : Gauges} → Made g ≡ Made h → g ≡ h
-record_same e = cc
-
-why-same : {r q : Why} → Refused r ≡ Refused q → r ≡ q
-why-same e = cc
-
-not_made : {g : Gauges} {r : Why} {P : Type 0} → Made g ≡ Refused r → P
-not_made e = absurd (let z : ◌≡◌ {A = ℕ} 0 1 = cc in omega arith)
-
-read_same : {x y : Reading} → reading.Read x ≡ reading.Read y → x ≡ y
-read_same e = cc
-
-not-read : {x : Reading} {r : Why} {P : Type 0} → reading.Read x ≡ reading.Refused r → P
-not-read e = absurd (let z : ◌≡◌ {A = ℕ} 0 1 = cc in omega arith)
 
 -- no backend holds more than all suffixes
 pub held-most : (text : List ℕ) (t : Table) → read_table text ≡ got t → (n b : ℕ) → held t n b ≤ most_suffixes
@@ -115,15 +87,15 @@ module _ (text : List ℕ) (n volume b : ℕ) where
   -- ---- the record
 
   -- the sheet was refused, or lacks the service, or the id is out of its limits
-  pub record-refused : (r : Why) → count.Refused r ≡ share_answer text n b → gauges_answer text n volume b ≡ Refused r
+  pub record-refused : (r : Why) → Err r ≡ share_answer text n b → gauges_answer text n volume b ≡ Err r
   unfolding share_answer share_in gauges_answer gauges_in
   record-refused r e = go (way (in_limits 1 most_id b))
     where
-      go : Way (in_limits 1 most_id b) → gauges_answer text n volume b ≡ Refused r
-      go (unread why line is) = rw is (ap Refused (sym (uncounted-same (rw is at e))))
-      go (absent t is has) = rw (is, has) (ap Refused (sym (uncounted-same (rw (is, has) at e))))
-      go (out t is has o) = rw (is, has, no-id volume b o) (ap Refused (sym (uncounted-same (rw (is, has, o) at e))))
-      go (made t is has i) = not-counted (sym (rw (is, has, i) at e))
+      go : Way (in_limits 1 most_id b) → gauges_answer text n volume b ≡ Err r
+      go (unread why line is) = rw is (ap Err (sym (same_err (rw is at e))))
+      go (absent t is has) = rw (is, has) (ap Err (sym (same_err (rw (is, has) at e))))
+      go (out t is has o) = rw (is, has, no-id volume b o) (ap Err (sym (same_err (rw (is, has, o) at e))))
+      go (made t is has i) = not_both (sym (rw (is, has, i) at e))
 
   -- the share of the backend was counted
   pub record Counted (m : ShareRecord) : Type 0 where
@@ -133,15 +105,15 @@ module _ (text : List ℕ) (n volume b : ℕ) where
     pub known : in_limits 1 most_id b ≡ true
     pub is : m ≡ record { k = table.k; share = held table n b }
 
-  pub counted : (m : ShareRecord) → count.Made m ≡ share_answer text n b → Counted m
+  pub counted : (m : ShareRecord) → Ok m ≡ share_answer text n b → Counted m
   unfolding share_answer share_in held
   counted m e = go (way (in_limits 1 most_id b))
     where
       go : Way (in_limits 1 most_id b) → Counted m
-      go (unread why line is) = not-counted (rw is at e)
-      go (absent t is has) = not-counted (rw (is, has) at e)
-      go (out t is has o) = not-counted (rw (is, has, o) at e)
-      go (made t is has i) = record { table = t; read = is; has = has; known = i; is = count_same (rw (is, has, i) at e) }
+      go (unread why line is) = not_both (rw is at e)
+      go (absent t is has) = not_both (rw (is, has) at e)
+      go (out t is has o) = not_both (rw (is, has, o) at e)
+      go (made t is has i) = record { table = t; read = is; has = has; known = i; is = same_ok (rw (is, has, i) at e) }
 
   module _ (m : ShareRecord) (c : Counted m) where
     bits_are : m.k ≡ c.table.k
@@ -156,11 +128,11 @@ module _ (text : List ℕ) (n volume b : ℕ) where
     pub few-held : m.share ≤ most_suffixes
     few-held = omega (arith, share-is, held-most text c.table c.read n b)
 
-    pub record-out : most_volume < volume → gauges_answer text n volume b ≡ Refused (refused_at no2 0)
+    pub record-out : most_volume < volume → gauges_answer text n volume b ≡ Err (refused_at no2 0)
     unfolding gauges_answer gauges_in
     record-out o = rw (c.read, c.has, over-volume volume b o)
 
-    pub record-made : volume ≤ most_volume → gauges_answer text n volume b ≡ Made (gauges_of m.k m.share volume)
+    pub record-made : volume ≤ most_volume → gauges_answer text n volume b ≡ Ok (gauges_of m.k m.share volume)
     unfolding gauges_answer gauges_in
     record-made h = rw (c.read, c.has, both-within volume b h c.known, bits_are, share-is)
 
@@ -171,39 +143,39 @@ module _ (text : List ℕ) (n volume b : ℕ) where
     pub in-range : in_range volume b ≡ true
     pub is : g ≡ gauges_of table.k (held table n b) volume
 
-  pub whole : (g : Gauges) → Made g ≡ gauges_answer text n volume b → Whole g
+  pub whole : (g : Gauges) → Ok g ≡ gauges_answer text n volume b → Whole g
   unfolding gauges_answer gauges_in
   whole g e = go (way (in_range volume b))
     where
       go : Way (in_range volume b) → Whole g
-      go (unread why line is) = not_made (rw is at e)
-      go (absent t is has) = not_made (rw (is, has) at e)
-      go (out t is has o) = not_made (rw (is, has, o) at e)
-      go (made t is has i) = record { table = t; read = is; in-range = i; is = record_same (rw (is, has, i) at e) }
+      go (unread why line is) = not_both (rw is at e)
+      go (absent t is has) = not_both (rw (is, has) at e)
+      go (out t is has o) = not_both (rw (is, has, o) at e)
+      go (made t is has i) = record { table = t; read = is; in-range = i; is = same_ok (rw (is, has, i) at e) }
 
   -- ---- the reading
 
   module _ (gauge : Gauge) where
-    pub reading-made : (g : Gauges) → Made g ≡ gauges_answer text n volume b → reading_answer text n volume b gauge ≡ reading.Read (reading_of gauge g)
+    pub reading-made : (g : Gauges) → Ok g ≡ gauges_answer text n volume b → reading_answer text n volume b gauge ≡ Ok (reading_of gauge g)
     unfolding gauges_answer gauges_in reading_answer reading_in
     reading-made g e = go (way (in_range volume b))
       where
-        go : Way (in_range volume b) → reading_answer text n volume b gauge ≡ reading.Read (reading_of gauge g)
-        go (unread why line is) = not_made (rw is at e)
-        go (absent t is has) = not_made (rw (is, has) at e)
-        go (out t is has o) = not_made (rw (is, has, o) at e)
-        go (made t is has i) = rw (is, has, i) (ap (λ (h : Gauges). reading.Read (reading_of gauge h)) (sym (record_same (rw (is, has, i) at e))))
+        go : Way (in_range volume b) → reading_answer text n volume b gauge ≡ Ok (reading_of gauge g)
+        go (unread why line is) = not_both (rw is at e)
+        go (absent t is has) = not_both (rw (is, has) at e)
+        go (out t is has o) = not_both (rw (is, has, o) at e)
+        go (made t is has i) = rw (is, has, i) (ap (λ (h : Gauges). Ok (reading_of gauge h)) (sym (same_ok (rw (is, has, i) at e))))
 
-    pub reading-refused : (r : Why) → Refused r ≡ gauges_answer text n volume b → reading_answer text n volume b gauge ≡ in_place_of_8 r
+    pub reading-refused : (r : Why) → Err r ≡ gauges_answer text n volume b → reading_answer text n volume b gauge ≡ in_place_of_8 r
     unfolding gauges_answer gauges_in reading_answer reading_in in_place_of_8 number_of
     reading-refused r e = go (way (in_range volume b))
       where
         go : Way (in_range volume b) → reading_answer text n volume b gauge ≡ in_place_of_8 r
         go (unread why line is) =
-            rw (is, why-same (rw is at e), rw is at (never-eight text))
-        go (absent t is has) = rw (is, has, why-same (rw (is, has) at e))
-        go (out t is has o) = rw (is, has, o, why-same (rw (is, has, o) at e))
-        go (made t is has i) = not_made (sym (rw (is, has, i) at e))
+            rw (is, same_err (rw is at e), rw is at (never-eight text))
+        go (absent t is has) = rw (is, has, same_err (rw (is, has) at e))
+        go (out t is has o) = rw (is, has, o, same_err (rw (is, has, o) at e))
+        go (made t is has i) = not_both (sym (rw (is, has, i) at e))
 
   -- ---- both are exact
 
@@ -217,7 +189,7 @@ module _ (text : List ℕ) (n volume b : ℕ) where
           load = exactly (volume * held t n b) t.k (omega (arith, load-most text t is n volume b i)) (omega (arith, bits));
         }
 
-    pub record-exact : (r : GaugesAnswer) → r ≡ gauges_answer text n volume b → (g : Gauges) → r ≡ Made g → ExactGauges t n volume b g
+    pub record-exact : (r : (Result Gauges Why)) → r ≡ gauges_answer text n volume b → (g : Gauges) → r ≡ Ok g → ExactGauges t n volume b g
     record-exact r r-is g e =
         let w = whole g (sym e ∙ r-is) in
         let same : t ≡ w.table = got_same (sym is ∙ w.read) in
@@ -229,14 +201,14 @@ module _ (text : List ℕ) (n volume b : ℕ) where
     exact_read which.Load i = (exact-of i).load
 
     pub reading-exact :
-        (gauge : Gauge) (r : ReadingAnswer) → r ≡ reading_answer text n volume b gauge → (x : Reading) → r ≡ reading.Read x → ExactReading t n volume b x
+        (gauge : Gauge) (r : (Result Reading Why)) → r ≡ reading_answer text n volume b gauge → (x : Reading) → r ≡ Ok x → ExactReading t n volume b x
     unfolding reading_answer reading_in
     reading-exact gauge r r-is x r-reads = services (has_service t n) (in_range volume b) refl refl
       where
-        e : reading_answer text n volume b gauge ≡ reading.Read x
+        e : reading_answer text n volume b gauge ≡ Ok x
         e = sym r-is ∙ r-reads
 
         services : (h i : Bool) → has_service t n ≡ h → in_range volume b ≡ i → ExactReading t n volume b x
-        services true true has i = subst (ExactReading t n volume b) (read_same (rw (is, has, i) at e)) (exact_read gauge i)
-        services true false has i = not-read (sym (rw (is, has, i) at e))
-        services false i has j = subst (ExactReading t n volume b) (read_same (rw (is, has) at e)) has
+        services true true has i = subst (ExactReading t n volume b) (same_ok (rw (is, has, i) at e)) (exact_read gauge i)
+        services true false has i = not_both (sym (rw (is, has, i) at e))
+        services false i has j = subst (ExactReading t n volume b) (same_ok (rw (is, has) at e)) has

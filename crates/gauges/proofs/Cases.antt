@@ -1,4 +1,5 @@
 -- Readings of a rule sheet: a share, a load, the mark that the service is absent, and refusals in their order.
+use Rattle.std.specs.Prelude.{Err, Ok, Result}
 use Prim.Native.String.{String}
 use Prim.Native.Nat.{ℕ}
 use mathlib.Core.Path.{◌≡◌, refl}
@@ -25,26 +26,26 @@ use Rattle.gauges.specs.Gauges.{held, gauges_of, in_range, reading_of, reading_i
 use Rattle.gauges.specs.declared.answer.Gauge.{Gauge}
 use Rattle.gauges.specs.declared.answer.Gauge.TheVariants as which
 use Rattle.gauges.specs.declared.answer.Reading.TheVariants.{Share, Load, Absent}
-use Rattle.gauges.specs.declared.answer.ReadingAnswer.{ReadingAnswer}
-use Rattle.gauges.specs.declared.answer.ReadingAnswer.TheVariants.{Read, Refused}
+use Rattle.gauges.specs.declared.answer.Reading.{Reading}
+use Rattle.sheets.specs.declared.answer.Refused.{Refused}
 
 -- backend 2 holds 13 of 32 suffixes: 8, 4 and 1
 abbrev thirteen : String
 thirteen = "TABLE 5 4 0\n1 *00011 2\n1 *001 2\n1 *00 2\n1 * 1\n"
 
-abbrev read : String → ℕ → ℕ → ℕ → Gauge → ReadingAnswer
+abbrev read : String → ℕ → ℕ → ℕ → Gauge → Result Reading Refused
 read table n volume b gauge = reading_answer (bytes table) n volume b gauge
 
 -- the bits as other programs show them, in hexadecimal
 pub record Readings : Type 0 where
-  pub a-share : read thirteen 1 55 2 which.Share ≡ Read (Share (of_bits binary64 0x3fda_0000_0000_0000))
-  pub a-load : read thirteen 1 55 2 which.Load ≡ Read (Load (of_bits binary64 0x4036_5800_0000_0000))
-  pub nothing : read thirteen 1 55 9999 which.Load ≡ Read (Load (of_bits binary64 0))
-  pub whole-tree : read "TABLE 1 1 0\n1 * 1\n" 1 0 1 which.Share ≡ Read (Share (of_bits binary64 0x3ff0_0000_0000_0000))
-  pub absent : read thirteen 2 10001 10000 which.Share ≡ Read Absent
-  pub out : read thirteen 1 10001 2 which.Share ≡ Refused (refused_at no2 0)
-  pub no-id : read thirteen 1 55 10000 which.Share ≡ Refused (refused_at no2 0)
-  pub cut : read "TABLE 1 1 0\n1 * 1" 2 10001 10000 which.Load ≡ Refused (refused_at no1 2)
+  pub a-share : read thirteen 1 55 2 which.Share ≡ Ok (Share (of_bits binary64 0x3fda_0000_0000_0000))
+  pub a-load : read thirteen 1 55 2 which.Load ≡ Ok (Load (of_bits binary64 0x4036_5800_0000_0000))
+  pub nothing : read thirteen 1 55 9999 which.Load ≡ Ok (Load (of_bits binary64 0))
+  pub whole-tree : read "TABLE 1 1 0\n1 * 1\n" 1 0 1 which.Share ≡ Ok (Share (of_bits binary64 0x3ff0_0000_0000_0000))
+  pub absent : read thirteen 2 10001 10000 which.Share ≡ Ok Absent
+  pub out : read thirteen 1 10001 2 which.Share ≡ Err (refused_at no2 0)
+  pub no-id : read thirteen 1 55 10000 which.Share ≡ Err (refused_at no2 0)
+  pub cut : read "TABLE 1 1 0\n1 * 1" 2 10001 10000 which.Load ≡ Err (refused_at no1 2)
 
 pub all-readings : Readings
 unfolding reading_answer reading_in reading_of gauges_of held in_range in_limits share gives dyadic bits biased_exponent fraction_field of_bits of_fields odd

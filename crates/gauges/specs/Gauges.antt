@@ -1,5 +1,5 @@
 -- The gauges of a backend (document 02, Req 01): share and load, what the two calls answer, and that each float is exact.
-use Rattle.std.specs.Prelude.{ℕ, ◌*◌, ◌≡◌, Bool, false, List, leb}
+use Rattle.std.specs.Prelude.{ℕ, ◌*◌, ◌≡◌, Bool, false, List, leb, Err, Ok, Result}
 use Rattle.numerals.specs.Pick.{pick, both}
 use Rattle.numerals.specs.Limits.{most_id, most_volume}
 use Rattle.numerals.specs.Refusals.{no2, no8}
@@ -15,10 +15,6 @@ use Rattle.gauges.specs.declared.answer.Gauge.TheVariants as which
 use Rattle.gauges.specs.declared.answer.Reading.{Reading}
 use Rattle.gauges.specs.declared.answer.Reading.TheVariants.{Share, Load, Absent}
 use Rattle.gauges.specs.declared.answer.Gauges.{Gauges}
-use Rattle.gauges.specs.declared.answer.ReadingAnswer.{ReadingAnswer}
-use Rattle.gauges.specs.declared.answer.ReadingAnswer.TheVariants as reading
-use Rattle.gauges.specs.declared.answer.GaugesAnswer.{GaugesAnswer}
-use Rattle.gauges.specs.declared.answer.GaugesAnswer.TheVariants as record_of
 
 -- the suffix count of the backend with id b: how many of the 2^k suffixes the lines of service n give it by first match, 0 if it got none
 unfoldable pub held : Table → ℕ → ℕ → ℕ
@@ -38,11 +34,11 @@ gauged missing refuse make t n volume b =
     pick (has_service t n) (pick (in_range volume b) (make (gauges_of t.k (held t n b) volume)) (refuse (refused_at no2 0))) missing
 
 -- the record, or 8
-unfoldable pub gauges_in : Table → ℕ → ℕ → ℕ → GaugesAnswer
-gauges_in = gauged (record_of.Refused (refused_at no8 0)) record_of.Refused record_of.Made
+unfoldable pub gauges_in : Table → ℕ → ℕ → ℕ → Result Gauges Why
+gauges_in = gauged (Err (refused_at no8 0)) Err Ok
 
-unfoldable pub gauges_answer : List ℕ → ℕ → ℕ → ℕ → GaugesAnswer
-gauges_answer text n volume b = answered record_of.Refused 0 (read_table text) (λ t. gauges_in t n volume b)
+unfoldable pub gauges_answer : List ℕ → ℕ → ℕ → ℕ → Result Gauges Why
+gauges_answer text n volume b = answered Err 0 (read_table text) (λ t. gauges_in t n volume b)
 
 -- the gauge that is read of a record
 unfoldable pub reading_of : Gauge → Gauges → Reading
@@ -50,11 +46,11 @@ reading_of which.Share g = Share g.share
 reading_of which.Load g = Load g.load
 
 -- the reading: the mark that the service is absent stands in place of 8
-unfoldable pub reading_in : Table → ℕ → ℕ → ℕ → Gauge → ReadingAnswer
-reading_in t n volume b gauge = gauged (reading.Read Absent) reading.Refused (λ g. reading.Read (reading_of gauge g)) t n volume b
+unfoldable pub reading_in : Table → ℕ → ℕ → ℕ → Gauge → Result Reading Why
+reading_in t n volume b gauge = gauged (Ok Absent) Err (λ g. Ok (reading_of gauge g)) t n volume b
 
-unfoldable pub reading_answer : List ℕ → ℕ → ℕ → ℕ → Gauge → ReadingAnswer
-reading_answer text n volume b gauge = answered reading.Refused 0 (read_table text) (λ t. reading_in t n volume b gauge)
+unfoldable pub reading_answer : List ℕ → ℕ → ℕ → ℕ → Gauge → Result Reading Why
+reading_answer text n volume b gauge = answered Err 0 (read_table text) (λ t. reading_in t n volume b gauge)
 
 -- both floats of a record are equal, bit by bit, to fractions of whole numbers: held / 2^k and volume × held / 2^k
 pub record ExactGauges (t : Table) (n volume b : ℕ) (g : Gauges) : Type 0 where

@@ -1,5 +1,4 @@
 // What the calls answer.
-use sheets::Refused;
 
 // Which of a backend's two gauges is read.
 #[derive(Drop)]
@@ -23,16 +22,4 @@ pub enum Reading {
 pub struct Gauges {
     pub share: f64,
     pub load: f64,
-}
-
-#[derive(Drop)]
-pub enum ReadingAnswer {
-    Read(Reading),
-    Refused(Refused),
-}
-
-#[derive(Drop)]
-pub enum GaugesAnswer {
-    Made(Gauges),
-    Refused(Refused),
 }

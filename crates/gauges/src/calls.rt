@@ -1,35 +1,30 @@
 // The two calls on a rule sheet's text: the record of a backend's gauges, and one gauge of it.
-ghost use Rattle.std.specs.Prelude.{◌≡◌};
+ghost use Rattle.std.specs.Prelude.{◌≡◌, Ok};
 ghost use Rattle.sheets.specs.Reading.{got};
 ghost use Rattle.sheets.specs.RuleSheet.{Table, read_table};
 ghost use Rattle.gauges.specs.Gauges.{gauges_answer, reading_answer, reading_of, ExactGauges, ExactReading};
 ghost use Rattle.gauges.specs.Inner.Absence.{in_place_of_8};
 
-use crate::answer::{Gauge, Gauges, GaugesAnswer, Reading, ReadingAnswer};
-use numerals::{MOST_VOLUME, Refusal, refusal_number};
-use sheets::{Refused, ShareRead};
+use crate::answer::{Gauge, Gauges, Reading};
+use numerals::{MOST_VOLUME, Refusal};
+use sheets::Refused;
 
 // The share and the load of one backend of a service in a rule sheet.
-pub fn gauge_record(text: &[u8], service: usize, volume: u64, backend: usize) -> GaugesAnswer
+pub fn gauge_record(
+    text: &[u8],
+    service: usize,
+    volume: u64,
+    backend: usize,
+) -> Result<Gauges, Refused>
     ensures answer { result ≡ gauges_answer text.now service volume backend }
-    ensures exact { (t : Table) → read_table text.now ≡ got t → (g : Gauges) → result ≡ GaugesAnswer.Made g
+    ensures exact { (t : Table) → read_table text.now ≡ got t → (g : Gauges) → result ≡ Ok g
         → ExactGauges t service volume backend g }
 {
-    let counted = sheets::count_share(text, service, backend);
-    match counted {
-        ShareRead::Refused(r) => GaugesAnswer::Refused(r),
-        ShareRead::Made(held) => {
-            if MOST_VOLUME < volume {
-                let r = Refused {
-                    why: Refusal::BadField,
-                    line: 0,
-                    of: 0,
-                };
-                return GaugesAnswer::Refused(r);
-            }
-            GaugesAnswer::Made(crate::exact::gauges_of(held.k, held.share, volume))
-        }
+    let held = sheets::count_share(text, service, backend)?;
+    if MOST_VOLUME < volume {
+        return Err(Refusal::BadField.into());
     }
+    Ok(crate::exact::gauges_of(held.k, held.share, volume))
 }
 
 // The gauge that is read of a record.
@@ -43,14 +38,13 @@ fn read(gauge: Gauge, g: Gauges) -> Reading
 }
 
 // A service that isn't there is marked as absent, in place of 8.
-fn refused_or_absent(r: Refused) -> ReadingAnswer
+fn refused_or_absent(r: Refused) -> Result<Reading, Refused>
     ensures { result ≡ in_place_of_8 r }
 {
-    let why = r.why;
-    if refusal_number(why) == refusal_number(Refusal::UnknownService) {
-        return ReadingAnswer::Read(Reading::Absent);
+    if r.why == Refusal::UnknownService {
+        return Ok(Reading::Absent);
     }
-    ReadingAnswer::Refused(r)
+    Err(r)
 }
 
 // One gauge of a backend of a service in a rule sheet; a service that isn't there is absent.
@@ -60,14 +54,13 @@ pub fn gauge_reading(
     volume: u64,
     backend: usize,
     gauge: Gauge,
-) -> ReadingAnswer
+) -> Result<Reading, Refused>
     ensures answer { result ≡ reading_answer text.now service volume backend gauge }
-    ensures exact { (t : Table) → read_table text.now ≡ got t → (x : Reading) → result ≡ ReadingAnswer.Read x
+    ensures exact { (t : Table) → read_table text.now ≡ got t → (x : Reading) → result ≡ Ok x
         → ExactReading t service volume backend x }
 {
-    let made = gauge_record(text, service, volume, backend);
-    match made {
-        GaugesAnswer::Made(g) => ReadingAnswer::Read(read(gauge, g)),
-        GaugesAnswer::Refused(r) => refused_or_absent(r),
+    match gauge_record(text, service, volume, backend) {
+        Ok(g) => Ok(read(gauge, g)),
+        Err(r) => refused_or_absent(r),
     }
 }

@@ -5,5 +5,5 @@ mod answer;
 mod calls;
 mod exact;
 
-pub use answer::{Gauge, Gauges, GaugesAnswer, Reading, ReadingAnswer};
+pub use answer::{Gauge, Gauges, Reading};
 pub use calls::{gauge_reading, gauge_record};

@@ -1,4 +1,5 @@
 -- What the calls for the load screen answer follows from what crate `gauges` does, and their floats are exact.
+use Rattle.std.specs.Prelude.{Err, Ok, Result}
 use Prim.Native.Nat.{ℕ, ◌-◌, ◌^◌}
 use mathlib.Core.Path.{◌≡◌, refl, sym, ap, ◌∙◌, subst⁻¹}
 use mathlib.Core.Bool.{Bool, true, false}
@@ -18,18 +19,16 @@ use Rattle.gauges.specs.Binary64.{dyadic, bits, biased_exponent, fraction_field}
 use Rattle.gauges.specs.Gauges.{held, gauges_of, in_range, gauges_answer, reading_of, reading_in, reading_answer, ExactGauges, ExactReading}
 use Rattle.gauges.specs.declared.answer.Gauge.{Gauge}
 use Rattle.gauges.specs.declared.answer.Gauge.TheVariants as which
-use Rattle.gauges.specs.declared.answer.GaugesAnswer as record-answer
-use Rattle.gauges.specs.declared.answer.GaugesAnswer.TheVariants as record_of
 use Rattle.gauges.specs.declared.answer.Reading.{Reading}
 use Rattle.gauges.specs.declared.answer.Reading.TheVariants.{Share, Load, Absent}
-use Rattle.gauges.specs.declared.answer.ReadingAnswer as reading-answer
-use Rattle.gauges.specs.declared.answer.ReadingAnswer.TheVariants.{Read, Refused}
 use Rattle.gauges.proofs.Answers.{record-exact, reading-exact}
-use Rattle.gulmorzon.specs.Gauges.{plus_zero, of_record, share_mark, load_mark, absent, read, reading_refused, of_reading, no_gauge, reading_called, ExactMarked}
+use Rattle.gulmorzon.specs.Gauges.{plus_zero, of_record, share_mark, load_mark, absent, read, reading_refused, of_reading, no_gauge, reading_called}
+use Rattle.gulmorzon.specs.Gauges.{ExactMarked}
 use Rattle.gulmorzon.specs.Inner.Unnamed.{of_unnamed}
 use Rattle.gulmorzon.specs.declared.gauge_answer.GaugesAnswer.{GaugesAnswer}
 use Rattle.gulmorzon.specs.declared.gauge_answer.ReadingAnswer.{ReadingAnswer}
 use Rattle.gulmorzon.proofs.Promised.{not-zero}
+use Rattle.gauges.specs.declared.answer.Gauges.{Gauges}
 
 -- the code's 0.0
 pub zero_is : of_bits binary64 0 ≡ plus_zero
@@ -38,11 +37,11 @@ zero_is = rw (zero-mul (2 ^ (53 - size 0)))
 
 -- no refusal has number 0, so that a record with number 0 was made
 pub record-called :
-    (x : record-answer.GaugesAnswer) (r : GaugesAnswer) (text : List ℕ) (n volume b : ℕ) → r ≡ of_record x → x ≡ gauges_answer text n volume b
+    (x : (Result Gauges Why)) (r : GaugesAnswer) (text : List ℕ) (n volume b : ℕ) → r ≡ of_record x → x ≡ gauges_answer text n volume b
     → r.number ≡ 0 → (t : Table) → read_table text ≡ got t → ExactGauges t n volume b r.gauges
-record-called (record_of.Made g) r text n volume b e is z t seen =
-    subst⁻¹ (λ (a : GaugesAnswer). ExactGauges t n volume b a.gauges) e (record-exact text n volume b t seen (record_of.Made g) is g refl)
-record-called (record_of.Refused why) r text n volume b e is z t seen =
+record-called (Ok g) r text n volume b e is z t seen =
+    subst⁻¹ (λ (a : GaugesAnswer). ExactGauges t n volume b a.gauges) e (record-exact text n volume b t seen (Ok g) is g refl)
+record-called (Err why) r text n volume b e is z t seen =
     absurd (not-zero why.why (sym (ap (λ (a : GaugesAnswer). a.number) e) ∙ z))
 
 -- what is answered for a number that names no gauge, whichever gauge was read
@@ -51,14 +50,14 @@ unfolding reading_answer reading_in reading_of
 no-gauge text n volume b gauge = go (read_table text)
   where
     some : (t : Table) (h i : Bool) (gauge : Gauge)
-        → of_unnamed (pick h (pick i (Read (reading_of gauge (gauges_of t.k (held t n b) volume))) (Refused (refused_at no2 0))) (Read Absent))
+        → of_unnamed (pick h (pick i (Ok (reading_of gauge (gauges_of t.k (held t n b) volume))) (Err (refused_at no2 0))) (Ok Absent))
         ≡ pick h (reading_refused (refused_at no2 0)) absent
     some t true true which.Share = refl
     some t true true which.Load = refl
     some t true false gauge = refl
     some t false i gauge = refl
 
-    go : (r : Sheet Table) → of_unnamed (answered Refused 0 r (λ t. reading_in t n volume b gauge))
+    go : (r : Sheet Table) → of_unnamed (answered Err 0 r (λ t. reading_in t n volume b gauge))
         ≡ answered reading_refused 0 r (λ t. pick (has_service t n) (reading_refused (refused_at no2 0)) absent)
     go (refused why line) = refl
     go (got t) = some t (has_service t n) (in_range volume b) gauge
@@ -99,9 +98,9 @@ module _ (t : Table) (n volume b : ℕ) where
     exact-named : (gauge : Gauge) → ExactMarked t n volume b (of_reading (reading_answer text n volume b gauge))
     exact-named gauge = go (reading_answer text n volume b gauge) refl
       where
-        go : (x : reading-answer.ReadingAnswer) → reading_answer text n volume b gauge ≡ x → ExactMarked t n volume b (of_reading x)
-        go (Read x) e = exact_read x (reading-exact text n volume b t seen gauge (Read x) (sym e) x refl)
-        go (Refused r) e = exact-refused r
+        go : (x : (Result Reading Why)) → reading_answer text n volume b gauge ≡ x → ExactMarked t n volume b (of_reading x)
+        go (Ok x) e = exact_read x (reading-exact text n volume b t seen gauge (Ok x) (sym e) x refl)
+        go (Err r) e = exact-refused r
 
     exact-unnamed : ExactMarked t n volume b (no_gauge text n)
     exact-unnamed = rw seen (go (has_service t n) refl)

@@ -1,5 +1,6 @@
 -- No refusal has number 0, so an answer with number 0 is one that was printed: demand 3 holds of it, and what is promised of stages. And request 03's
 -- promise, by equal answers.
+use Rattle.std.specs.Prelude.{Err, Ok, Result}
 use Prim.Native.Nat.{ℕ}
 use mathlib.Core.Path.{◌≡◌, refl, sym, ap, ◌∙◌, subst, subst⁻¹}
 use mathlib.Core.List.{List}
@@ -10,13 +11,12 @@ use Rattle.numerals.specs.declared.refusal.Refusal.{Refusal}
 use Rattle.numerals.specs.declared.refusal.Refusal.TheVariants.{Malformed, BadField, Unbalanced, TooMany, NoService, TableShort, ShortLoan}
 use Rattle.numerals.specs.declared.refusal.Refusal.TheVariants.{UnknownService, Order, Miscount, TooLong, Depth, Stuck, Crowded}
 use Rattle.sheets.specs.Demand.{Demand3, Demand3Of}
-use Rattle.sheets.specs.declared.answer.Answer as outcome
-use Rattle.sheets.specs.declared.answer.Answer.TheVariants.{Value, Refused}
 use Rattle.stages.specs.Promise.{PromisedRow, PromisedStage}
 use Rattle.update.specs.Sheets.{PromisedBoth}
-use Rattle.update.specs.declared.answer.SheetUpdated.{SheetUpdated}
 use Rattle.gulmorzon.specs.Answers.{of_answer}
 use Rattle.gulmorzon.specs.declared.answer.Answer.{Answer}
+use Rattle.sheets.specs.declared.answer.Refused.{Refused}
+use Rattle.update.specs.declared.answer.Update.{Update}
 
 pub not-zero : (why : Refusal) → number_of why ≡ 0 → ⊥
 unfolding number_of
@@ -36,29 +36,29 @@ not-zero Stuck e = omega arith
 not-zero Crowded e = omega arith
 
 pub promised :
-    (p : outcome.Answer) (a : Answer) (text out : List ℕ) → a ≡ of_answer p → Demand3Of p text out → a.number ≡ 0
+    (p : (Result ℕ Refused)) (a : Answer) (text out : List ℕ) → a ≡ of_answer p → Demand3Of p text out → a.number ≡ 0
     → Demand3 text (take a.value out)
-promised (Value n) a text out e d z = subst⁻¹ (λ (x : Answer). Demand3 text (take x.value out)) e d
-promised (Refused r) a text out e d z = absurd (not-zero r.why (sym (ap (λ (x : Answer). x.number) e) ∙ z))
+promised (Ok n) a text out e d z = subst⁻¹ (λ (x : Answer). Demand3 text (take x.value out)) e d
+promised (Err r) a text out e d z = absurd (not-zero r.why (sym (ap (λ (x : Answer). x.number) e) ∙ z))
 
 promised-value :
-    (p : outcome.Answer) (a : Answer) (P : List ℕ → Type 0) (out : List ℕ) → a ≡ of_answer p → ((n : ℕ) → p ≡ Value n → P (take n out)) → a.number ≡ 0
+    (p : (Result ℕ Refused)) (a : Answer) (P : List ℕ → Type 0) (out : List ℕ) → a ≡ of_answer p → ((n : ℕ) → p ≡ Ok n → P (take n out)) → a.number ≡ 0
     → P (take a.value out)
-promised-value (Value n) a P out e d z = subst⁻¹ (λ (x : Answer). P (take x.value out)) e (d n refl)
-promised-value (Refused r) a P out e d z = absurd (not-zero r.why (sym (ap (λ (x : Answer). x.number) e) ∙ z))
+promised-value (Ok n) a P out e d z = subst⁻¹ (λ (x : Answer). P (take x.value out)) e (d n refl)
+promised-value (Err r) a P out e d z = absurd (not-zero r.why (sym (ap (λ (x : Answer). x.number) e) ∙ z))
 
 pub promised-row :
-    (p : outcome.Answer) (a : Answer) (old new : List ℕ) (n limit : ℕ) (out : List ℕ) → a ≡ of_answer p
-    → ((m : ℕ) → p ≡ Value m → PromisedRow old new n limit (take m out)) → a.number ≡ 0 → PromisedRow old new n limit (take a.value out)
+    (p : (Result ℕ Refused)) (a : Answer) (old new : List ℕ) (n limit : ℕ) (out : List ℕ) → a ≡ of_answer p
+    → ((m : ℕ) → p ≡ Ok m → PromisedRow old new n limit (take m out)) → a.number ≡ 0 → PromisedRow old new n limit (take a.value out)
 promised-row p a old new n limit out = promised-value p a (λ (w : List ℕ). PromisedRow old new n limit w) out
 
 pub promised-stage :
-    (p : outcome.Answer) (a : Answer) (old new : List ℕ) (n limit number : ℕ) (out : List ℕ) → a ≡ of_answer p
-    → ((m : ℕ) → p ≡ Value m → PromisedStage old new n limit number (take m out)) → a.number ≡ 0
+    (p : (Result ℕ Refused)) (a : Answer) (old new : List ℕ) (n limit number : ℕ) (out : List ℕ) → a ≡ of_answer p
+    → ((m : ℕ) → p ≡ Ok m → PromisedStage old new n limit number (take m out)) → a.number ≡ 0
     → PromisedStage old new n limit number (take a.value out)
 promised-stage p a old new n limit number out = promised-value p a (λ (w : List ℕ). PromisedStage old new n limit number w) out
 
 pub promised-both :
-    {x y : SheetUpdated} (old sheet : List ℕ) (n : ℕ) (numbers : List ℕ) → x ≡ y → PromisedBoth old sheet n x numbers
+    {x y : (Result Update Refused)} (old sheet : List ℕ) (n : ℕ) (numbers : List ℕ) → x ≡ y → PromisedBoth old sheet n x numbers
     → PromisedBoth old sheet n y numbers
-promised-both old sheet n numbers e h = subst (λ (z : SheetUpdated). PromisedBoth old sheet n z numbers) e h
+promised-both old sheet n numbers e h = subst (λ (z : (Result Update Refused)). PromisedBoth old sheet n z numbers) e h

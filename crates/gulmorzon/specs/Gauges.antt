@@ -1,5 +1,5 @@
 -- The answers of crate `gauges` in plain numbers (document 02, Req 01), and that their floats are exact.
-use Rattle.std.specs.Prelude.{ℕ, ◌*◌, ◌≡◌, false, List, eqb, Float}
+use Rattle.std.specs.Prelude.{ℕ, ◌*◌, ◌≡◌, false, List, eqb, Float, Err, Ok, Result}
 use Rattle.numerals.specs.Pick.{pick}
 use Rattle.numerals.specs.Refusals.{number_of, no2, no8}
 use Rattle.sheets.specs.RuleSheet.{Table, read_table}
@@ -8,14 +8,11 @@ use Rattle.sheets.specs.declared.answer.Refused.{Refused as Why}
 use Rattle.gauges.specs.Binary64.{dyadic, Exactly}
 use Rattle.gauges.specs.Gauges.{held, reading_answer}
 use Rattle.gauges.specs.declared.answer.Gauge.TheVariants as which
-use Rattle.gauges.specs.declared.answer.GaugesAnswer as record-answer
-use Rattle.gauges.specs.declared.answer.GaugesAnswer.TheVariants as record_of
 use Rattle.gauges.specs.declared.answer.Reading.{Reading}
 use Rattle.gauges.specs.declared.answer.Reading.TheVariants.{Share, Load, Absent}
-use Rattle.gauges.specs.declared.answer.ReadingAnswer as reading-answer
-use Rattle.gauges.specs.declared.answer.ReadingAnswer.TheVariants as reading
 use Rattle.gulmorzon.specs.declared.gauge_answer.GaugesAnswer.{GaugesAnswer}
 use Rattle.gulmorzon.specs.declared.gauge_answer.ReadingAnswer.{ReadingAnswer}
+use Rattle.gauges.specs.declared.answer.Gauges.{Gauges}
 
 -- the value beside a refusal, and of an absent service
 abbrev pub plus_zero : Float
@@ -26,9 +23,9 @@ plus_zero = dyadic 0 0
 abbrev pub record_refused : Why → GaugesAnswer
 record_refused r = record { number = number_of r.why; line = r.line; gauges = record { share = plus_zero; load = plus_zero } }
 
-abbrev pub of_record : record-answer.GaugesAnswer → GaugesAnswer
-of_record (record_of.Made g) = record { number = 0; line = 0; gauges = g }
-of_record (record_of.Refused r) = record_refused r
+abbrev pub of_record : Result Gauges Why → GaugesAnswer
+of_record (Ok g) = record { number = 0; line = 0; gauges = g }
+of_record (Err r) = record_refused r
 
 -- ---- the reading
 
@@ -57,9 +54,9 @@ read Absent = absent
 abbrev pub reading_refused : Why → ReadingAnswer
 reading_refused r = record { number = number_of r.why; line = r.line; mark = 0; value = plus_zero }
 
-abbrev pub of_reading : reading-answer.ReadingAnswer → ReadingAnswer
-of_reading (reading.Read x) = read x
-of_reading (reading.Refused r) = reading_refused r
+abbrev pub of_reading : Result Reading Why → ReadingAnswer
+of_reading (Ok x) = read x
+of_reading (Err r) = reading_refused r
 
 -- a number that names no gauge is 2, after the sheet's own refusals and after absent
 abbrev pub no_gauge : List ℕ → ℕ → ReadingAnswer

@@ -1,9 +1,8 @@
 -- The answer of crate `update` in plain numbers (document 02, Req 03 to 05).
+use Rattle.std.specs.Prelude.{Err, Ok, Result}
 use Rattle.numerals.specs.Refusals.{number_of}
 use Rattle.sheets.specs.declared.answer.Refused.{Refused as Why}
 use Rattle.update.specs.declared.answer.Update.{Update}
-use Rattle.update.specs.declared.answer.SheetUpdated.{SheetUpdated}
-use Rattle.update.specs.declared.answer.SheetUpdated.TheVariants.{Made, Refused}
 use Rattle.gulmorzon.specs.declared.update_answer.UpdateAnswer.{UpdateAnswer}
 
 abbrev pub update_made : Update → UpdateAnswer
@@ -15,6 +14,6 @@ abbrev pub update_refused : Why → UpdateAnswer
 update_refused r =
     record { number = number_of r.why; line = r.line; sheet = r.of; k = 0; kept = 0; rules = 0; churn = 0 }
 
-abbrev pub of_update : SheetUpdated → UpdateAnswer
-of_update (Made u) = update_made u
-of_update (Refused r) = update_refused r
+abbrev pub of_update : Result Update Why → UpdateAnswer
+of_update (Ok u) = update_made u
+of_update (Err r) = update_refused r

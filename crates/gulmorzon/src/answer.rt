@@ -2,8 +2,7 @@
 ghost use Rattle.std.specs.Prelude.{◌≡◌};
 ghost use Rattle.gulmorzon.specs.Answers as answers;
 
-use numerals::refusal_number;
-use sheets::{Planned, Refused};
+use sheets::{Plan, Refused};
 
 // Number 0 and a value; or the number of a refusal, its line, and which of two sheets it is about.
 #[repr(C)]
@@ -28,67 +27,53 @@ pub struct PlanAnswer {
     pub total: u64,
 }
 
-fn answered(value: usize) -> Answer
-    ensures { result ≡ answers.answered value }
-{
-    Answer {
-        number: 0,
-        line: 0,
-        sheet: 0,
-        value,
+impl From<Result<usize, Refused>> for Answer {
+    ghost from_gives = { λ x a. a ≡ answers.of_answer x };
+
+    fn from(x: Result<usize, Refused>) -> Answer {
+        match x {
+            Ok(value) => Answer {
+                number: 0,
+                line: 0,
+                sheet: 0,
+                value,
+            },
+            Err(r) => Answer {
+                number: u64::from(r.why) as usize,
+                line: r.line,
+                sheet: r.of,
+                value: 0,
+            },
+        }
     }
 }
 
-fn refused(r: Refused) -> Answer
-    ensures { result ≡ answers.refused r }
-{
-    let why = r.why;
-    Answer {
-        number: refusal_number(why) as usize,
-        line: r.line,
-        sheet: r.of,
-        value: 0,
-    }
-}
+impl From<Result<Plan, Refused>> for PlanAnswer {
+    ghost from_gives = { λ x a. a ≡ answers.of_planned x };
 
-pub fn of_answer(x: sheets::Answer) -> Answer
-    ensures { result ≡ answers.of_answer x }
-{
-    match x {
-        sheets::Answer::Value(n) => answered(n),
-        sheets::Answer::Refused(r) => refused(r),
-    }
-}
-
-fn plan_refused(r: Refused) -> PlanAnswer
-    ensures { result ≡ answers.plan_refused r }
-{
-    let why = r.why;
-    let number = refusal_number(why) as usize;
-    PlanAnswer {
-        number,
-        line: r.line,
-        buffer: r.of,
-        k: 0,
-        services: 0,
-        rules: 0,
-        total: 0,
-    }
-}
-
-pub fn of_planned(x: Planned) -> PlanAnswer
-    ensures { result ≡ answers.of_planned x }
-{
-    match x {
-        Planned::Made(p) => PlanAnswer {
-            number: 0,
-            line: 0,
-            buffer: 0,
-            k: p.k,
-            services: p.services,
-            rules: p.rules,
-            total: p.total,
-        },
-        Planned::Refused(r) => plan_refused(r),
+    fn from(x: Result<Plan, Refused>) -> PlanAnswer {
+        match x {
+            Ok(p) => PlanAnswer {
+                number: 0,
+                line: 0,
+                buffer: 0,
+                k: p.k,
+                services: p.services,
+                rules: p.rules,
+                total: p.total,
+            },
+            Err(r) => {
+                let number = u64::from(r.why) as usize;
+                PlanAnswer {
+                    number,
+                    line: r.line,
+                    buffer: r.of,
+                    k: 0,
+                    services: 0,
+                    rules: 0,
+                    total: 0,
+                }
+            }
+        }
     }
 }

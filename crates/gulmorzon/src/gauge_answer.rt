@@ -4,7 +4,7 @@ ghost use Rattle.gulmorzon.specs.Gauges as answers;
 ghost use Rattle.gulmorzon.specs.Inner.Unnamed as inner;
 
 use gauges::{Gauges, Reading};
-use numerals::{Refusal, refusal_number};
+use numerals::Refusal;
 use sheets::Refused;
 
 // The gauges by their numbers, which also mark what was read.
@@ -32,104 +32,75 @@ pub struct ReadingAnswer {
     pub value: f64,
 }
 
-fn record_refused(r: Refused) -> GaugesAnswer
-    ensures { result ≡ answers.record_refused r }
-{
-    let why = r.why;
-    let number = refusal_number(why) as usize;
-    let gauges = Gauges {
-        share: 0.0,
-        load: 0.0,
-    };
-    GaugesAnswer {
-        number,
-        line: r.line,
-        gauges,
-    }
-}
+impl From<Result<Gauges, Refused>> for GaugesAnswer {
+    ghost from_gives = { λ x a. a ≡ answers.of_record x };
 
-pub fn of_record(x: gauges::GaugesAnswer) -> GaugesAnswer
-    ensures { result ≡ answers.of_record x }
-{
-    match x {
-        gauges::GaugesAnswer::Made(gauges) => GaugesAnswer {
-            number: 0,
-            line: 0,
-            gauges,
-        },
-        gauges::GaugesAnswer::Refused(r) => record_refused(r),
+    fn from(x: Result<Gauges, Refused>) -> GaugesAnswer {
+        match x {
+            Ok(gauges) => GaugesAnswer {
+                number: 0,
+                line: 0,
+                gauges,
+            },
+            Err(r) => GaugesAnswer {
+                number: u64::from(r.why) as usize,
+                line: r.line,
+                gauges: Gauges {
+                    share: 0.0,
+                    load: 0.0,
+                },
+            },
+        }
     }
 }
 
 fn reading_refused(r: Refused) -> ReadingAnswer
     ensures { result ≡ answers.reading_refused r }
 {
-    let why = r.why;
-    let number = refusal_number(why) as usize;
     ReadingAnswer {
-        number,
+        number: u64::from(r.why) as usize,
         line: r.line,
         mark: 0,
         value: 0.0,
     }
 }
 
-fn marked(mark: usize, value: f64) -> ReadingAnswer
-    ensures { result ≡ answers.marked mark value }
-{
-    ReadingAnswer {
-        number: 0,
-        line: 0,
-        mark,
-        value,
+impl From<Reading> for ReadingAnswer {
+    ghost from_gives = { λ x a. a ≡ answers.read x };
+
+    fn from(x: Reading) -> ReadingAnswer {
+        let (mark, value) = match x {
+            Reading::Share(value) => (SHARE, value),
+            Reading::Load(value) => (LOAD, value),
+            Reading::Absent => (u64::from(Refusal::UnknownService) as usize, 0.0),
+        };
+        ReadingAnswer {
+            number: 0,
+            line: 0,
+            mark,
+            value,
+        }
     }
 }
 
-fn absent() -> ReadingAnswer
-    ensures { result ≡ answers.absent }
-{
-    let mark = refusal_number(Refusal::UnknownService) as usize;
-    marked(mark, 0.0)
-}
+impl From<Result<Reading, Refused>> for ReadingAnswer {
+    ghost from_gives = { λ x a. a ≡ answers.of_reading x };
 
-fn read(x: Reading) -> ReadingAnswer
-    ensures { result ≡ answers.read x }
-{
-    match x {
-        Reading::Share(value) => marked(SHARE, value),
-        Reading::Load(value) => marked(LOAD, value),
-        Reading::Absent => absent(),
-    }
-}
-
-pub fn of_reading(x: gauges::ReadingAnswer) -> ReadingAnswer
-    ensures { result ≡ answers.of_reading x }
-{
-    match x {
-        gauges::ReadingAnswer::Read(v) => read(v),
-        gauges::ReadingAnswer::Refused(r) => reading_refused(r),
+    fn from(x: Result<Reading, Refused>) -> ReadingAnswer {
+        match x {
+            Ok(v) => v.into(),
+            Err(r) => reading_refused(r),
+        }
     }
 }
 
 // Read for a number that names no gauge: absent stays, any other value is refused with 2.
-fn unnamed(x: Reading) -> ReadingAnswer
-    ensures { result ≡ inner.unnamed x }
-{
-    match x {
-        Reading::Absent => absent(),
-        _ => reading_refused(Refused {
-            why: Refusal::BadField,
-            line: 0,
-            of: 0,
-        }),
-    }
-}
-
-pub fn of_unnamed(x: gauges::ReadingAnswer) -> ReadingAnswer
+pub fn of_unnamed(x: Result<Reading, Refused>) -> ReadingAnswer
     ensures { result ≡ inner.of_unnamed x }
 {
     match x {
-        gauges::ReadingAnswer::Read(v) => unnamed(v),
-        gauges::ReadingAnswer::Refused(r) => reading_refused(r),
+        Ok(Reading::Absent) => Reading::Absent.into(),
+        Ok(_) => reading_refused(Refusal::BadField.into()),
+        Err(r) => reading_refused(r),
     }
 }

@@ -43,7 +43,7 @@ pub extern "C" fn gulmorzon_plan(
         (calls.is_plan (calls.plan_answer text.now (length figures.old) (length table.old)))
         table.old (calls.values_of (read_sheet text.now) calls.cells_for) }
 {
-    answer::of_planned(sheets::plan(text, figures, table))
+    sheets::plan(text, figures, table).into()
 }
 
 // The rule sheet of a percentage sheet, into a lent buffer. The value is the number of bytes.
@@ -55,7 +55,7 @@ pub extern "C" fn gulmorzon_split(text: &[u8], out: &mut [u8]) -> Answer
     ensures four_places { FourPlaces text.now (answers.split_answer text.now (length out.old))
         out.old out.new }
 {
-    answer::of_answer(sheets::split_sheet(text, out))
+    sheets::split_sheet(text, out).into()
 }
 
 // The backend that a rule sheet gives a service's address to. The value is its id.
@@ -63,7 +63,7 @@ pub extern "C" fn gulmorzon_split(text: &[u8], out: &mut [u8]) -> Answer
 pub extern "C" fn gulmorzon_lookup(text: &[u8], service: usize, address: u32) -> Answer
     ensures { result ≡ answers.of_answer (calls.lookup_answer text.now service address) }
 {
-    answer::of_answer(sheets::lookup(text, service, address))
+    sheets::lookup(text, service, address).into()
 }
 
 // How many suffixes of a service have another backend in the new rule sheet than in the old. The value is their number.
@@ -71,7 +71,7 @@ pub extern "C" fn gulmorzon_lookup(text: &[u8], service: usize, address: u32) ->
 pub extern "C" fn gulmorzon_churn(old: &[u8], new: &[u8], service: usize) -> Answer
     ensures { result ≡ answers.of_answer (calls.churn_answer old.now new.now service) }
 {
-    answer::of_answer(sheets::churn(old, new, service))
+    sheets::churn(old, new, service).into()
 }
 
 // The share and the load of one backend of a service in a rule sheet.
@@ -86,7 +86,7 @@ pub extern "C" fn gulmorzon_gauges(
     ensures exact { result.number ≡ 0 → (t : Table) → read_table text.now ≡ got t
         → ExactGauges t service volume backend result.gauges }
 {
-    gauge_answer::of_record(gauges::gauge_record(text, service, volume, backend))
+    gauges::gauge_record(text, service, volume, backend).into()
 }
 
 // One of the two, by its number; a service that isn't there is marked as absent.
@@ -102,12 +102,10 @@ pub extern "C" fn gulmorzon_reading(
     ensures exact { (t : Table) → read_table text.now ≡ got t → ExactMarked t service volume backend result }
 {
     if gauge == SHARE {
-        let r = gauges::gauge_reading(text, service, volume, backend, Gauge::Share);
-        return gauge_answer::of_reading(r);
+        return gauges::gauge_reading(text, service, volume, backend, Gauge::Share).into();
     }
     if gauge == LOAD {
-        let r = gauges::gauge_reading(text, service, volume, backend, Gauge::Load);
-        return gauge_answer::of_reading(r);
+        return gauges::gauge_reading(text, service, volume, backend, Gauge::Load).into();
     }
     // No gauge has this number: whichever is read, its value is refused.
     gauge_answer::of_unnamed(gauges::gauge_reading(text, service, volume, backend, Gauge::Share))
@@ -130,7 +128,7 @@ pub extern "C" fn gulmorzon_update(
     ensures promise { texts.PromisedBoth old.now sheet.now service
         (texts.sheets_answer old.now sheet.now service (length rules.old)) rules.new }
 {
-    update_answer::of_update(update::update_sheets(old, sheet, service, rules))
+    update::update_sheets(old, sheet, service, rules).into()
 }
 
 // The places at which a service's change from one rule sheet to another is cut into stages, into a lent buffer. The value is
@@ -152,7 +150,7 @@ pub extern "C" fn gulmorzon_stages(
     ensures promise { result.number ≡ 0
         → PromisedRow old.now new.now service limit (take result.value places.new) }
 {
-    answer::of_answer(stages::stage_places(old, new, service, limit, capacity, places))
+    stages::stage_places(old, new, service, limit, capacity, places).into()
 }
 
 // One of these stages by its number, from 1, as lines for the switch, into a lent buffer. The value is the number of bytes.
@@ -174,5 +172,5 @@ pub extern "C" fn gulmorzon_stage(
     ensures promise { result.number ≡ 0
         → PromisedStage old.now new.now service limit number (take result.value out.new) }
 {
-    answer::of_answer(stages::stage_lines(old, new, service, limit, capacity, number, out))
+    stages::stage_lines(old, new, service, limit, capacity, number, out).into()
 }

@@ -2,9 +2,8 @@
 ghost use Rattle.std.specs.Prelude.{◌≡◌};
 ghost use Rattle.gulmorzon.specs.Update as answers;
 
-use numerals::refusal_number;
 use sheets::Refused;
-use update::SheetUpdated;
+use update::Update;
 
 // Number 0 and the update; or the number of a refusal, its line, and which of two sheets it is about.
 #[repr(C)]
@@ -19,35 +18,29 @@ pub struct UpdateAnswer {
     pub churn: usize,
 }
 
-fn update_refused(r: Refused) -> UpdateAnswer
-    ensures { result ≡ answers.update_refused r }
-{
-    let why = r.why;
-    let number = refusal_number(why) as usize;
-    UpdateAnswer {
-        number,
-        line: r.line,
-        sheet: r.of,
-        k: 0,
-        kept: 0,
-        rules: 0,
-        churn: 0,
-    }
-}
+impl From<Result<Update, Refused>> for UpdateAnswer {
+    ghost from_gives = { λ x a. a ≡ answers.of_update x };
 
-pub fn of_update(x: SheetUpdated) -> UpdateAnswer
-    ensures { result ≡ answers.of_update x }
-{
-    match x {
-        SheetUpdated::Made(u) => UpdateAnswer {
-            number: 0,
-            line: 0,
-            sheet: 0,
-            k: u.k,
-            kept: u.kept,
-            rules: u.rules,
-            churn: u.churn,
-        },
-        SheetUpdated::Refused(r) => update_refused(r),
+    fn from(x: Result<Update, Refused>) -> UpdateAnswer {
+        match x {
+            Ok(u) => UpdateAnswer {
+                number: 0,
+                line: 0,
+                sheet: 0,
+                k: u.k,
+                kept: u.kept,
+                rules: u.rules,
+                churn: u.churn,
+            },
+            Err(r) => UpdateAnswer {
+                number: u64::from(r.why) as usize,
+                line: r.line,
+                sheet: r.of,
+                k: 0,
+                kept: 0,
+                rules: 0,
+                churn: 0,
+            },
+        }
     }
 }

@@ -1,4 +1,5 @@
 -- Digits over any base: what reading one digit more comes to, how many digits `lowest` has, and that it and `value` are inverse.
+use Rattle.std.specs.Prelude.{None, Option, Some}
 use Prim.Native.Nat.{ℕ, zero, suc, ◌+◌, ◌-◌, ◌*◌, ◌/◌, ◌%◌, ◌^◌, ◌≤◌, ◌<◌}
 use native.Mathlib.Nat.{le_trans, le_refl, le-add_right, le-mul_of_pos_right, div-lt_iff_lt-mul, le-div_iff_mul-le, add-zero, add-suc, suc-add}
 use native.Mathlib.Nat.{zero-add, pow-zero, pow-suc, pow-succ', one-le-pow, mod-lt, mod-one, div-one, div-div-eq-div-mul, mul_assoc, mul-one}
@@ -17,32 +18,30 @@ use Rattle.numerals.proofs.Lists.{sets-snoc}
 use Rattle.numerals.specs.Pick.{pick, both}
 use Rattle.numerals.specs.Digits.{is_digit, all_digits, value_from, value, lowest, on_value}
 use Rattle.numerals.specs.Inner.Digits.{read_digits}
-use Rattle.numerals.specs.declared.digits.Number.{Number}
-use Rattle.numerals.specs.declared.digits.Number.TheVariants.{Value, Bad}
 
 -- a value that a test lets through
-pub picked : (t : Bool) (x v : ℕ) → pick t (Value x) Bad ≡ Value v → (t ≡ true) × (x ≡ v)
+pub picked : (t : Bool) (x v : ℕ) → pick t (Some x) None ≡ Some v → (t ≡ true) × (x ≡ v)
 picked true x v h = (refl, cc)
 picked false x v h = (cc, cc)
 
 -- what was read of a number, and of what follows it
-pub not-value : {P : Type 0} (v : ℕ) → Bad ≡ Value v → P
+pub not-value : {P : Type 0} (v : ℕ) → None ≡ Some v → P
 not-value v h = absurd (let z : ◌≡◌ {A = ℕ} 0 1 = cc in omega arith)
 
-pub on_value_lem : (n : Number) (f : ℕ → Number) (v : ℕ) → on_value n f ≡ Value v → (u : ℕ) × (n ≡ Value u) × (f u ≡ Value v)
+pub on_value_lem : (n : (Option ℕ)) (f : ℕ → (Option ℕ)) (v : ℕ) → on_value n f ≡ Some v → (u : ℕ) × (n ≡ Some u) × (f u ≡ Some v)
 unfolding on_value
-on_value_lem (Value u) f v h = (u, refl, h)
-on_value_lem Bad f v h = not-value v h
+on_value_lem (Some u) f v h = (u, refl, h)
+on_value_lem None f v h = not-value v h
 
 -- what digits are read as, once v was read before them
-unfoldable pub read_from : ℕ → ℕ → ℕ → List ℕ → Number
-read_from base most v bs = pick (both (all_digits base bs) (leb (value_from base v bs) most)) (Value (value_from base v bs)) Bad
+unfoldable pub read_from : ℕ → ℕ → ℕ → List ℕ → Option ℕ
+read_from base most v bs = pick (both (all_digits base bs) (leb (value_from base v bs) most)) (Some (value_from base v bs)) None
 
 pub read-start : (base most : ℕ) (bs : List ℕ) → read_digits base most bs ≡ read_from base most 0 bs
 unfolding read_digits read_from value
 read-start base most bs = refl
 
-pub read_none : (base most v : ℕ) → v ≤ most → read_from base most v [] ≡ Value v
+pub read_none : (base most v : ℕ) → v ≤ most → read_from base most v [] ≡ Some v
 unfolding read_from all_digits value_from
 read_none base most v h = simp (le-leb v most h)
 
@@ -54,15 +53,15 @@ grows base v (b ∷ bs) h =
     omega (arith, le-mul_of_pos_right v h, grows base (v * base + (b - 48)) bs h)
 
 module _ (base most v b : ℕ) (bs : List ℕ) where
-  pub read_low : b < 48 → read_from base most v (b ∷ bs) ≡ Bad
+  pub read_low : b < 48 → read_from base most v (b ∷ bs) ≡ None
   unfolding read_from all_digits is_digit
   read_low h = simp (lt-leb 48 b h)
 
-  pub read-high : 48 + base ≤ b → read_from base most v (b ∷ bs) ≡ Bad
+  pub read-high : 48 + base ≤ b → read_from base most v (b ∷ bs) ≡ None
   unfolding read_from all_digits is_digit
   read-high h = simp (le-leb 48 b (omega arith), le-ltb b (48 + base) h)
 
-  pub read-over : 1 ≤ base → most < v * base + (b - 48) → read_from base most v (b ∷ bs) ≡ Bad
+  pub read-over : 1 ≤ base → most < v * base + (b - 48) → read_from base most v (b ∷ bs) ≡ None
   unfolding read_from value_from
   read-over one h =
       let over : most < value_from base (v * base + (b - 48)) bs = omega (arith, grows base (v * base + (b - 48)) bs one) in
@@ -197,7 +196,7 @@ value-front base b bs h =
     let one : 1 ≤ 0 * base + (b - 48) = omega arith in
     omega (arith, mul-le-mul_right (base ^ length bs) one, value-above base (0 * base + (b - 48)) bs)
 
-pub read-limit : (base most v : ℕ) (bs : List ℕ) → read_digits base most bs ≡ Value v → v ≤ most
+pub read-limit : (base most v : ℕ) (bs : List ℕ) → read_digits base most bs ≡ Some v → v ≤ most
 unfolding read_digits
 read-limit base most v bs h =
     let n : ℕ = value base bs in

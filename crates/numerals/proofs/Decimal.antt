@@ -1,4 +1,5 @@
 -- Decimal numbers: how many digits one has, that its text reads back, and that no other text does.
+use Rattle.std.specs.Prelude.{None, Some}
 use Prim.Native.Nat.{ℕ, zero, suc, ◌+◌, ◌*◌, ◌/◌, ◌%◌, ◌^◌, ◌≤◌, ◌<◌}
 use native.Mathlib.Nat.{le_refl, le_of_eq, pow-suc, one-le-pow, div-lt_iff_lt-mul, le-div_iff_mul-le, mod-eq_of_lt}
 use native.Mathlib.Omega.{arith}
@@ -17,7 +18,6 @@ use Rattle.numerals.specs.Pick.{pick, both}
 use Rattle.numerals.specs.Digits.{all_digits, value, lowest, on_value}
 use Rattle.numerals.specs.Inner.Digits.{read_digits}
 use Rattle.numerals.specs.Decimal.{no_leading_zero, is_numeral, number, width_in, width, decimal}
-use Rattle.numerals.specs.declared.digits.Number.TheVariants.{Value, Bad}
 
 -- n and its digits but the last, down to one digit
 pub by-tens : (P : ℕ → Type 0) → ((n : ℕ) → n < 10 → P n) → ((n : ℕ) → 10 ≤ n → P (n / 10) → P n) → (n : ℕ) → P n
@@ -126,7 +126,7 @@ first-digit n =
     rw (w, lowest-front 10 (suc l) n, lowest-front 10 l n, ne_eqb (48 + n / 10 ^ suc l % 10) 48 other))
 
 -- the text of a number in its limits is read as that number
-pub reads-back : (least most n : ℕ) → least ≤ n → n ≤ most → number least most (decimal n) ≡ Value n
+pub reads-back : (least most n : ℕ) → least ≤ n → n ≤ most → number least most (decimal n) ≡ Some n
 unfolding number is_numeral
 reads-back least most n h k =
     rw (first-digit n, all-decimal n, value-decimal n, le-leb least n h, le-leb n most k)
@@ -152,7 +152,7 @@ pub record Numeral (least most v : ℕ) (bs : List ℕ) : Type 0 where
   pub low : least ≤ v
   pub high : v ≤ most
 
-pub only-text : (least most v : ℕ) (bs : List ℕ) → number least most bs ≡ Value v → Numeral least most v bs
+pub only-text : (least most v : ℕ) (bs : List ℕ) → number least most bs ≡ Some v → Numeral least most v bs
 unfolding number is_numeral decimal
 only-text least most v bs h =
     let n : ℕ = value 10 bs in
@@ -175,7 +175,7 @@ only-text least most v bs h =
 pub number_read :
     (least most : ℕ) (bs : List ℕ)
     → no_leading_zero bs ≡ true
-    → number least most bs ≡ on_value (read_digits 10 most bs) (λ v. pick (leb least v) (Value v) Bad)
+    → number least most bs ≡ on_value (read_digits 10 most bs) (λ v. pick (leb least v) (Some v) None)
 unfolding number is_numeral read_digits on_value
 number_read least most bs h =
     rw h (tests (all_digits 10 bs) (leb least (value 10 bs)) (leb (value 10 bs) most) refl)
@@ -183,19 +183,19 @@ number_read least most bs h =
     tests :
         (d l m : Bool)
         → leb least (value 10 bs) ≡ l
-        → pick (both d (both l m)) (Value (value 10 bs)) Bad ≡ on_value (pick (both d m) (Value (value 10 bs)) Bad) (λ v. pick (leb least v) (Value v) Bad)
+        → pick (both d (both l m)) (Some (value 10 bs)) None ≡ on_value (pick (both d m) (Some (value 10 bs)) None) (λ v. pick (leb least v) (Some v) None)
     tests false l m e = refl
     tests true true true e = rw e
     tests true true false e = refl
     tests true false true e = rw e
     tests true false false e = refl
 
-pub number-none : (least most : ℕ) → number least most [] ≡ Bad
+pub number-none : (least most : ℕ) → number least most [] ≡ None
 unfolding number is_numeral no_leading_zero
 number-none least most = refl
 
 -- a zero leads, and more follows
-pub number-zero : (least most b c : ℕ) (bs : List ℕ) → b ≡ 48 → number least most (b ∷ c ∷ bs) ≡ Bad
+pub number-zero : (least most b c : ℕ) (bs : List ℕ) → b ≡ 48 → number least most (b ∷ c ∷ bs) ≡ None
 unfolding number is_numeral no_leading_zero
 number-zero least most b c bs h = rw h
 

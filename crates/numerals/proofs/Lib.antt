@@ -13,8 +13,9 @@ pub mod Writing
 pub mod Fields
 pub mod Place
 pub mod PlaceSums
-pub mod Suffix
+pub mod SuffixTexts
 pub mod Table
 pub mod Percent
 pub mod MoreDecimals
 pub mod Cases
+pub mod Exits

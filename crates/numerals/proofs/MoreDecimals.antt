@@ -1,5 +1,6 @@
 -- More decimals (document 02, Req 07): where j more may be written, a percentage that has no more than before stands for 10 ^ j times as many parts. And
 -- what is read has no more decimals than it may have.
+use Rattle.std.specs.Prelude.{None, Option, Some}
 use Prim.Native.Nat.{ℕ, ◌+◌, ◌-◌, ◌*◌, ◌^◌, ◌≤◌}
 use native.Mathlib.Nat.{one-le-pow, mul_assoc, mul_comm, mul-add}
 use native.Mathlib.Omega.{arith}
@@ -15,25 +16,23 @@ use Rattle.numerals.specs.Digits.{all_digits, value, on_value}
 use Rattle.numerals.specs.Decimal.{number}
 use Rattle.numerals.specs.Text.{split}
 use Rattle.numerals.specs.Percentage.{fraction, at_most_all, percent_of, percentage, few_decimals}
-use Rattle.numerals.specs.declared.digits.Number.{Number}
-use Rattle.numerals.specs.declared.digits.Number.TheVariants.{Value, Bad}
 use Rattle.numerals.proofs.Base.{picked, not-value, on_value_lem}
 use Rattle.numerals.proofs.Choice.{both_left, both_right}
 use Rattle.numerals.proofs.Scaled.{leb-scaled}
 
 -- what was read, m times as large
-abbrev pub scaled_number : ℕ → Number → Number
-scaled_number m (Value v) = Value (m * v)
-scaled_number m Bad = Bad
+abbrev pub scaled_number : ℕ → Option ℕ → Option ℕ
+scaled_number m (Some v) = Some (m * v)
+scaled_number m None = None
 
-pick-scaled : (m v : ℕ) (t : Bool) → pick t (Value (m * v)) Bad ≡ scaled_number m (pick t (Value v) Bad)
+pick-scaled : (m v : ℕ) (t : Bool) → pick t (Some (m * v)) None ≡ scaled_number m (pick t (Some v) None)
 pick-scaled m v true = refl
 pick-scaled m v false = refl
 
-on-scaled : (m : ℕ) (r : Number) (f g : ℕ → Number) → ((v : ℕ) → g v ≡ scaled_number m (f v)) → on_value r g ≡ scaled_number m (on_value r f)
+on-scaled : (m : ℕ) (r : (Option ℕ)) (f g : ℕ → (Option ℕ)) → ((v : ℕ) → g v ≡ scaled_number m (f v)) → on_value r g ≡ scaled_number m (on_value r f)
 unfolding on_value
-on-scaled m (Value v) f g h = h v
-on-scaled m Bad f g h = refl
+on-scaled m (Some v) f g h = h v
+on-scaled m None f g h = refl
 
 -- a product with a power of ten
 power-scaled : (x d j : ℕ) → x * 10 ^ (d + j) ≡ 10 ^ j * (x * 10 ^ d)
@@ -55,14 +54,14 @@ module _ (d j : ℕ) where
 
   -- the whole part and the fraction together
   summed :
-      (v : ℕ) (r : Number)
+      (v : ℕ) (r : (Option ℕ))
       → on_value (scaled_number (10 ^ j) r) (λ u. at_most_all (d + j) (v * 10 ^ (d + j) + u))
       ≡ scaled_number (10 ^ j) (on_value r (λ u. at_most_all d (v * 10 ^ d + u)))
   unfolding on_value
-  summed v (Value u) =
+  summed v (Some u) =
       let sum : v * 10 ^ (d + j) + 10 ^ j * u ≡ 10 ^ j * (v * 10 ^ d + u) = omega (arith, power-scaled v d j, mul-add (10 ^ j) (v * 10 ^ d) u) in
       ap (at_most_all (d + j)) sum ∙ all-scaled (v * 10 ^ d + u)
-  summed v Bad = refl
+  summed v None = refl
 
   parts-scaled : (ps : List (List ℕ)) → length (get_or ps 1 []) ≤ d → percent_of (d + j) ps ≡ scaled_number (10 ^ j) (percent_of d ps)
   unfolding percent_of
@@ -79,14 +78,14 @@ module _ (d j : ℕ) where
 
 -- what is read with up to d decimals has no more
 module _ (d : ℕ) where
-  fraction-few : (u : ℕ) (bs : List ℕ) → fraction d bs ≡ Value u → leb (length bs) d ≡ true
+  fraction-few : (u : ℕ) (bs : List ℕ) → fraction d bs ≡ Some u → leb (length bs) d ≡ true
   unfolding fraction
   fraction-few u bs h =
       let n : ℕ = length bs in
       let p = picked (both (ltb 0 n) (both (leb n d) (all_digits 10 bs))) (value 10 bs * 10 ^ (d - n)) u h in
       both_left (leb n d) (all_digits 10 bs) (both_right (ltb 0 n) (both (leb n d) (all_digits 10 bs)) p.0)
 
-  parts-few : (v : ℕ) (ps : List (List ℕ)) → percent_of d ps ≡ Value v → leb (length (get_or ps 1 [])) d ≡ true
+  parts-few : (v : ℕ) (ps : List (List ℕ)) → percent_of d ps ≡ Some v → leb (length (get_or ps 1 [])) d ≡ true
   unfolding percent_of
   parts-few v [] h = le-leb 0 d (omega arith)
   parts-few v (w ∷ []) h = le-leb 0 d (omega arith)
@@ -96,6 +95,6 @@ module _ (d : ℕ) where
       fraction-few u.0 f u.1
   parts-few v (w ∷ f ∷ g ∷ gs) h = not-value v h
 
-  pub percent-few : (v : ℕ) (bs : List ℕ) → percentage d bs ≡ Value v → few_decimals d bs ≡ true
+  pub percent-few : (v : ℕ) (bs : List ℕ) → percentage d bs ≡ Some v → few_decimals d bs ≡ true
   unfolding percentage few_decimals
   percent-few v bs h = parts-few v (split 46 bs) h

@@ -1,4 +1,5 @@
 -- Percentages: what the digits after the dot are read as, and where they end.
+use Rattle.std.specs.Prelude.{None, Some}
 use Prim.Native.Nat.{ℕ, ◌+◌, ◌-◌, ◌*◌, ◌^◌, ◌≤◌, ◌<◌}
 use native.Mathlib.Nat.{one-le-pow, pow-le-pow_right, mul-lt-mul_of_pos_right}
 use native.Mathlib.Omega.{arith}
@@ -16,16 +17,15 @@ use Rattle.numerals.specs.Inner.Digits.{read_digits}
 use Rattle.numerals.specs.Decimal.{number}
 use Rattle.numerals.specs.Text.{split, index_of}
 use Rattle.numerals.specs.Percentage.{fraction, at_most_all, percent_of, percentage}
-use Rattle.numerals.specs.declared.digits.Number.TheVariants.{Value, Bad}
 use Rattle.numerals.proofs.Choice.{by_less, both_left, both_right, both_false}
 use Rattle.numerals.proofs.Base.{picked, value-below}
 use Rattle.numerals.proofs.Fields.{split-some, cut, cut-last, cut-part}
 
-pub fraction-none : (d : ℕ) → fraction d [] ≡ Bad
+pub fraction-none : (d : ℕ) → fraction d [] ≡ None
 unfolding fraction
 fraction-none d = refl
 
-pub fraction-long : (d : ℕ) (bs : List ℕ) → d < length bs → fraction d bs ≡ Bad
+pub fraction-long : (d : ℕ) (bs : List ℕ) → d < length bs → fraction d bs ≡ None
 unfolding fraction
 fraction-long d bs h = simp (lt-leb (length bs) d h, both_false)
 
@@ -34,22 +34,22 @@ pub fraction-read :
     (d : ℕ) (bs : List ℕ)
     → 1 ≤ length bs
     → length bs ≤ d
-    → fraction d bs ≡ on_value (read_digits 10 (10 ^ d - 1) bs) (λ v. Value (v * 10 ^ (d - length bs)))
+    → fraction d bs ≡ on_value (read_digits 10 (10 ^ d - 1) bs) (λ v. Some (v * 10 ^ (d - length bs)))
 unfolding fraction read_digits on_value
 fraction-read d bs h k = rw (lt-ltb 0 (length bs) h, le-leb (length bs) d k) (tests (all_digits 10 bs) refl)
   where
     tests :
         (t : Bool)
         → all_digits 10 bs ≡ t
-        → pick t (Value (value 10 bs * 10 ^ (d - length bs))) Bad
-        ≡ on_value (pick (both t (leb (value 10 bs) (10 ^ d - 1))) (Value (value 10 bs)) Bad) (λ v. Value (v * 10 ^ (d - length bs)))
+        → pick t (Some (value 10 bs * 10 ^ (d - length bs))) None
+        ≡ on_value (pick (both t (leb (value 10 bs) (10 ^ d - 1))) (Some (value 10 bs)) None) (λ v. Some (v * 10 ^ (d - length bs)))
     tests true e =
         let more : 10 ^ length bs ≤ 10 ^ d = pow-le-pow_right {n = 10} (omega arith) k in
         let small : value 10 bs ≤ 10 ^ d - 1 = omega (arith, value-below 10 bs (omega arith) e) in
         rw (le-leb (value 10 bs) (10 ^ d - 1) small)
     tests false e = refl
 
-pub fraction-below : (d u : ℕ) (bs : List ℕ) → fraction d bs ≡ Value u → u < 10 ^ d
+pub fraction-below : (d u : ℕ) (bs : List ℕ) → fraction d bs ≡ Some u → u < 10 ^ d
 unfolding fraction
 fraction-below d u bs h =
     let n : ℕ = length bs in
@@ -62,14 +62,14 @@ fraction-below d u bs h =
     omega (arith, p.1, whole, mul-lt-mul_of_pos_right below (one-le-pow (d - n) 10 (omega arith)))
 
 -- more than one dot
-percent-dots : (d : ℕ) (ps : List (List ℕ)) → 2 < length ps → percent_of d ps ≡ Bad
+percent-dots : (d : ℕ) (ps : List (List ℕ)) → 2 < length ps → percent_of d ps ≡ None
 unfolding percent_of
 percent-dots d [] h = refl
 percent-dots d (w ∷ []) h = absurd (omega arith)
 percent-dots d (w ∷ f ∷ []) h = absurd (omega arith)
 percent-dots d (w ∷ f ∷ g ∷ gs) h = refl
 
-pub percent-many : (d : ℕ) (bs : List ℕ) → 2 < length (split 46 bs) → percentage d bs ≡ Bad
+pub percent-many : (d : ℕ) (bs : List ℕ) → 2 < length (split 46 bs) → percentage d bs ≡ None
 unfolding percentage
 percent-many d bs h = percent-dots d (split 46 bs) h
 
@@ -97,12 +97,12 @@ module _ (d from to e : ℕ) (s : List ℕ) (k : to ≤ length s) (is : e ≡ fr
         (sym (cut-part 46 (e + 1) to n s k next last))
 
     -- a second dot
-    pub percent-two : n < to → percentage d (slice from to s) ≡ Bad
+    pub percent-two : n < to → percentage d (slice from to s) ≡ None
     percent-two l =
         percent-many d (slice from to s)
         (omega (arith, ap length parts, ap length (cut 46 (e + 1) to n s k next l), split-some 46 (slice (n + 1) to s)))
 
-  pub percent-bad : number 0 999 (slice from e s) ≡ Bad → percentage d (slice from to s) ≡ Bad
+  pub percent-bad : number 0 999 (slice from e s) ≡ None → percentage d (slice from to s) ≡ None
   unfolding on_value
   percent-bad h =
       let n : ℕ = e + 1 + index_of 46 (slice (e + 1) to s) in

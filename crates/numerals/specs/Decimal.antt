@@ -1,9 +1,7 @@
 -- Numbers in texts (document 01, "Units and limits"): decimal, without leading zeros, a lone 0 allowed.
-use Rattle.std.specs.Prelude.{ℕ, zero, suc, ◌/◌, Bool, true, false, not, List, [], ◌∷◌, leb, ltb, eqb}
+use Rattle.std.specs.Prelude.{ℕ, zero, suc, ◌/◌, Bool, true, false, not, List, [], ◌∷◌, leb, ltb, eqb, None, Option, Some}
 use Rattle.numerals.specs.Pick.{pick, both}
 use Rattle.numerals.specs.Digits.{all_digits, value, lowest}
-use Rattle.numerals.specs.declared.digits.Number.{Number}
-use Rattle.numerals.specs.declared.digits.Number.TheVariants.{Value, Bad}
 
 -- something stands there, and no zero before other digits
 unfoldable pub no_leading_zero : List ℕ → Bool
@@ -15,9 +13,9 @@ unfoldable pub is_numeral : List ℕ → Bool
 is_numeral bs = both (no_leading_zero bs) (all_digits 10 bs)
 
 -- the number from least to most that a text is
-unfoldable pub number : ℕ → ℕ → List ℕ → Number
+unfoldable pub number : ℕ → ℕ → List ℕ → Option ℕ
 number least most bs =
-    pick (both (is_numeral bs) (both (leb least (value 10 bs)) (leb (value 10 bs) most))) (Value (value 10 bs)) Bad
+    pick (both (is_numeral bs) (both (leb least (value 10 bs)) (leb (value 10 bs) most))) (Some (value 10 bs)) None
 
 -- how many decimal digits n has, found in at most f steps
 unfoldable pub width_in : ℕ → ℕ → ℕ

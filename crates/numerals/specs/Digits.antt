@@ -1,12 +1,9 @@
 -- Digits of a base up to ten as bytes, the highest first: which bytes are digits, their value, and a number's lowest digits.
-use Rattle.std.specs.Prelude.{ℕ, zero, suc, ◌+◌, ◌-◌, ◌*◌, ◌/◌, ◌%◌, Bool, true, List, [], ◌∷◌, ◌++◌, leb, ltb, length}
+use Rattle.std.specs.Prelude.{ℕ, zero, suc, ◌+◌, ◌-◌, ◌*◌, ◌/◌, ◌%◌, Bool, true, List, [], ◌∷◌, ◌++◌, leb, ltb, length, Err, None, Ok, Option, Result, Some}
 use Rattle.numerals.specs.Pick.{pick, both}
 use Rattle.numerals.specs.Refusals.{no7}
 use Rattle.numerals.specs.Buffer.{filled}
-use Rattle.numerals.specs.declared.digits.Number.{Number}
-use Rattle.numerals.specs.declared.digits.Number.TheVariants.{Value, Bad}
-use Rattle.numerals.specs.declared.digits.Written.{Written}
-use Rattle.numerals.specs.declared.digits.Written.TheVariants.{End, Refused}
+use Rattle.numerals.specs.declared.refusal.Refusal.{Refusal}
 
 -- the byte b is a digit of the base: 48 is '0'
 unfoldable pub is_digit : ℕ → ℕ → Bool
@@ -32,9 +29,9 @@ lowest base zero n = []
 lowest base (suc l) n = lowest base l (n / base) ++ (48 + n % base) ∷ []
 
 -- what follows a number that was read
-unfoldable pub on_value : Number → (ℕ → Number) → Number
-on_value (Value v) f = f v
-on_value Bad f = Bad
+unfoldable pub on_value : Option ℕ → (ℕ → (Option ℕ)) → Option ℕ
+on_value (Some v) f = f v
+on_value None f = None
 
 -- a lent buffer after the text bs was to be written into it at a position: where bs fits, its bytes from there on, and nothing else changed; where it
 -- doesn't, the buffer as it was
@@ -42,5 +39,5 @@ unfoldable pub put : List ℕ → ℕ → List ℕ → List ℕ
 put out at bs = filled (leb (at + length bs) (length out)) out at bs
 
 -- the answer of that: the position behind the text, or refusal 7
-unfoldable pub put_end : List ℕ → ℕ → List ℕ → Written
-put_end out at bs = pick (leb (at + length bs) (length out)) (End (at + length bs)) (Refused no7)
+unfoldable pub put_end : List ℕ → ℕ → List ℕ → Result ℕ Refusal
+put_end out at bs = pick (leb (at + length bs) (length out)) (Ok (at + length bs)) (Err no7)

@@ -10,7 +10,6 @@ mod refusal;
 mod suffixes;
 mod text;
 
-pub use digits::{Number, Written};
 pub use limits::{
     DECIMALS, MOST_BACKENDS, MOST_BITS, MOST_CAPACITY, MOST_ID, MOST_KNOWN, MOST_RULES,
     MOST_SERVICES, MOST_SUFFIXES, MOST_VOLUME, TEXT_LIMIT, TOTAL_LIMIT, UNIT,
@@ -18,6 +17,6 @@ pub use limits::{
 pub use numbers::{decimal_width, read_number, write_number};
 pub use percentages::read_percentage;
 pub use places::all_places;
-pub use refusal::{Refusal, refusal_number};
-pub use suffixes::{SuffixRead, read_suffix, suffix_place, write_suffix};
+pub use refusal::Refusal;
+pub use suffixes::{Suffix, read_suffix, suffix_place, write_suffix};
 pub use text::{count_fields, find};

@@ -4,57 +4,53 @@ ghost use Rattle.std.proofs.Math.Seq.{slice};
 ghost use Rattle.numerals.specs.Decimal.{number, width, decimal};
 ghost use Rattle.numerals.specs.Digits.{put, put_end};
 
-use crate::digits::{Number, Written};
 use crate::refusal::Refusal;
 
 // The number from least to most that stands between two positions.
-pub fn read_number(s: &[u8], from: usize, to: usize, least: u64, most: u64) -> Number
+pub fn read_number(s: &[u8], from: usize, to: usize, least: u64, most: u64) -> Option<u64>
     ensures { result ≡ number least most (slice from to s.now) }
 {
-    let end = crate::digits::least(to, s.len());
+    let end = to.min(s.len());
     if end <= from {
-        return Number::Bad;
+        return None;
     }
     if s[from] == 48 {
         if 1 < end - from {
-            return Number::Bad;
+            return None;
         }
     }
-    let read = crate::digits::read_digits(s, from, end, 10, most);
-    let Number::Value(v) = read else {
-        return Number::Bad;
-    };
+    let v = crate::digits::read_digits(s, from, end, 10, most)?;
     if v < least {
-        return Number::Bad;
+        return None;
     }
-    Number::Value(v)
+    Some(v)
 }
 
-// How many digits the text of n has.
+// How many digits the text of n has. A `while`, since it counts no index: it goes on until one digit is left.
 pub fn decimal_width(n: u64) -> usize
     ensures { result ≡ width n }
 {
     let mut rest = n;
     let mut w = 1;
     while 10 <= rest {
-        rest = rest / 10;
+        rest /= 10;
         w += 1;
     }
     w
 }
 
-// The text of n, written into a lent buffer at a position.
-pub fn write_number(out: &mut [u8], at: usize, n: u64) -> Written
+// The text of n, written into a lent buffer at a position: the position behind it, or why nothing was written.
+pub fn write_number(out: &mut [u8], at: usize, n: u64) -> Result<usize, Refusal>
     ensures answer { result ≡ put_end out.old at (decimal n) }
     ensures buffer { out.new ≡ put out.old at (decimal n) }
 {
     let w = decimal_width(n);
     if out.len() < at {
-        return Written::Refused(Refusal::ShortLoan);
+        return Err(Refusal::ShortLoan);
     }
     if out.len() - at < w {
-        return Written::Refused(Refusal::ShortLoan);
+        return Err(Refusal::ShortLoan);
     }
     crate::digits::write_digits(out, at, w, 10, n);
-    Written::End(at + w)
+    Ok(at + w)
 }

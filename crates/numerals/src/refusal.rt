@@ -2,43 +2,30 @@
 ghost use Rattle.std.specs.Prelude.{◌≡◌};
 ghost use Rattle.numerals.specs.Refusals.{number_of};
 
-#[derive(Clone, Copy)]
+// Each by its number there.
+#[derive(Clone, Copy, PartialEq, Eq)]
 pub enum Refusal {
-    Malformed,
-    BadField,
-    Unbalanced,
-    TooMany,
-    NoService,
-    TableShort,
-    ShortLoan,
-    UnknownService,
-    Order,
-    Miscount,
-    TooLong,
-    Depth,
-    Stuck,
-    Crowded,
+    Malformed = 1,
+    BadField = 2,
+    Unbalanced = 3,
+    TooMany = 4,
+    NoService = 5,
+    TableShort = 6,
+    ShortLoan = 7,
+    UnknownService = 8,
+    Order = 9,
+    Miscount = 10,
+    TooLong = 11,
+    Depth = 12,
+    Stuck = 13,
+    Crowded = 14,
 }
 
-// Its number there.
-#[tactic(auto, unfolding(crate::specs::Refusals::number_of))]
-pub fn refusal_number(why: Refusal) -> u64
-    ensures { result ≡ number_of why }
-{
-    match why {
-        Refusal::Malformed => 1,
-        Refusal::BadField => 2,
-        Refusal::Unbalanced => 3,
-        Refusal::TooMany => 4,
-        Refusal::NoService => 5,
-        Refusal::TableShort => 6,
-        Refusal::ShortLoan => 7,
-        Refusal::UnknownService => 8,
-        Refusal::Order => 9,
-        Refusal::Miscount => 10,
-        Refusal::TooLong => 11,
-        Refusal::Depth => 12,
-        Refusal::Stuck => 13,
-        Refusal::Crowded => 14,
+impl From<Refusal> for u64 {
+    ghost from_gives = { λ why n. n ≡ number_of why };
+
+    #[tactic(auto, unfolding(crate::specs::Refusals::number_of))]
+    fn from(why: Refusal) -> u64 {
+        why as u64
     }
 }

@@ -1,4 +1,5 @@
 -- The checks of a packing, service by service, and what they leave.
+use Rattle.std.specs.Prelude.{Err, Ok}
 use Prim.Native.Nat.{ℕ, zero, suc, ◌+◌, ◌-◌, ◌≤◌, ◌<◌, min, max}
 use mathlib.Core.List.{List, [], ◌∷◌}
 use mathlib.Core.Path.{◌≡◌, refl, sym, ap, ◌∙◌}
@@ -12,7 +13,6 @@ use Rattle.expansion.specs.Answer.{and_then, or_else, in_limits, check_weights}
 use Rattle.numerals.specs.Limits.{most_bits, most_backends, most_services, most_rules, most_capacity, most_volume, unit}
 use Rattle.numerals.specs.declared.refusal.Refusal.{Refusal}
 use Rattle.numerals.specs.declared.refusal.Refusal.TheVariants.{Malformed, BadField, TooMany, NoService, TableShort}
-use Rattle.expansion.specs.declared.call.Checked.TheVariants.{Sound as Passed, Refused as Failed}
 use Rattle.expansion.proofs.Checks.{both-passed, test-passed, limits, Weighed, weights-passed, call-weights}
 use Rattle.expansion.specs.Imbalance.{backends, label, weight}
 use Rattle.numerals.proofs.Searches.{true-both}
@@ -61,20 +61,20 @@ unfolding check_from
 from_step volumes sizes ids ws s at l m =
     rw (drop-cons volumes s 0 l, drop-cons sizes s 0 m, check_from, drop-drop (get_or sizes s 0) at ids, drop-drop (get_or sizes s 0) at ws)
 
-from-many : (s : ℕ) (vs ns ids ws : List ℕ) → most_services ≤ s → 0 < max (length vs) (length ns) → check_from s vs ns ids ws ≡ Failed TooMany
+from-many : (s : ℕ) (vs ns ids ws : List ℕ) → most_services ≤ s → 0 < max (length vs) (length ns) → check_from s vs ns ids ws ≡ Err TooMany
 unfolding check_from
 from-many s [] [] ids ws h l = absurd (omega arith)
 from-many s [] (n ∷ ns) ids ws h l = simp (le-ltb s most_services h)
 from-many s (v ∷ vs) [] ids ws h l = simp (le-ltb s most_services h)
 from-many s (v ∷ vs) (n ∷ ns) ids ws h l = simp (le-ltb s most_services h)
 
-from-no-volume : (s : ℕ) (vs ns ids ws : List ℕ) → s < most_services → length vs ≡ 0 → 0 < length ns → check_from s vs ns ids ws ≡ Failed Malformed
+from-no-volume : (s : ℕ) (vs ns ids ws : List ℕ) → s < most_services → length vs ≡ 0 → 0 < length ns → check_from s vs ns ids ws ≡ Err Malformed
 unfolding check_from
 from-no-volume s [] [] ids ws h e l = absurd (omega arith)
 from-no-volume s [] (n ∷ ns) ids ws h e l = simp (lt-ltb s most_services h)
 from-no-volume s (v ∷ vs) ns ids ws h e l = absurd (omega arith)
 
-from-no-size : (s : ℕ) (vs ns ids ws : List ℕ) → s < most_services → length ns ≡ 0 → 0 < length vs → check_from s vs ns ids ws ≡ Failed Malformed
+from-no-size : (s : ℕ) (vs ns ids ws : List ℕ) → s < most_services → length ns ≡ 0 → 0 < length vs → check_from s vs ns ids ws ≡ Err Malformed
 unfolding check_from
 from-no-size s [] ns ids ws h e l = absurd (omega arith)
 from-no-size s (v ∷ vs) [] ids ws h e l = simp (lt-ltb s most_services h)
@@ -97,18 +97,18 @@ module _ (volumes sizes ids ws : List ℕ) (s at : ℕ)
   unfolding check_services
   services-left = simp before
 
-  pub services-many : s < max (length volumes) (length sizes) → most_services ≤ s → check_services volumes sizes ids ws ≡ Failed TooMany
+  pub services-many : s < max (length volumes) (length sizes) → most_services ≤ s → check_services volumes sizes ids ws ≡ Err TooMany
   services-many l h =
       services-left
       ∙ simp (from-many s (drop s volumes) (drop s sizes) (drop at ids) (drop at ws) h (omega (arith, length-drop s volumes, length-drop s sizes)))
 
-  pub services-no-volume : s < most_services → length volumes ≤ s → s < length sizes → check_services volumes sizes ids ws ≡ Failed Malformed
+  pub services-no-volume : s < most_services → length volumes ≤ s → s < length sizes → check_services volumes sizes ids ws ≡ Err Malformed
   services-no-volume h l m =
       services-left
       ∙ simp (from-no-volume s (drop s volumes) (drop s sizes) (drop at ids) (drop at ws) h (omega (arith, length-drop s volumes))
       (omega (arith, length-drop s sizes)))
 
-  pub services-no-size : s < most_services → s < length volumes → length sizes ≤ s → check_services volumes sizes ids ws ≡ Failed Malformed
+  pub services-no-size : s < most_services → s < length volumes → length sizes ≤ s → check_services volumes sizes ids ws ≡ Err Malformed
   services-no-size h l m =
       services-left
       ∙ simp (from-no-size s (drop s volumes) (drop s sizes) (drop at ids) (drop at ws) h (omega (arith, length-drop s sizes))
@@ -116,13 +116,13 @@ module _ (volumes sizes ids ws : List ℕ) (s at : ℕ)
 
   module _ (place : s < most_services) (volume : s < length volumes) (size : s < length sizes) where
     pub services-failed :
-        (why : Refusal) → check_service (get_or volumes s 0) (get_or sizes s 0) (drop at ids) (drop at ws) ≡ Failed why
-        → check_services volumes sizes ids ws ≡ Failed why
+        (why : Refusal) → check_service (get_or volumes s 0) (get_or sizes s 0) (drop at ids) (drop at ws) ≡ Err why
+        → check_services volumes sizes ids ws ≡ Err why
     services-failed why e =
         services-left ∙ simp (from_step volumes sizes ids ws s at volume size, lt-ltb s most_services place, e)
 
     pub services-passed :
-        check_service (get_or volumes s 0) (get_or sizes s 0) (drop at ids) (drop at ws) ≡ Passed
+        check_service (get_or volumes s 0) (get_or sizes s 0) (drop at ids) (drop at ws) ≡ Ok tt
         → check_from 0 volumes sizes ids ws
         ≡ check_from (s + 1) (drop (s + 1) volumes) (drop (s + 1) sizes) (drop (at + get_or sizes s 0) ids) (drop (at + get_or sizes s 0) ws)
     services-passed e = before ∙ from_step volumes sizes ids ws s at volume size ∙ simp (lt-ltb s most_services place, e, add-one)
@@ -145,11 +145,11 @@ pub record Known (v n : ℕ) (ids ws : List ℕ) : Type 0 where
   pub volume : v ≤ most_volume
   pub some : 1 ≤ n
   pub few : n ≤ most_backends
-  pub weighed : check_weights ids ws ≡ Passed
+  pub weighed : check_weights ids ws ≡ Ok tt
 
 -- its ids and weights stand in their rows too
 pub service-passed :
-    (v n : ℕ) (ids ws : List ℕ) → check_service v n ids ws ≡ Passed
+    (v n : ℕ) (ids ws : List ℕ) → check_service v n ids ws ≡ Ok tt
     → (n ≤ min (length ids) (length ws)) × Known v n (take n ids) (take n ws)
 unfolding check_service
 service-passed v n ids ws e =
@@ -182,8 +182,8 @@ pub record Placed (j : ℕ) (vs ns ids ws : List ℕ) (i : ℕ) : Type 0 where
 
 -- the first of the services and the rest
 from_first :
-    (s v n : ℕ) (vs ns ids ws : List ℕ) → check_from s (v ∷ vs) (n ∷ ns) ids ws ≡ Passed
-    → Placed s (v ∷ vs) (n ∷ ns) ids ws 0 × (n ≤ min (length ids) (length ws)) × (check_from (suc s) vs ns (drop n ids) (drop n ws) ≡ Passed)
+    (s v n : ℕ) (vs ns ids ws : List ℕ) → check_from s (v ∷ vs) (n ∷ ns) ids ws ≡ Ok tt
+    → Placed s (v ∷ vs) (n ∷ ns) ids ws 0 × (n ≤ min (length ids) (length ws)) × (check_from (suc s) vs ns (drop n ids) (drop n ws) ≡ Ok tt)
 unfolding check_from start part
 from_first s v n vs ns ids ws e =
     let rest = check_from (suc s) vs ns (drop n ids) (drop n ws) in
@@ -200,13 +200,13 @@ from_first s v n vs ns ids ws e =
     )
 
 -- a service that lacks its volume or its size doesn't pass
-none-alone : (s : ℕ) → and_then (or_else (ltb s most_services) TooMany) (Failed Malformed) ≡ Passed → ⊥
+none-alone : (s : ℕ) → and_then (or_else (ltb s most_services) TooMany) (Err Malformed) ≡ Ok tt → ⊥
 none-alone s e =
-    let p = both-passed (or_else (ltb s most_services) TooMany) (Failed Malformed) e in
+    let p = both-passed (or_else (ltb s most_services) TooMany) (Err Malformed) e in
     let z : ◌≡◌ {A = ℕ} 0 1 = cc p.1 in
     omega arith
 
-pub from-same : (s : ℕ) (vs ns ids ws : List ℕ) → check_from s vs ns ids ws ≡ Passed → length vs ≡ length ns
+pub from-same : (s : ℕ) (vs ns ids ws : List ℕ) → check_from s vs ns ids ws ≡ Ok tt → length vs ≡ length ns
 unfolding check_from
 from-same s [] [] ids ws e = refl
 from-same s [] (n ∷ ns) ids ws e = absurd (none-alone s e)
@@ -215,7 +215,7 @@ from-same s (v ∷ vs) (n ∷ ns) ids ws e =
     ap suc (from-same (suc s) vs ns (drop n ids) (drop n ws) (from_first s v n vs ns ids ws e).2)
 
 from-passed :
-    (s : ℕ) (vs ns ids ws : List ℕ) → check_from s vs ns ids ws ≡ Passed → (i j : ℕ) → s + i ≡ j → i < length ns
+    (s : ℕ) (vs ns ids ws : List ℕ) → check_from s vs ns ids ws ≡ Ok tt → (i j : ℕ) → s + i ≡ j → i < length ns
     → Placed j vs ns ids ws i
 unfolding start
 from-passed s vs [] ids ws e i j h l = absurd (omega arith)
@@ -245,7 +245,7 @@ pub record Accepted (k tolerance capacity : ℕ) (volumes sizes ids ws : List �
   pub each : (s : ℕ) → s < length sizes → Placed s volumes sizes ids ws s
 
 pub all-passed :
-    (k tolerance capacity : ℕ) (volumes sizes ids ws : List ℕ) → check_all k tolerance capacity volumes sizes ids ws ≡ Passed
+    (k tolerance capacity : ℕ) (volumes sizes ids ws : List ℕ) → check_all k tolerance capacity volumes sizes ids ws ≡ Ok tt
     → Accepted k tolerance capacity volumes sizes ids ws
 unfolding check_all check_head check_services
 all-passed k tolerance capacity volumes sizes ids ws e =

@@ -1,4 +1,5 @@
 -- The lists of all services, each stored in its places, are those of the definitions; a list stored for a later service leaves them.
+use Rattle.std.specs.Prelude.{Ok, Result}
 use Prim.Native.Nat.{ℕ, zero, suc, ◌+◌, ◌-◌, ◌*◌, ◌^◌, ◌≤◌, ◌<◌, min}
 use mathlib.Core.Bool.{Bool, false}
 use mathlib.Core.List.{List, [], ◌∷◌, ◌++◌, map, reverse}
@@ -20,9 +21,6 @@ use Rattle.numerals.specs.Limits.{most_rules, unit}
 use Rattle.expansion.specs.Inner.Lists.{no_rule}
 use Rattle.expansion.specs.declared.rule.Rule.{Rule}
 use Rattle.expansion.specs.declared.rule.Record.{Record}
-use Rattle.expansion.specs.declared.call.Checked.TheVariants.{Sound as Passed}
-use Rattle.expansion.specs.declared.call.Expanded.{Expanded}
-use Rattle.expansion.specs.declared.call.Expanded.TheVariants.{Made}
 use Rattle.numerals.proofs.Sums.{sum-zero, count-const}
 use Rattle.expansion.proofs.Turns.{length-le}
 use Rattle.packing.specs.Count.{services, targets_of}
@@ -32,6 +30,7 @@ use Rattle.packing.specs.Inner.Lists.{stride, place_of, rule_at, ListedTo, part,
 use Rattle.expansion.specs.Inner.Sound.{Labelled}
 use Rattle.expansion.proofs.Checks.{call-passed}
 use Rattle.packing.proofs.Checks.{chunk-at}
+use Rattle.numerals.specs.declared.refusal.Refusal.{Refusal}
 
 -- stores from a position on
 
@@ -97,7 +96,7 @@ stair-none F rs labelled =
 
 -- each backend of a call that passed has its id
 made-labelled :
-    (k tolerance : ℕ) (ids ws : List ℕ) → check_call k tolerance most_rules ids ws ≡ Passed
+    (k tolerance : ℕ) (ids ws : List ℕ) → check_call k tolerance most_rules ids ws ≡ Ok tt
     → Labelled (label (frame_made k tolerance ids ws).targets) (backends (frame_made k tolerance ids ws).targets)
 unfolding frame_made frame backends label
 made-labelled k tolerance ids ws passed = (call-passed k tolerance most_rules ids ws passed).0.named
@@ -208,8 +207,8 @@ entries_none k tolerance sizes ids ws lens values backends stairs counts ends = 
 
 -- a call of the expansion that passes its checks and has the room makes the list
 made-answer :
-    (k tolerance : ℕ) (ids ws : List ℕ) (at room : ℕ) → check_call k tolerance most_rules ids ws ≡ Passed → at + most_rules ≤ room
-    → answer k tolerance most_rules ids ws at room ≡ Made (record_made k tolerance most_rules ids ws)
+    (k tolerance : ℕ) (ids ws : List ℕ) (at room : ℕ) → check_call k tolerance most_rules ids ws ≡ Ok tt → at + most_rules ≤ room
+    → answer k tolerance most_rules ids ws at room ≡ Ok (record_made k tolerance most_rules ids ws)
 unfolding answer
 made-answer k tolerance ids ws at room passed fits =
     simp (
@@ -219,19 +218,19 @@ made-answer k tolerance ids ws at room passed fits =
 
 -- one list more, as the expansion answers for the ids and weights of service s
 module _ (k tolerance : ℕ) (sizes ids ws : List ℕ) (s : ℕ) (lens values backends stairs : List ℕ)
-    (passed : check_call k tolerance most_rules (part sizes ids s) (part sizes ws s) ≡ Passed)
+    (passed : check_call k tolerance most_rules (part sizes ids s) (part sizes ws s) ≡ Ok tt)
     (fits : place_of s 1 + most_rules ≤ min (min (length lens) (length values)) (min (length backends) (length stairs)))
-    (own_ids own : List ℕ) (are_ids : own_ids ≡ part sizes ids s) (is : own ≡ part sizes ws s) (r : Expanded)
+    (own_ids own : List ℕ) (are_ids : own_ids ≡ part sizes ids s) (is : own ≡ part sizes ws s) (r : (Result Record Refusal))
     (answered :
     r ≡ answer k tolerance most_rules own_ids own (place_of s 1) (min (min (length lens) (length values)) (min (length backends) (length stairs)))) where
-  pub made : r ≡ Made (record_made k tolerance most_rules (part sizes ids s) (part sizes ws s))
+  pub made : r ≡ Ok (record_made k tolerance most_rules (part sizes ids s) (part sizes ws s))
   made =
       answered
       ∙ rw (are_ids, is) (made-answer k tolerance (part sizes ids s) (part sizes ws s) (place_of s 1)
       (min (min (length lens) (length values)) (min (length backends) (length stairs))) passed fits)
 
   pub entries-more :
-      (m : Record) → r ≡ Made m → (counts ends : List ℕ) → s < min (length counts) (length ends)
+      (m : Record) → r ≡ Ok m → (counts ends : List ℕ) → s < min (length counts) (length ends)
       → Entries k tolerance sizes ids ws s lens values backends stairs counts ends
       → (lens' values' backends' stairs' : List ℕ)
       → lens' ≡ filled (is_made r) lens (place_of s 1) (lens_made k tolerance most_rules own_ids own)
@@ -310,7 +309,7 @@ module _ (k tolerance : ℕ) (volumes sizes ids ws : List ℕ) (s : ℕ) (inside
 
   -- with that before any rule
   stairs-from :
-      check_call k tolerance most_rules (part sizes ids s) (part sizes ws s) ≡ Passed → (l : List ℕ) → get_or l (stride * s) 0 ≡ 0
+      check_call k tolerance most_rules (part sizes ids s) (part sizes ws s) ≡ Ok tt → (l : List ℕ) → get_or l (stride * s) 0 ≡ 0
       → Column l s (stairs_made k tolerance most_rules (part sizes ids s) (part sizes ws s)) → (c : ℕ)
       → c ≤ length (list_for (services_of k volumes sizes ids ws) tolerance s)
       → get_or l (place_of s c) 0

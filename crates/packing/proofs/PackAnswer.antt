@@ -1,4 +1,5 @@
 -- What the packing answers, where the lists and the grants are those that the program keeps.
+use Rattle.std.specs.Prelude.{Err, Ok, Result, IfOk}
 use Prim.Native.Nat.{ℕ, ◌*◌, ◌≤◌, ◌<◌}
 use mathlib.Core.Path.{◌≡◌, refl, ap₂, ◌∙◌}
 use mathlib.Core.Bool.{Bool, true, false}
@@ -13,44 +14,42 @@ use Rattle.numerals.specs.declared.refusal.Refusal.{Refusal}
 use Rattle.numerals.specs.declared.refusal.Refusal.TheVariants.{ShortLoan}
 use Rattle.expansion.specs.Steps.{Frame}
 use Rattle.expansion.specs.declared.rule.Rule.{Rule}
-use Rattle.expansion.specs.declared.call.Checked.TheVariants.{Sound as Passed, Refused as Failed}
 use Rattle.numerals.proofs.Sums.{sum-ext}
 use Rattle.packing.specs.Grants.{Grants, total}
 use Rattle.packing.specs.Count.{services, volume}
 use Rattle.packing.specs.Table.{frame_of, list_for, table, problem, granted, one_each}
-use Rattle.packing.specs.Answer.{services_with, services_of, check_all, lines_made, packed_of, figures_of, cells_of, Demanded, no_buffer, figures_buffer}
-use Rattle.packing.specs.Answer.{table_buffer, written, answer, OnMade}
+use Rattle.packing.specs.Answer.{services_with, services_of, check_all, lines_made, packed_of, figures_of, cells_of, Demanded, no_buffer, about, figures_buffer}
+use Rattle.packing.specs.Answer.{table_buffer, written, answer}
 use Rattle.packing.specs.Inner.Lists.{places, Listed, Granted}
 use Rattle.packing.specs.Inner.Stored.{stored_total, stored_lines, stored_figures, stored_table, held, AllPayable, Started, Allotted, Counted, Writable}
 use Rattle.packing.specs.declared.answer.Packed.{Packed}
-use Rattle.packing.specs.declared.answer.Packing.{Packing}
-use Rattle.packing.specs.declared.answer.Packing.TheVariants.{Made, Refused}
 use Rattle.packing.proofs.Demand.{granted-fitting, one-fits, demand}
 use Rattle.packing.proofs.Checks.{Accepted, balanced, volume-le}
 use Rattle.packing.proofs.StoredCosts.{granted-kept, total_kept, all-payable, all-started, stair-low, stair-down}
 use Rattle.packing.proofs.Written.{table_kept, lines-kept, lines-le, figures-kept, counted}
+use Rattle.packing.specs.declared.answer.NotPacked.{NotPacked}
 
 -- what holds of the table holds of an answer that it was made
 module _ (claim : Packed → Type 0) (p : Packed) where
-  chosen : (t u : Bool) → claim p → OnMade (pick t (pick u (Made p) (Refused ShortLoan table_buffer)) (Refused ShortLoan figures_buffer)) claim
+  chosen : (t u : Bool) → claim p → IfOk (pick t (pick u (Ok p) (Err (about table_buffer ShortLoan))) (Err (about figures_buffer ShortLoan))) claim
   chosen true true d = d
   chosen true false d = tt
   chosen false u d = tt
 
-  pub claimed : (n figures_room table_room : ℕ) (r : Packing) → r ≡ written p n figures_room table_room → claim p → OnMade r claim
+  pub claimed : (n figures_room table_room : ℕ) (r : Result Packed NotPacked) → r ≡ written p n figures_room table_room → claim p → IfOk r claim
   unfolding written
   claimed n figures_room table_room r e d = rw e (chosen (leb (3 * n) figures_room) (leb (4 * p.rules) table_room) d)
 
 -- the answer by what the checks found
 module _ (k tolerance capacity : ℕ) (volumes sizes ids ws : List ℕ) (figures_room table_room : ℕ) where
   pub answer-refused :
-      (why : Refusal) → check_all k tolerance capacity volumes sizes ids ws ≡ Failed why
-      → answer k tolerance capacity volumes sizes ids ws figures_room table_room ≡ Refused why no_buffer
+      (why : Refusal) → check_all k tolerance capacity volumes sizes ids ws ≡ Err why
+      → answer k tolerance capacity volumes sizes ids ws figures_room table_room ≡ Err (about no_buffer why)
   unfolding answer
   answer-refused why e = rw e
 
   pub answer-passed :
-      check_all k tolerance capacity volumes sizes ids ws ≡ Passed → (p : Packed)
+      check_all k tolerance capacity volumes sizes ids ws ≡ Ok tt → (p : Packed)
       → p ≡ packed_of (services_of k volumes sizes ids ws) tolerance capacity
       → written p (length volumes) figures_room table_room
       ≡ answer k tolerance capacity volumes sizes ids ws figures_room table_room

@@ -6,11 +6,13 @@ use native.Mathlib.Decide.{le_ind}
 use native.Mathlib.Nat.{add-zero}
 use native.Mathlib.Numerals.{add-one}
 use native.Mathlib.Omega.{arith}
-use lib.ListN.{length, get_or, set, length-append}
+use lib.ListN.{length, get_or, set, take, length-append}
 use lib.Seq.{sets}
+use Rattle.std.specs.List.{sum}
+use Rattle.std.proofs.lemmas.List.Sums.{sum_by_more}
 use Rattle.numerals.specs.Sums.{sum_to}
 use Rattle.packing.specs.Inner.Lists.{place_of}
-use Rattle.packing.specs.Inner.Stored.{stored_figures, stored_cells, stored_table}
+use Rattle.packing.specs.Inner.Stored.{held, stored_figures, stored_cells, stored_table}
 
 -- a run after another one
 pub sets-append : (l : List ℕ) (i : ℕ) (a b : List ℕ) → sets l i (a ++ b) ≡ sets (sets l i a) (i + length a) b
@@ -23,6 +25,14 @@ sets-append l i (x ∷ a) b =
 pub sum-before : (n m : ℕ) (f : ℕ → ℕ) → n < m → sum_to n f + f n ≤ sum_to m f
 unfolding sum_to
 sum-before n m f l = le_ind (λ m. sum_to n f + f n ≤ sum_to m f) (omega arith) (λ m _ ih. omega (arith, ih)) m l
+
+-- the sum of the first n numbers of a list
+pub sum-held : (n : ℕ) (l : List ℕ) → n ≤ length l → sum (take n l) ≡ sum_to n (held l)
+unfolding sum_to
+sum-held zero l h = refl
+sum-held (suc n) l h =
+    let next : sum (take (suc n) l) ≡ sum (take n l) + get_or l n 0 = rw (← add-one n) (sum_by_more (λ x. x) l n 0 (omega arith)) in
+    next ∙ ap (λ (x : ℕ). x + get_or l n 0) (sum-held n l (omega arith))
 
 -- three figures to a service
 pub length-figures : (grants counts ends : List ℕ) (n : ℕ) → length (stored_figures grants counts ends n) ≡ 3 * n

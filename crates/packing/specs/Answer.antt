@@ -1,6 +1,6 @@
 -- The packing as a call (document 01, "Packing" and "Turned-back work"): what it checks, in the order of the sheet that would hold its numbers, what
 -- it answers, and what it writes.
-use Rattle.std.specs.Prelude.{ℕ, zero, suc, ◌*◌, Bool, true, false, List, [], ◌∷◌, ◌++◌, leb, ltb, eqb, length, take, drop}
+use Rattle.std.specs.Prelude.{ℕ, zero, suc, ◌*◌, Bool, true, false, List, [], ◌∷◌, ◌++◌, leb, ltb, eqb, length, take, drop, Err, Ok, Result}
 use Rattle.numerals.specs.Pick.{pick}
 use Rattle.expansion.specs.Answer.{and_then, or_else, in_limits, check_weights}
 use Rattle.numerals.specs.Limits.{most_bits, most_backends, most_services, most_capacity, most_volume, unit}
@@ -8,15 +8,13 @@ use Rattle.expansion.specs.Steps.{end_of}
 use Rattle.numerals.specs.Refusals.{no1, no2, no4, no5, no6, no7}
 use Rattle.expansion.specs.declared.rule.Ended.{Ended}
 use Rattle.expansion.specs.declared.rule.Ended.TheVariants.{Within, NoGain, Budget}
-use Rattle.expansion.specs.declared.call.Checked.{Checked}
-use Rattle.expansion.specs.declared.call.Checked.TheVariants.{Sound as Passed, Refused as Failed}
 use Rattle.packing.specs.Grants.{total}
 use Rattle.packing.specs.Count.{Line, Services, services}
 use Rattle.packing.specs.Table.{frame_of, list_for, table, problem, granted, one_each}
 use Rattle.packing.specs.Demand.{Demand}
 use Rattle.packing.specs.declared.answer.Packed.{Packed}
-use Rattle.packing.specs.declared.answer.Packing.{Packing}
-use Rattle.packing.specs.declared.answer.Packing.TheVariants.{Made, Refused}
+use Rattle.numerals.specs.declared.refusal.Refusal.{Refusal}
+use Rattle.packing.specs.declared.answer.NotPacked.{NotPacked}
 
 -- the ids or the weights of each service: they stand in one row, as many of each as its size says
 unfoldable pub chunks : List ℕ → List ℕ → List (List ℕ)
@@ -32,7 +30,7 @@ services_of k volumes sizes ids ws = services_with unit k volumes (chunks sizes 
 
 -- the line of one service, whose ids and weights are the first `size` of their rows: the field count (no weight is 1, a 33rd is 4, and a row that
 -- has not so many is 1), then the volume, the ids and weights, and the weights' sum
-unfoldable pub check_service : ℕ → ℕ → List ℕ → List ℕ → Checked
+unfoldable pub check_service : ℕ → ℕ → List ℕ → List ℕ → Result (Unit {0}) Refusal
 check_service volume size ids ws =
     and_then (or_else (ltb 0 size) no1)
     (and_then (or_else (leb size most_backends) no4)
@@ -43,30 +41,30 @@ check_service volume size ids ws =
 
 -- the lines of the services from s on, each with its volume and its size: a 65th is 4, one that lacks either has too few fields, and ids or weights
 -- left over stand on no service's line
-unfoldable pub check_from : ℕ → List ℕ → List ℕ → List ℕ → List ℕ → Checked
+unfoldable pub check_from : ℕ → List ℕ → List ℕ → List ℕ → List ℕ → Result (Unit {0}) Refusal
 check_from s [] [] ids ws = and_then (or_else (eqb (length ids) 0) no1) (or_else (eqb (length ws) 0) no1)
-check_from s [] (n ∷ ns) ids ws = and_then (or_else (ltb s most_services) no4) (Failed no1)
-check_from s (v ∷ vs) [] ids ws = and_then (or_else (ltb s most_services) no4) (Failed no1)
+check_from s [] (n ∷ ns) ids ws = and_then (or_else (ltb s most_services) no4) (Err no1)
+check_from s (v ∷ vs) [] ids ws = and_then (or_else (ltb s most_services) no4) (Err no1)
 check_from s (v ∷ vs) (n ∷ ns) ids ws =
     and_then (or_else (ltb s most_services) no4)
     (and_then (check_service v n ids ws)
     (check_from (suc s) vs ns (drop n ids) (drop n ws)))
 
 -- the lines of all services, then no service
-unfoldable pub check_services : List ℕ → List ℕ → List ℕ → List ℕ → Checked
+unfoldable pub check_services : List ℕ → List ℕ → List ℕ → List ℕ → Result (Unit {0}) Refusal
 check_services volumes sizes ids ws =
     and_then (check_from 0 volumes sizes ids ws)
     (or_else (ltb 0 (length volumes)) no5)
 
 -- the first line: k, tolerance and capacity
-unfoldable pub check_head : ℕ → ℕ → ℕ → Checked
+unfoldable pub check_head : ℕ → ℕ → ℕ → Result (Unit {0}) Refusal
 check_head k tolerance capacity =
     and_then (or_else (in_limits 1 most_bits k) no2)
     (and_then (or_else (leb tolerance unit) no2)
     (or_else (in_limits 1 most_capacity capacity) no2))
 
 -- the first line, the services line by line, no service, and a capacity below their number, which is that of the volumes once the lines passed
-unfoldable pub check_all : ℕ → ℕ → ℕ → List ℕ → List ℕ → List ℕ → List ℕ → Checked
+unfoldable pub check_all : ℕ → ℕ → ℕ → List ℕ → List ℕ → List ℕ → List ℕ → Result (Unit {0}) Refusal
 check_all k tolerance capacity volumes sizes ids ws =
     and_then (check_head k tolerance capacity)
     (and_then (check_services volumes sizes ids ws)
@@ -129,31 +127,30 @@ figures_buffer = 1
 abbrev pub table_buffer : ℕ
 table_buffer = 2
 
+-- a refusal that is about one of them, or about none
+abbrev pub about : ℕ → Refusal → NotPacked
+about buffer why = record { why = why; buffer = buffer }
+
 -- what is answered where all checks passed
-abbrev pub on_passed : Checked → Packing → Packing
-on_passed Passed made = made
-on_passed (Failed why) made = Refused why no_buffer
+abbrev pub on_passed : Result (Unit {0}) Refusal → Result Packed NotPacked → Result Packed NotPacked
+on_passed (Ok tt) made = made
+on_passed (Err why) made = Err (about no_buffer why)
 
 -- the answer with this table of n services, where there is room for so many figures and cells: 7 names the first buffer that is too short
-unfoldable pub written : Packed → ℕ → ℕ → ℕ → Packing
+unfoldable pub written : Packed → ℕ → ℕ → ℕ → Result Packed NotPacked
 written p n figures_room table_room =
     pick (leb (3 * n) figures_room)
-    (pick (leb (4 * p.rules) table_room) (Made p) (Refused no7 table_buffer))
-    (Refused no7 figures_buffer)
+    (pick (leb (4 * p.rules) table_room) (Ok p) (Err (about table_buffer no7)))
+    (Err (about figures_buffer no7))
 
 -- the answer of the whole call
-unfoldable pub answer : ℕ → ℕ → ℕ → List ℕ → List ℕ → List ℕ → List ℕ → ℕ → ℕ → Packing
+unfoldable pub answer : ℕ → ℕ → ℕ → List ℕ → List ℕ → List ℕ → List ℕ → ℕ → ℕ → Result Packed NotPacked
 answer k tolerance capacity volumes sizes ids ws figures_room table_room =
     let S = services_of k volumes sizes ids ws in
     on_passed (check_all k tolerance capacity volumes sizes ids ws)
     (written (packed_of S tolerance capacity) (services S) figures_room table_room)
 
 -- a table was made; only then are the lent buffers filled, from their start on
-abbrev pub is_made : Packing → Bool
-is_made (Made p) = true
-is_made (Refused why buffer) = false
-
--- a claim about a table that was made; of any other answer nothing is claimed
-abbrev pub OnMade : Packing → (Packed → Type 0) → Type 0
-OnMade (Made p) claim = claim p
-OnMade (Refused why buffer) claim = Unit {0}
+abbrev pub is_made : Result Packed NotPacked → Bool
+is_made (Ok p) = true
+is_made (Err r) = false

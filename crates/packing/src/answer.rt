@@ -1,4 +1,7 @@
 // What the packing answers.
+ghost use Rattle.std.specs.Prelude.{◌≡◌};
+ghost use Rattle.packing.specs.Answer.{about, no_buffer};
+
 use numerals::Refusal;
 
 // The number of rules in a table, and its total.
@@ -8,10 +11,18 @@ pub struct Packed {
     pub total: u64,
 }
 
-// What the packing answers: the table's measures, or why it is refused and the lent buffer that this is about:
-// figures 1, table 2, or 0 for none.
+// Why a packing is refused, and the lent buffer that this is about: figures 1, table 2, or 0 for none.
 #[derive(Drop)]
-pub enum Packing {
-    Made(Packed),
-    Refused(Refusal, usize),
+pub struct NotPacked {
+    pub why: Refusal,
+    pub buffer: usize,
+}
+
+// A refusal that is about no buffer.
+impl From<Refusal> for NotPacked {
+    ghost from_gives = { λ why r. r ≡ about no_buffer why };
+
+    fn from(why: Refusal) -> NotPacked {
+        NotPacked { why, buffer: 0 }
+    }
 }

@@ -1,11 +1,10 @@
 // The packing of services into one table, into lent buffers.
-ghost use Rattle.std.specs.Prelude.{◌≡◌, length};
+ghost use Rattle.std.specs.Prelude.{◌≡◌, length, IfOk};
 ghost use Rattle.numerals.specs.Buffer.{filled};
 ghost use Rattle.packing.specs.Answer as specified;
 
-use crate::answer::{Packed, Packing};
+use crate::answer::{NotPacked, Packed};
 use crate::lists::PLACES;
-use expansion::Checked;
 
 // The services' grants and table. `figures` takes three numbers for each service: its grant, the length of its list
 // and how the list ended (within 0, no gain 1, budget 2). `table` takes four for each line: the number of its service,
@@ -20,7 +19,7 @@ pub fn pack(
     weights: &[u64],
     figures: &mut [usize],
     table: &mut [usize],
-) -> Packing
+) -> Result<Packed, NotPacked>
     ensures answer { result ≡ specified.answer k tolerance capacity
         volumes.now sizes.now ids.now weights.now
         (length figures.old) (length table.old) }
@@ -30,14 +29,11 @@ pub fn pack(
     ensures table { table.new ≡ filled (specified.is_made result) table.old 0
         (specified.cells_of k tolerance capacity
         volumes.now sizes.now ids.now weights.now) }
-    ensures demand { specified.OnMade result (λ p.
+    ensures demand { IfOk result (λ p.
         specified.Demanded k tolerance capacity
         volumes.now sizes.now ids.now weights.now p.total) }
 {
-    let checked = crate::check::check_all(k, tolerance, capacity, volumes, sizes, ids, weights);
-    if let Checked::Refused(why) = checked {
-        return Packing::Refused(why, 0);
-    }
+    crate::check::check_all(k, tolerance, capacity, volumes, sizes, ids, weights)?;
     // what stands there first means nothing; ones are stored by the word, zeros by the byte
     let mut lens = [1usize; PLACES];
     let mut values = [1usize; PLACES];

@@ -1,99 +1,86 @@
 // The numbers of a packing, checked in the order of the percentage sheet that would hold them.
-ghost use Rattle.std.specs.Prelude.{◌≡◌, max};
+ghost use Rattle.std.specs.Prelude.{◌≡◌};
 ghost use Rattle.packing.specs.Answer.{check_head, check_service, check_services, check_all};
 
-use expansion::Checked;
 use numerals::Refusal;
 
 // k, tolerance and capacity.
-fn check_head(k: usize, tolerance: u64, capacity: usize) -> Checked
+fn check_head(k: usize, tolerance: u64, capacity: usize) -> Result<(), Refusal>
     ensures { result ≡ check_head k tolerance capacity }
 {
-    if k < 1 {
-        return Checked::Refused(Refusal::BadField);
-    }
-    if numerals::MOST_BITS < k {
-        return Checked::Refused(Refusal::BadField);
+    if !(1..=numerals::MOST_BITS).contains(&k) {
+        return Err(Refusal::BadField);
     }
     if numerals::UNIT < tolerance {
-        return Checked::Refused(Refusal::BadField);
+        return Err(Refusal::BadField);
     }
-    if capacity < 1 {
-        return Checked::Refused(Refusal::BadField);
+    if !(1..=numerals::MOST_CAPACITY).contains(&capacity) {
+        return Err(Refusal::BadField);
     }
-    if numerals::MOST_CAPACITY < capacity {
-        return Checked::Refused(Refusal::BadField);
-    }
-    Checked::Sound
+    Ok(())
 }
 
 // The line of one service, whose ids and weights are the first of their rows: how many they are, the volume, the ids
 // and weights, and the weights' sum.
-fn check_service(volume: u64, size: usize, ids: &[usize], weights: &[u64]) -> Checked
+fn check_service(volume: u64, size: usize, ids: &[usize], weights: &[u64]) -> Result<(), Refusal>
     ensures { result ≡ check_service volume size ids.now weights.now }
 {
     if size < 1 {
-        return Checked::Refused(Refusal::Malformed);
+        return Err(Refusal::Malformed);
     }
     if numerals::MOST_BACKENDS < size {
-        return Checked::Refused(Refusal::TooMany);
+        return Err(Refusal::TooMany);
     }
     if ids.len() < size {
-        return Checked::Refused(Refusal::Malformed);
+        return Err(Refusal::Malformed);
     }
     if weights.len() < size {
-        return Checked::Refused(Refusal::Malformed);
+        return Err(Refusal::Malformed);
     }
     if numerals::MOST_VOLUME < volume {
-        return Checked::Refused(Refusal::BadField);
+        return Err(Refusal::BadField);
     }
     expansion::check_weights(&ids[..size], &weights[..size])
-}
-
-fn longer(a: usize, b: usize) -> usize
-    ensures { result ≡ max a b }
-{
-    if a < b { b } else { a }
 }
 
 // Every service in turn; a 65th is one too many. The ids of all services stand in one row and their weights in another,
 // as many of each as `sizes` says. A service without a volume or a size has too few fields, and what is left of a row
 // is on no line.
-fn check_services(volumes: &[u64], sizes: &[usize], ids: &[usize], weights: &[u64]) -> Checked
+fn check_services(
+    volumes: &[u64],
+    sizes: &[usize],
+    ids: &[usize],
+    weights: &[u64],
+) -> Result<(), Refusal>
     ensures { result ≡ check_services
         volumes.now sizes.now ids.now weights.now }
 {
-    let lines = longer(volumes.len(), sizes.len());
+    let lines = volumes.len().max(sizes.len());
     let mut at = 0;
-    let mut s = 0;
-    while s < lines {
+    for s in 0..lines {
         if numerals::MOST_SERVICES <= s {
-            return Checked::Refused(Refusal::TooMany);
+            return Err(Refusal::TooMany);
         }
         if volumes.len() <= s {
-            return Checked::Refused(Refusal::Malformed);
+            return Err(Refusal::Malformed);
         }
         if sizes.len() <= s {
-            return Checked::Refused(Refusal::Malformed);
+            return Err(Refusal::Malformed);
         }
         let n = sizes[s];
-        let checked = check_service(volumes[s], n, &ids[at..], &weights[at..]);
-        if let Checked::Refused(why) = checked {
-            return Checked::Refused(why);
-        }
+        check_service(volumes[s], n, &ids[at..], &weights[at..])?;
         at += n;
-        s += 1;
     }
     if at < ids.len() {
-        return Checked::Refused(Refusal::Malformed);
+        return Err(Refusal::Malformed);
     }
     if at < weights.len() {
-        return Checked::Refused(Refusal::Malformed);
+        return Err(Refusal::Malformed);
     }
     if lines < 1 {
-        return Checked::Refused(Refusal::NoService);
+        return Err(Refusal::NoService);
     }
-    Checked::Sound
+    Ok(())
 }
 
 // Everything that is handed in; last the capacity against the number of services.
@@ -105,20 +92,14 @@ pub fn check_all(
     sizes: &[usize],
     ids: &[usize],
     weights: &[u64],
-) -> Checked
+) -> Result<(), Refusal>
     ensures { result ≡ check_all k tolerance capacity
         volumes.now sizes.now ids.now weights.now }
 {
-    let head = check_head(k, tolerance, capacity);
-    if let Checked::Refused(why) = head {
-        return Checked::Refused(why);
-    }
-    let services = check_services(volumes, sizes, ids, weights);
-    if let Checked::Refused(why) = services {
-        return Checked::Refused(why);
-    }
+    check_head(k, tolerance, capacity)?;
+    check_services(volumes, sizes, ids, weights)?;
     if capacity < volumes.len() {
-        return Checked::Refused(Refusal::TableShort);
+        return Err(Refusal::TableShort);
     }
-    Checked::Sound
+    Ok(())
 }

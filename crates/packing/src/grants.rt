@@ -1,5 +1,5 @@
 // The grants: the next rule goes, again and again, to the service whose next stair saves the most.
-ghost use Rattle.std.specs.Prelude.{◌≡◌, ◌<◌, ◌≤◌, min, length, get_or};
+ghost use Rattle.std.specs.Prelude.{◌≡◌, ◌<◌, ◌≤◌, length, get_or};
 ghost use Rattle.numerals.specs.Limits.{most_capacity};
 ghost use Rattle.numerals.specs.Sums.{sum_to};
 ghost use Rattle.packing.specs.Inner.Stored as stored;
@@ -8,13 +8,6 @@ ghost use Rattle.packing.specs.Inner.Tournament.{Tournament, Replaced, key_of, E
 
 use crate::lists::STRIDE;
 use crate::tournament::{LAST, LEAVES, NODES};
-
-// The lines of a service: as many as granted, or its whole list if that is shorter.
-pub fn lines_of(grant: usize, count: usize) -> usize
-    ensures { result ≡ min grant count }
-{
-    if grant < count { grant } else { count }
-}
 
 // What the next rule of a service saves: volume times the drop of its next stair, and 0 past the list's end.
 fn saving(volume: u64, stairs: &[u64], s: usize, count: usize, grant: usize) -> u64
@@ -59,26 +52,10 @@ fn enter_all(volumes: &[u64], stairs: &[u64], counts: &[usize], grants: &[usize]
         (length volumes.now) result }
 {
     let mut tree = [0u64; NODES];
-    let mut s = 0;
-    while s < volumes.len() {
-        enter(&mut tree, volumes, stairs, counts, grants, s);
-        s += 1;
+    for service in 0..volumes.len() {
+        enter(&mut tree, volumes, stairs, counts, grants, service);
     }
     tree
-}
-
-// The sum of the grants of n services.
-fn sum_of(grants: &[usize], n: usize) -> usize
-    requires { (n ≤ length grants.now) × (sum_to n (stored.held grants.now) ≤ most_capacity) }
-    ensures { result ≡ sum_to n (stored.held grants.now) }
-{
-    let mut sum = 0;
-    let mut s = 0;
-    while s < n {
-        sum += grants[s];
-        s += 1;
-    }
-    sum
 }
 
 // Each service has its least grant; further rules are granted until the capacity is used up or nothing is saved. The
@@ -98,31 +75,28 @@ pub fn grant_all(
         volumes.now stairs.now counts.now grants.new result }
 {
     let mut tree = enter_all(volumes, stairs, counts, grants);
-    let mut rules = sum_of(grants, volumes.len());
-    while rules < capacity {
+    let granted: usize = grants[..volumes.len()].iter().sum();
+    for rules in granted..capacity {
         if tree[1] < LEAVES as u64 {
             return rules;
         }
         let s = LAST - (tree[1] % LEAVES as u64) as usize;
-        grants[s] = grants[s] + 1;
+        grants[s] += 1;
         enter(&mut tree, volumes, stairs, counts, grants, s);
-        rules += 1;
     }
-    rules
+    capacity
 }
 
-// The sum of volume times imbalance.
+// The sum of volume times imbalance. A service has as many lines as granted, or its whole list if that is shorter.
 pub fn total_cost(volumes: &[u64], stairs: &[u64], counts: &[usize], grants: &[usize]) -> u64
     requires { AllPayable volumes.now stairs.now counts.now × (length volumes.now ≤ length grants.now) }
     ensures { result ≡ stored.stored_total
         volumes.now stairs.now counts.now grants.now }
 {
     let mut sum: u64 = 0;
-    let mut s: usize = 0;
-    while s < volumes.len() {
-        let c = lines_of(grants[s], counts[s]);
+    for s in 0..volumes.len() {
+        let c = grants[s].min(counts[s]);
         sum += volumes[s] * stairs[STRIDE * s + c];
-        s += 1;
     }
     sum
 }
@@ -133,10 +107,8 @@ pub fn all_lines(n: usize, grants: &[usize], counts: &[usize]) -> usize
     ensures { result ≡ sum_to n (stored.stored_lines grants.now counts.now) }
 {
     let mut lines = 0;
-    let mut s = 0;
-    while s < n {
-        lines += lines_of(grants[s], counts[s]);
-        s += 1;
+    for s in 0..n {
+        lines += grants[s].min(counts[s]);
     }
     lines
 }

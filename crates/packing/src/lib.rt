@@ -9,5 +9,5 @@ mod lists;
 mod output;
 mod tournament;
 
-pub use answer::{Packed, Packing};
+pub use answer::{NotPacked, Packed};
 pub use call::pack;

@@ -4,7 +4,7 @@ ghost use Rattle.std.specs.Prelude.{◌≡◌, ◌*◌, ◌≤◌, min, length};
 ghost use Rattle.packing.specs.Answer.{end_number};
 ghost use Rattle.packing.specs.Inner.Lists.{stride, Sized, ListedTo};
 
-use expansion::{Ended, Expanded};
+use expansion::Ended;
 
 // The places of one service, and of all.
 pub const STRIDE: usize = numerals::MOST_RULES + 1;
@@ -47,10 +47,8 @@ pub fn make_lists(
         counts.new ends.new }
 {
     let mut at = 0;
-    let mut s = 0;
-    while s < sizes.len() {
-        let n = sizes[s];
-        let made = expansion::expand(
+    for (s, &n) in sizes.iter().enumerate() {
+        let list = expansion::expand(
             k,
             tolerance,
             numerals::MOST_RULES,
@@ -61,15 +59,12 @@ pub fn make_lists(
             values,
             backends,
             stairs,
-        );
-        let Expanded::Made(list) = made else {
-            return;
-        };
+        )
+        .unwrap();
         stairs[STRIDE * s] = 0;
         counts[s] = list.rules;
         let ended = list.ended;
         ends[s] = end_number(ended);
         at += n;
-        s += 1;
     }
 }

@@ -7,8 +7,7 @@ ghost use Rattle.packing.specs.Answer.{written, is_made};
 ghost use Rattle.packing.specs.Inner.Lists.{places};
 ghost use Rattle.packing.specs.Inner.Stored.{stored_figures, stored_lines, stored_cells, stored_table, Tabled, Writable};
 
-use crate::answer::{Packed, Packing};
-use crate::grants::lines_of;
+use crate::answer::{NotPacked, Packed};
 use crate::lists::STRIDE;
 use numerals::Refusal;
 
@@ -35,10 +34,8 @@ fn write_figures(
     ensures { figures.new ≡ sets figures.old 0
         (stored_figures grants.now counts.now ends.now n) }
 {
-    let mut s = 0;
-    while s < n {
+    for s in 0..n {
         write_three(figures, 3 * s, grants[s], counts[s], ends[s]);
-        s += 1;
     }
 }
 
@@ -57,14 +54,11 @@ fn write_service(
     ensures { table.new ≡ sets table.old at
         (stored_cells lens.now values.now backends.now s lines) }
 {
-    let mut left = lines;
-    let mut i = at;
-    while 0 < left {
-        let from = STRIDE * s + left;
+    for line in 0..lines {
+        let from = STRIDE * s + (lines - line);
+        let i = at + 4 * line;
         table[i] = s + 1;
         write_three(table, i + 1, lens[from], values[from], backends[from]);
-        i += 4;
-        left -= 1;
     }
 }
 
@@ -84,12 +78,10 @@ fn write_lines(
         lens.now values.now backends.now n) }
 {
     let mut at = 0;
-    let mut s = 0;
-    while s < n {
-        let lines = lines_of(grants[s], counts[s]);
+    for s in 0..n {
+        let lines = grants[s].min(counts[s]);
         write_service(table, at, s, lines, lens, values, backends);
         at += 4 * lines;
-        s += 1;
     }
 }
 
@@ -105,7 +97,7 @@ pub fn write_out(
     lens: &[usize],
     values: &[usize],
     backends: &[usize],
-) -> Packing
+) -> Result<Packed, NotPacked>
     requires { Writable n packed.rules grants.now counts.now ends.now lens.now values.now backends.now }
     ensures answer { result ≡ written packed n (length figures.old) (length table.old) }
     ensures figures { figures.new ≡ filled (is_made result) figures.old 0
@@ -115,12 +107,18 @@ pub fn write_out(
         lens.now values.now backends.now n) }
 {
     if figures.len() < 3 * n {
-        return Packing::Refused(Refusal::ShortLoan, 1);
+        return Err(NotPacked {
+            why: Refusal::ShortLoan,
+            buffer: 1,
+        });
     }
     if table.len() < 4 * packed.rules {
-        return Packing::Refused(Refusal::ShortLoan, 2);
+        return Err(NotPacked {
+            why: Refusal::ShortLoan,
+            buffer: 2,
+        });
     }
     write_figures(figures, n, grants, counts, ends);
     write_lines(table, n, grants, counts, lens, values, backends);
-    Packing::Made(packed)
+    Ok(packed)
 }

@@ -1,4 +1,5 @@
 -- The field of a backend, id:percentage: it has two parts just where its first colon parts an id and a percentage, since no percentage has a colon.
+use Rattle.std.specs.Prelude.{None, Some}
 use Prim.Native.Nat.{ℕ, ◌+◌, ◌*◌, ◌^◌, ◌≤◌, ◌<◌}
 use mathlib.Core.Path.{◌≡◌, refl, sym, ap, ◌∙◌}
 use mathlib.Core.Bool.{Bool, true, false}
@@ -16,7 +17,6 @@ use Rattle.numerals.specs.Limits.{most_id, decimals, unit}
 use Rattle.numerals.specs.Percentage.{fraction, at_most_all, percent_of, percentage}
 use Rattle.numerals.specs.Refusals.{no2}
 use Rattle.numerals.specs.Text.{onto, split, index_of}
-use Rattle.numerals.specs.declared.digits.Number.TheVariants.{Value, Bad}
 use Rattle.numerals.proofs.Base.{digit-high, picked, not-value, on_value_lem}
 use Rattle.numerals.proofs.Choice.{by_less, both_left, both_right}
 use Rattle.numerals.proofs.Decimal.{only-text}
@@ -27,13 +27,13 @@ use Rattle.sheets.specs.Inner.SheetReader.{Named}
 
 -- a percentage is at most 100
 
-at_most : (d u v : ℕ) → at_most_all d u ≡ Value v → v ≤ 100 * 10 ^ d
+at_most : (d u v : ℕ) → at_most_all d u ≡ Some v → v ≤ 100 * 10 ^ d
 unfolding at_most_all
 at_most d u v h =
     let p = picked (leb u (100 * 10 ^ d)) u v h in
     rw (← p.1) (leb-true u (100 * 10 ^ d) p.0)
 
-parts-limit : (d v : ℕ) (ls : List (List ℕ)) → percent_of d ls ≡ Value v → v ≤ 100 * 10 ^ d
+parts-limit : (d v : ℕ) (ls : List (List ℕ)) → percent_of d ls ≡ Some v → v ≤ 100 * 10 ^ d
 unfolding percent_of
 parts-limit d v [] h = not-value v h
 parts-limit d v (w ∷ []) h =
@@ -44,7 +44,7 @@ parts-limit d v (w ∷ f ∷ []) h =
     at_most d (n.0 * 10 ^ d + u.0) v u.2
 parts-limit d v (w ∷ f ∷ g ∷ gs) h = not-value v h
 
-pub percent-limit : (d v : ℕ) (bs : List ℕ) → percentage d bs ≡ Value v → v ≤ 100 * 10 ^ d
+pub percent-limit : (d v : ℕ) (bs : List ℕ) → percentage d bs ≡ Some v → v ≤ 100 * 10 ^ d
 unfolding percentage
 percent-limit d v bs h = parts-limit d v (split 46 bs) h
 
@@ -57,14 +57,14 @@ digits-free (b ∷ bs) d =
     let low : b < 58 = digit-high 10 b (both_left (is_digit 10 b) (all_digits 10 bs) d) in
     (λ e. omega arith, digits-free bs (both_right (is_digit 10 b) (all_digits 10 bs) d))
 
-number-free : (least most v : ℕ) (bs : List ℕ) → number least most bs ≡ Value v → Free 58 bs
+number-free : (least most v : ℕ) (bs : List ℕ) → number least most bs ≡ Some v → Free 58 bs
 unfolding number is_numeral
 number-free least most v bs h =
     let limits : Bool = both (leb least (value 10 bs)) (leb (value 10 bs) most) in
     let is : is_numeral bs ≡ true = both_left (is_numeral bs) limits (picked (both (is_numeral bs) limits) (value 10 bs) v h).0 in
     digits-free bs (both_right (no_leading_zero bs) (all_digits 10 bs) is)
 
-fraction-free : (d u : ℕ) (bs : List ℕ) → fraction d bs ≡ Value u → Free 58 bs
+fraction-free : (d u : ℕ) (bs : List ℕ) → fraction d bs ≡ Some u → Free 58 bs
 unfolding fraction
 fraction-free d u bs h =
     let rest : Bool = both (leb (length bs) d) (all_digits 10 bs) in
@@ -93,7 +93,7 @@ split-free c d (b ∷ bs) n h = go (eqb b d) refl (split-free c d bs n)
         let o = onto-free c b (split d bs) (rw (split-later bs (eqb-false b d e)) at h) in
         (o.0, ih o.1)
 
-parts_free : (d v : ℕ) (ls : List (List ℕ)) → percent_of d ls ≡ Value v → AllFree 58 ls
+parts_free : (d v : ℕ) (ls : List (List ℕ)) → percent_of d ls ≡ Some v → AllFree 58 ls
 unfolding percent_of
 parts_free d v [] h = tt
 parts_free d v (w ∷ []) h =
@@ -104,7 +104,7 @@ parts_free d v (w ∷ f ∷ []) h =
     (number-free 0 999 n.0 w n.1, (fraction-free d u.0 f u.1, tt))
 parts_free d v (w ∷ f ∷ g ∷ gs) h = not-value v h
 
-pub percent-free : (d v : ℕ) (bs : List ℕ) → percentage d bs ≡ Value v → Free 58 bs
+pub percent-free : (d v : ℕ) (bs : List ℕ) → percentage d bs ≡ Some v → Free 58 bs
 unfolding percentage
 percent-free d v bs h = split-free 58 46 bs (λ e. omega arith) (parts_free d v (split 46 bs) h)
 
@@ -147,19 +147,19 @@ module _ (from to e : ℕ) (s : List ℕ) (k : to ≤ length s) (is : e ≡ from
         (λ l. field-two (cut-last 58 (e + 1) to n s k refl l) line fs ∙ bad)
 
     pub field-no-id :
-        number (before + 1) most_id (slice from e s) ≡ Bad → (line : ℕ) (fs : List (List ℕ))
+        number (before + 1) most_id (slice from e s) ≡ None → (line : ℕ) (fs : List (List ℕ))
         → weight_fields decimals line before (slice from to s ∷ fs) ≡ refused no2 line
     unfolding on_field
     field-no-id bad line fs = field-bad line fs (rw bad)
 
     pub field-no-weight :
-        (id : ℕ) → number (before + 1) most_id (slice from e s) ≡ Value id → percentage decimals (slice (e + 1) to s) ≡ Bad
+        (id : ℕ) → number (before + 1) most_id (slice from e s) ≡ Some id → percentage decimals (slice (e + 1) to s) ≡ None
         → (line : ℕ) (fs : List (List ℕ)) → weight_fields decimals line before (slice from to s ∷ fs) ≡ refused no2 line
     unfolding on_field
     field-no-weight id named bad line fs = field-bad line fs (rw (named, bad))
 
     pub field-got :
-        (id w : ℕ) → number (before + 1) most_id (slice from e s) ≡ Value id → percentage decimals (slice (e + 1) to s) ≡ Value w
+        (id w : ℕ) → number (before + 1) most_id (slice from e s) ≡ Some id → percentage decimals (slice (e + 1) to s) ≡ Some w
         → Named before (slice from to s) id w
     unfolding on_field unit
     field-got id w named weighed =

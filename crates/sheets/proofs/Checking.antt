@@ -1,4 +1,5 @@
 -- The check of a table that is no text, line by line: what one line more comes to, and the end.
+use Rattle.std.specs.Prelude.{Err, Ok, Result}
 use Prim.Native.Nat.{ℕ, ◌+◌, ◌*◌}
 use mathlib.Core.Path.{◌≡◌, refl, sym, ap, ◌∙◌}
 use mathlib.Core.Bool.{true, false}
@@ -18,8 +19,6 @@ use Rattle.sheets.specs.Inner.Order.{last_of, Behind, placing, PlacedAs}
 use Rattle.sheets.specs.Calls.{lines_from, broken_from}
 use Rattle.sheets.specs.Inner.Writing.{checked_from, checked_cells, CheckedLine}
 use Rattle.sheets.specs.declared.order.Last.{Last}
-use Rattle.sheets.specs.declared.order.Placed.{Placed}
-use Rattle.sheets.specs.declared.order.Placed.TheVariants.{Next, Refused}
 use Rattle.sheets.proofs.Following.{placed-next, placed-refused, last-count}
 use Rattle.sheets.proofs.Reader.{passed_none}
 
@@ -37,9 +36,9 @@ module _ (k broken : ℕ) (before : List Line) (l : Line) (ls : List Line) where
   line-next h p = rw (h, placed-next before l 0 (check_lines k (l ∷ before) ls) p)
 
 pub line-placed :
-    (k : ℕ) (before : List Line) (l : Line) (r : Placed) (tally : List ℕ) → is_line k l ≡ true → PlacedAs before l r tally → CheckedLine k before l r tally
-line-placed k before l (Next last) tally h p = (λ broken ls. line-next k broken before l ls h p.0, p.1)
-line-placed k before l (Refused why) tally h p = λ broken ls. line_refused k broken before l ls why h p
+    (k : ℕ) (before : List Line) (l : Line) (r : (Result Last Refusal)) (tally : List ℕ) → is_line k l ≡ true → PlacedAs before l r tally → CheckedLine k before l r tally
+line-placed k before l (Ok last) tally h p = (λ broken ls. line-next k broken before l ls h p.0, p.1)
+line-placed k before l (Err why) tally h p = λ broken ls. line_refused k broken before l ls why h p
 
 -- after the last line
 closed-last : (before : List Line) → closed before ≡ eqb (last_of before).len 0

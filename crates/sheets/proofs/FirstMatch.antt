@@ -1,4 +1,5 @@
 -- The first matching line of a service: it is found line by line, and a service of a proper table has one for every suffix, since its last line is a `*`.
+use Rattle.std.specs.Prelude.{Err, Ok}
 use Prim.Native.Nat.{ℕ, ◌%◌, ◌^◌, ◌≤◌, ◌<◌}
 use mathlib.Core.Path.{◌≡◌, refl, sym, ap}
 use mathlib.Core.Bool.{Bool, true, false}
@@ -18,7 +19,6 @@ use Rattle.packing.specs.Count.{Line, own_rules}
 use Rattle.sheets.specs.RuleSheet.{Table, count_of, in_order, closed}
 use Rattle.sheets.specs.Calls.{refused_at, has_service, lookup_in}
 use Rattle.sheets.specs.Inner.TableReader.{Found}
-use Rattle.sheets.specs.declared.answer.Answer.TheVariants.{Value, Refused}
 use Rattle.sheets.proofs.TableChecks.{Formed, formed, InOrder, Proper}
 use Rattle.sheets.proofs.Following.{count_same, count-other, by-service}
 
@@ -137,7 +137,7 @@ has-match t p n v =
 pub by-match :
     (t : Table) → Proper t → (n v : ℕ)
     → lookup_in t n v
-    ≡ pick (ltb 0 (first_match (own_rules n t.lines) v)) (Value (first_match (own_rules n t.lines) v)) (Refused (refused_at UnknownService 0))
+    ≡ pick (ltb 0 (first_match (own_rules n t.lines) v)) (Ok (first_match (own_rules n t.lines) v)) (Err (refused_at UnknownService 0))
 unfolding lookup_in
 by-match t p n v = rw (has-match t p n v)
 

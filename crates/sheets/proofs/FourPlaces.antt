@@ -1,4 +1,5 @@
 -- Sheets of four-place percentages remain valid, with the same lines and a hundred times the total (document 02, Req 07).
+use Rattle.std.specs.Prelude.{Result}
 use Prim.Native.Nat.{ℕ, ◌+◌, ◌*◌, ◌^◌}
 use mathlib.Core.Path.{◌≡◌, refl, ap, ap₂, ◌∙◌}
 use mathlib.Core.Bool.{true}
@@ -16,11 +17,11 @@ use Rattle.sheets.specs.PercentageSheet.{Sheet, read_sheet_at, read_sheet}
 use Rattle.sheets.specs.RuleSheet.{Table, table_text}
 use Rattle.sheets.specs.Calls.{services_at, services_in, table_with, table_for, sheet_text, print_read, afterwards, is_value, values_of}
 use Rattle.sheets.specs.FourPlaces.{former_decimals, former_unit, table_at, former_table, hundredfold, few_in_sheet, FourPlaces}
-use Rattle.sheets.specs.declared.answer.Answer.{Answer}
 use Rattle.sheets.proofs.FewDecimals.{sheet-few}
 use Rattle.sheets.proofs.Readings.{then-got}
 use Rattle.sheets.proofs.ScaledSheets.{scaled_sheet, sheet-scaled}
 use Rattle.sheets.proofs.ThenLaws.{then-under, then-changed}
+use Rattle.sheets.specs.declared.answer.Refused.{Refused}
 
 -- the same lines and m times the total
 abbrev times_total : ℕ → Table → Table
@@ -73,7 +74,7 @@ module _ (text : List ℕ) where
   values (refused why line) = refl
 
   pub four-places :
-      (r : Answer) (out out' : List ℕ) → r ≡ print_read (read_sheet text) sheet_text (length out)
+      (r : (Result ℕ Refused)) (out out' : List ℕ) → r ≡ print_read (read_sheet text) sheet_text (length out)
       → out' ≡ afterwards (is_value r) out (values_of (read_sheet text) sheet_text) → FourPlaces text r out out'
   unfolding read_sheet table_at
   four-places r out out' answered written =

@@ -1,4 +1,5 @@
 -- A table handed in numbers is checked as its sheet would be: the check answers what the reader answers on the text that the numbers make, but for the line.
+use Rattle.std.specs.Prelude.{None, Option, Some}
 use Prim.Native.Nat.{ℕ, ◌+◌, ◌^◌, ◌≤◌, ◌<◌}
 use mathlib.Core.Path.{◌≡◌, refl, sym, ap, ◌∙◌}
 use mathlib.Core.Bool.{Bool, true, false}
@@ -11,13 +12,10 @@ use Rattle.numerals.specs.Pick.{pick, both}
 use Rattle.numerals.specs.Decimal.{is_numeral, number, decimal}
 use Rattle.numerals.specs.Suffix.{is_suffix, suffix, suffix_text}
 use Rattle.numerals.specs.Text.{split}
-use Rattle.numerals.specs.declared.digits.Number.TheVariants.{Value, Bad}
-use Rattle.numerals.specs.declared.suffixes.SuffixRead.{SuffixRead}
-use Rattle.numerals.specs.declared.suffixes.SuffixRead.TheVariants.{Suffix, Bad as NoSuffix}
 use Rattle.numerals.proofs.Choice.{by_less}
 use Rattle.numerals.proofs.Decimal.{first-digit, all-decimal, value-decimal, decimal-free}
 use Rattle.numerals.proofs.Fields.{free-split, free-whole}
-use Rattle.numerals.proofs.Suffix.{suffix-only, suffix-back, length-suffix}
+use Rattle.numerals.proofs.SuffixTexts.{suffix-only, suffix-back, length-suffix}
 use Rattle.numerals.specs.declared.refusal.Refusal.{Refusal}
 use Rattle.numerals.specs.Refusals.{no2, no4, no9, no11}
 use Rattle.expansion.specs.Answer.{in_limits}
@@ -35,6 +33,7 @@ use Rattle.sheets.proofs.Words.{same_refl}
 use Rattle.sheets.proofs.OpeningLine.{lines_more}
 use Rattle.sheets.proofs.Joins.{join, join_free}
 use Rattle.sheets.proofs.TableTexts.{head_row, line_row, line-joined, head-free, line-free, head-split, line-split}
+use Rattle.numerals.specs.declared.suffixes.Suffix.{Suffix}
 
 -- The text as its lines.
 
@@ -100,7 +99,7 @@ module _ {A : Type 0} where
   unfolding number is_numeral on_field unless in_limits
   number_read least most n at f = rw (first-digit n, all-decimal n, value-decimal n) (go (both (leb least n) (leb n most)))
     where
-      go : (t : Bool) → on_field (pick t (Value n) Bad) at f ≡ unless t no2 at (f n)
+      go : (t : Bool) → on_field (pick t (Some n) None) at f ≡ unless t no2 at (f n)
       go true = refl
       go false = refl
 
@@ -113,11 +112,11 @@ module _ {A : Type 0} where
       (λ h. rw (long (suffix k (suffix_text l v)) refl h, lt-leb l k h))
       (λ h. rw (suffix-back k l v some few h small, le-leb l k h))
     where
-      long : (r : SuffixRead) → suffix k (suffix_text l v) ≡ r → k < l → suffix k (suffix_text l v) ≡ NoSuffix
-      long (Suffix m w) e h =
-          let only = suffix-only k m w (suffix_text l v) e in
-          absurd (omega (arith, only.short, ap length only.text, length-suffix l v, length-suffix m w))
-      long NoSuffix e h = e
+      long : (r : (Option Suffix)) → suffix k (suffix_text l v) ≡ r → k < l → suffix k (suffix_text l v) ≡ None
+      long (Some s) e h =
+          let only = suffix-only k s.len s.value (suffix_text l v) e in
+          absurd (omega (arith, only.short, ap length only.text, length-suffix l v, length-suffix s.len s.value))
+      long None e h = e
 
 -- Line 1.
 

@@ -1,4 +1,5 @@
 -- What a caller holds of a rule sheet that was read: its table, which is proper, and its lines in numbers.
+use Rattle.std.specs.Prelude.{Err, Ok}
 use Prim.Native.Nat.{ℕ, ◌*◌, ◌≤◌, ◌<◌}
 use mathlib.Core.Path.{◌≡◌, refl, ap, ◌∙◌}
 use mathlib.Core.List.{List}
@@ -14,9 +15,7 @@ use Rattle.sheets.specs.Calls.{refused_at, answered, lines_from, read_in, read_a
 use Rattle.sheets.specs.Inner.TableNumbers.{lines_in, RuleLines}
 use Rattle.sheets.specs.Inner.TableReader.{sheet_answer, Filled, table_of, Found}
 use Rattle.sheets.specs.declared.answer.Refused.{Refused as Why}
-use Rattle.sheets.specs.declared.answer.TableRead.TheVariants as table_read
 use Rattle.sheets.specs.declared.rule_sheet.TableHead.{TableHead}
-use Rattle.sheets.specs.declared.rule_sheet.SheetLines.TheVariants.{Table as Read, Refused}
 use Rattle.sheets.proofs.TableChecks.{Proper}
 use Rattle.sheets.proofs.OrderedLines.{read-proper}
 use Rattle.sheets.proofs.TableNumbers.{lines-cells}
@@ -33,12 +32,12 @@ pub record TableHeld (text : List ℕ) (h : TableHead) (numbers : List ℕ) : Ty
   pub ruled : RuleLines numbers h.n
 
 pub table-held :
-    (text : List ℕ) (h : TableHead) (numbers : List ℕ) → length numbers ≡ 4 * most_capacity → Read h ≡ sheet_answer (read_table text)
+    (text : List ℕ) (h : TableHead) (numbers : List ℕ) → length numbers ≡ 4 * most_capacity → Ok h ≡ sheet_answer (read_table text)
     → Filled (read_table text) numbers → TableHeld text h numbers
 unfolding sheet_answer
 table-held text h numbers long e f = go (read_table text) refl e f
   where
-    go : (r : Reading Table) → read_table text ≡ r → Read h ≡ sheet_answer r → Filled r numbers → TableHeld text h numbers
+    go : (r : Reading Table) → read_table text ≡ r → Ok h ≡ sheet_answer r → Filled r numbers → TableHeld text h numbers
     go (refused why line) is e f = absurd (let z : ◌≡◌ {A = ℕ} 0 1 = cc in omega arith)
     go (got t) is e f =
         let head : h ≡ record { k = t.k; n = length t.lines; total = t.total } = cc in
@@ -57,21 +56,21 @@ table-held text h numbers long e f = go (read_table text) refl e f
         }
 
 -- a sheet that was refused: that refusal is the answer, whatever is asked of it
-pub sheet-refused : (text : List ℕ) (w : Why) → Refused w ≡ sheet_answer (read_table text) → read_table text ≡ refused w.why w.line
+pub sheet-refused : (text : List ℕ) (w : Why) → Err w ≡ sheet_answer (read_table text) → read_table text ≡ refused w.why w.line
 unfolding sheet_answer
 sheet-refused text w e = go (read_table text) e
   where
-    go : (r : Reading Table) → Refused w ≡ sheet_answer r → r ≡ refused w.why w.line
+    go : (r : Reading Table) → Err w ≡ sheet_answer r → r ≡ refused w.why w.line
     go (got t) e = absurd (let z : ◌≡◌ {A = ℕ} 0 1 = cc in omega arith)
     go (refused why line) e = let same : w ≡ refused_at why line = cc in rw same
 
 pub refused-answer :
-    {B : Type 0} (back : Why → B) (f : Table → B) (text : List ℕ) (w : Why) → Refused w ≡ sheet_answer (read_table text)
+    {B : Type 0} (back : Why → B) (f : Table → B) (text : List ℕ) (w : Why) → Err w ≡ sheet_answer (read_table text)
     → back w ≡ answered back 0 (read_table text) f
 unfolding sheet_answer
 refused-answer {B} back f text w e = go (read_table text) e
   where
-    go : (r : Reading Table) → Refused w ≡ sheet_answer r → back w ≡ answered back 0 r f
+    go : (r : Reading Table) → Err w ≡ sheet_answer r → back w ≡ answered back 0 r f
     go (got t) e = absurd (let z : ◌≡◌ {A = ℕ} 0 1 = cc in omega arith)
     go (refused why line) e = let same : w ≡ refused_at why line = cc in ap back same
 
@@ -80,13 +79,13 @@ module _ (text : List ℕ) (h : TableHead) (numbers : List ℕ) (H : TableHeld t
   size : h.n ≡ length H.table.lines
   size = ap (λ (x : TableHead). x.n) H.head
 
-  pub read_made : 4 * h.n ≤ room → table_read.Made (record { k = h.k; rules = h.n; total = h.total }) ≡ read_answer text room
+  pub read_made : 4 * h.n ≤ room → Ok (record { k = h.k; rules = h.n; total = h.total }) ≡ read_answer text room
   unfolding read_answer read_in
   read_made e =
       rw (H.read, le-leb (4 * length H.table.lines) room (omega (arith, size)))
-      (ap (λ (x : TableHead). table_read.Made (record { k = x.k; rules = x.n; total = x.total })) H.head)
+      (ap (λ (x : TableHead). Ok (record { k = x.k; rules = x.n; total = x.total })) H.head)
 
-  pub read_short : room < 4 * h.n → table_read.Refused (refused_at ShortLoan 0) ≡ read_answer text room
+  pub read_short : room < 4 * h.n → Err (refused_at ShortLoan 0) ≡ read_answer text room
   unfolding read_answer read_in
   read_short e = rw (H.read, lt-leb (4 * length H.table.lines) room (omega (arith, size)))
 

@@ -1,4 +1,5 @@
 -- An update's answer by the numbers that are found: it is the definition's; and what an answer that is no refusal says of them.
+use Rattle.std.specs.Prelude.{Err, Ok}
 use Prim.Native.Nat.{ℕ, ◌-◌, ◌*◌, ◌≤◌}
 use mathlib.Core.Path.{◌≡◌, refl, sym, ap, ◌∙◌}
 use mathlib.Core.Bool.{Bool, true, false}
@@ -25,7 +26,6 @@ use Rattle.sheets.specs.Inner.Update.{judged, sheet_in}
 use Rattle.sheets.specs.declared.percentage_sheet.Head.{Head}
 use Rattle.sheets.specs.declared.rule_sheet.TableHead.{TableHead}
 use Rattle.sheets.specs.declared.answer.UpdateRecord.{UpdateRecord}
-use Rattle.sheets.specs.declared.answer.UpdateRead.TheVariants.{Made, Refused}
 use Rattle.sheets.proofs.OwnNumbers.{length-numbers}
 use Rattle.sheets.proofs.Chunks.{sizes-sum, chunks-row, chunks-length, chunk-length}
 use Rattle.sheets.proofs.HeldTables.{TableHeld, in_memory}
@@ -62,7 +62,7 @@ roomy b ids_room weights_room = both (leb b ids_room) (leb b weights_room)
 
 pub judged-made :
     (m : UpdateRecord) (k services n rules_room ids_room weights_room : ℕ) (m' : UpdateRecord)
-    → judged m k services n rules_room ids_room weights_room ≡ Made m'
+    → judged m k services n rules_room ids_room weights_room ≡ Ok m'
     → Fits m services n rules_room ids_room weights_room
 unfolding judged
 judged-made m k services n rules_room ids_room weights_room m' e =
@@ -72,10 +72,10 @@ judged-made m k services n rules_room ids_room weights_room m' e =
         (a b c d : Bool) → in_limits 1 services n ≡ b → both (leb (3 * m.rules) rules_room) (roomy m.backends ids_room weights_room) ≡ d
         → pick a
         (pick b
-        (pick c (pick d (Made m) (Refused (refused_at no7 0))) (Refused (refused_at no12 0)))
-        (Refused (about 2 no8 0)))
-        (Refused (about 1 no8 0))
-        ≡ Made m'
+        (pick c (pick d (Ok m) (Err (refused_at no7 0))) (Err (refused_at no12 0)))
+        (Err (about 2 no8 0)))
+        (Err (about 1 no8 0))
+        ≡ Ok m'
         → Fits m services n rules_room ids_room weights_room
     go true true true true f g h =
         let w = within 1 services n f in
@@ -134,7 +134,7 @@ module _ (text : List ℕ) {vs zs is ws : List ℕ} {head : Head} {m row : ℕ} 
 
   pub held_update :
       (t : Table) (n a b c : ℕ)
-      → update_in t (sheet_in head (take m zs) (take row is) (take row ws)) n a b c ≡ answered Refused 2 (read_sheet text) (λ S. update_in t S n a b c)
+      → update_in t (sheet_in head (take m zs) (take row is) (take row ws)) n a b c ≡ answered Err 2 (read_sheet text) (λ S. update_in t S n a b c)
   unfolding update_in has_weights new_ids new_weights
   held_update t n a b c = rw (held.read, ids-chunks, weights-chunks, held.k, held.tolerance)
 
@@ -152,7 +152,7 @@ module _ (text : List ℕ) {vs zs is ws : List ℕ} {head : Head} {m row : ℕ} 
 module _ (text : List ℕ) (h : TableHead) (numbers : List ℕ) (H : TableHeld text h numbers) (n : ℕ) where
   pub held-answer :
       (sheet : List ℕ) (a b c : ℕ)
-      → answered Refused 2 (read_sheet sheet) (λ S. update_in (table_of h numbers) S n a b c) ≡ update_read_answer text sheet n a b c
+      → answered Err 2 (read_sheet sheet) (λ S. update_in (table_of h numbers) S n a b c) ≡ update_read_answer text sheet n a b c
   unfolding update_read_answer
   held-answer sheet a b c = rw (H.read, in_memory text h numbers H)
 

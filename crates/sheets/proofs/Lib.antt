@@ -36,6 +36,7 @@ pub mod NeverEight
 pub mod Packable
 pub mod OwnNumbers
 pub mod Chunks
+pub mod Copies
 pub mod Judging
 pub mod UpdateLimits
 pub mod Cases

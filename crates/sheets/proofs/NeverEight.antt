@@ -1,4 +1,5 @@
 -- A rule sheet's own refusals are never 8, so that the mark of an absent service can stand in its place.
+use Rattle.std.specs.Prelude.{None, Option, Some}
 use Prim.Native.Nat.{ℕ, ◌+◌}
 use mathlib.Core.Path.{◌≡◌, refl}
 use mathlib.Core.Bool.{Bool, true, false}
@@ -9,15 +10,12 @@ use Rattle.numerals.specs.Decimal.{number}
 use Rattle.numerals.specs.Text.{split}
 use Rattle.numerals.specs.Limits.{most_capacity, total_limit}
 use Rattle.numerals.specs.Refusals.{number_of, no8}
-use Rattle.numerals.specs.declared.digits.Number.{Number}
-use Rattle.numerals.specs.declared.digits.Number.TheVariants.{Value, Bad}
-use Rattle.numerals.specs.declared.suffixes.SuffixRead.{SuffixRead}
-use Rattle.numerals.specs.declared.suffixes.SuffixRead.TheVariants as suffix-read
 use Rattle.numerals.specs.declared.refusal.Refusal.{Refusal}
 use Rattle.packing.specs.Count.{Line}
 use Rattle.sheets.specs.Reading.{Reading, got, refused, then, unless, on_field}
 use Rattle.sheets.specs.FirstLine.{opening_fields, opening_lines, first_line}
 use Rattle.sheets.specs.RuleSheet.{on_suffix, placed, rule_fields, rule_lines, whole_table, table_word, table_line, read_table}
+use Rattle.numerals.specs.declared.suffixes.Suffix.{Suffix}
 
 abbrev Other : Refusal → Type 0
 Other why = eqb (number_of why) (number_of no8) ≡ false
@@ -38,15 +36,15 @@ module _ {A : Type 0} where
   never-unless true why line next o n = n
   never-unless false why line next o n = o
 
-  never-field : (n : Number) (line : ℕ) (f : ℕ → Reading A) → ((v : ℕ) → Never (f v)) → Never (on_field n line f)
+  never-field : (n : (Option ℕ)) (line : ℕ) (f : ℕ → Reading A) → ((v : ℕ) → Never (f v)) → Never (on_field n line f)
   unfolding on_field number_of
-  never-field (Value v) line f n = n v
-  never-field Bad line f n = refl
+  never-field (Some v) line f n = n v
+  never-field None line f n = refl
 
-  never-suffix : (s : SuffixRead) (line : ℕ) (f : ℕ → ℕ → Reading A) → ((l v : ℕ) → Never (f l v)) → Never (on_suffix s line f)
+  never-suffix : (s : (Option Suffix)) (line : ℕ) (f : ℕ → ℕ → Reading A) → ((l v : ℕ) → Never (f l v)) → Never (on_suffix s line f)
   unfolding on_suffix number_of
-  never-suffix (suffix-read.Suffix l v) line f n = n l v
-  never-suffix suffix-read.Bad line f n = refl
+  never-suffix (Some s) line f n = n s.len s.value
+  never-suffix None line f n = refl
 
   never_placed : (before : List Line) (l : Line) (at : ℕ) (next : Reading A) → Never next → Never (placed before l at next)
   unfolding placed number_of
@@ -70,7 +68,7 @@ never-whole : (k n total : ℕ) (ls : List Line) → Never (whole_table k n tota
 unfolding whole_table number_of
 never-whole k n total ls = never-unless _ _ 1 _ refl (never-unless _ _ 1 _ refl (never-unless _ _ (length ls + 1) _ refl tt))
 
-module _ (word : List ℕ) (second third : List ℕ → Number) where
+module _ (word : List ℕ) (second third : List ℕ → (Option ℕ)) where
   never-opening : (fs behind : List (List ℕ)) → Never (opening_fields word second third fs behind)
   unfolding opening_fields number_of
   never-opening fs behind =

@@ -1,5 +1,6 @@
 -- From the one call to the rule sheet: what its answers tell of the sheet, that its buffers are long enough, that the numbers it leaves are the
 -- sheet's table, and that demand 3 holds of what is printed.
+use Rattle.std.specs.Prelude.{Err, Ok, Result}
 use Prim.Native.Nat.{ℕ, ◌+◌, ◌*◌, ◌≤◌}
 use mathlib.Core.Path.{◌≡◌, refl, sym, ap, subst, ◌∙◌}
 use mathlib.Core.Bool.{Bool, true, false}
@@ -23,10 +24,6 @@ use Rattle.sheets.specs.FourPlaces.{FourPlaces}
 use Rattle.sheets.specs.Inner.TableNumbers.{lines_in, table_in, RuleLines}
 use Rattle.sheets.specs.declared.answer.Plan.{Plan}
 use Rattle.sheets.specs.declared.answer.Refused.{Refused as Why}
-use Rattle.sheets.specs.declared.answer.Planned.{Planned}
-use Rattle.sheets.specs.declared.answer.Planned.TheVariants.{Made, Refused}
-use Rattle.sheets.specs.declared.answer.Answer.{Answer}
-use Rattle.sheets.specs.declared.answer.Answer.TheVariants as answer
 use Rattle.sheets.proofs.SheetLimits.{Limits, limits}
 use Rattle.sheets.proofs.TableChecks.{InOrder}
 use Rattle.sheets.proofs.ProperTable.{table-proper}
@@ -59,18 +56,18 @@ pub record Plans (text : List ℕ) (p : Plan) : Type 0 where
 
 -- buffers for 64 services and 2,048 lines are long enough, so that the answer is the plan or the sheet's refusal
 module _ (text : List ℕ) where
-  made : (S : Sheet) → read_sheet text ≡ got S → plan_answer text most_figures most_cells ≡ Made (plan_for S)
+  made : (S : Sheet) → read_sheet text ≡ got S → plan_answer text most_figures most_cells ≡ Ok (plan_for S)
   unfolding plan_answer plan_of
   made S e =
       let L = limits text S e in
       let P = table-proper S L in
       rw (e, le-leb (3 * length S.volumes) most_figures (omega (arith, L.few)), le-leb (4 * length (table_for S).lines) most_cells (omega (arith, P.few)))
 
-  plan-no : (why : Refusal) (line : ℕ) → read_sheet text ≡ refused why line → plan_answer text most_figures most_cells ≡ Refused (refused_at why line)
+  plan-no : (why : Refusal) (line : ℕ) → read_sheet text ≡ refused why line → plan_answer text most_figures most_cells ≡ Err (refused_at why line)
   unfolding plan_answer
   plan-no why line e = rw e
 
-  pub plan-made : (p : Plan) → plan_answer text most_figures most_cells ≡ Made p → Plans text p
+  pub plan-made : (p : Plan) → plan_answer text most_figures most_cells ≡ Ok p → Plans text p
   plan-made p h = go (read_sheet text) refl
     where
       go : (r : Reading Sheet) → read_sheet text ≡ r → Plans text p
@@ -78,14 +75,14 @@ module _ (text : List ℕ) where
       go (refused why line) e = absurd (let z : ◌≡◌ {A = ℕ} 0 1 = cc (plan-no why line e) in omega arith)
 
   pub plan-refused :
-      (r : Why) → plan_answer text most_figures most_cells ≡ Refused r → (f : Sheet → Answer) → answer.Refused r ≡ answered answer.Refused 0 (read_sheet text) f
+      (r : Why) → plan_answer text most_figures most_cells ≡ Err r → (f : Sheet → (Result ℕ Why)) → Err r ≡ answered Err 0 (read_sheet text) f
   plan-refused r h f = go (read_sheet text) refl
     where
-      go : (s : Reading Sheet) → read_sheet text ≡ s → answer.Refused r ≡ answered answer.Refused 0 (read_sheet text) f
+      go : (s : Reading Sheet) → read_sheet text ≡ s → Err r ≡ answered Err 0 (read_sheet text) f
       go (got S) e = absurd (let z : ◌≡◌ {A = ℕ} 0 1 = cc (made S e) in omega arith)
       go (refused why line) e =
           let is : refused_at why line ≡ r = cc (plan-no why line e) in
-          rw e (ap answer.Refused (sym is))
+          rw e (ap Err (sym is))
 
 -- the numbers that the one call leaves are the sheet's table
 module _ (S : Sheet) (L : Limits S) (buffer : List ℕ) (long : length buffer ≡ most_cells) where
@@ -145,43 +142,43 @@ left-for text p S buffer after read is long stored =
     }
 
 stored-for :
-    (text : List ℕ) (r : Planned) (p : Plan) (S : Sheet) (buffer : List ℕ) → read_sheet text ≡ got S → r ≡ Made p
+    (text : List ℕ) (r : (Result Plan Why)) (p : Plan) (S : Sheet) (buffer : List ℕ) → read_sheet text ≡ got S → r ≡ Ok p
     → afterwards (is_plan r) buffer (values_of (read_sheet text) cells_for) ≡ sets buffer 0 (cells_for S)
 stored-for text r p S buffer read is = rw (is, read)
 
 pub plan-left :
-    (text : List ℕ) (r : Planned) (p : Plan) (buffer after : List ℕ) → length buffer ≡ most_cells
-    → r ≡ plan_answer text most_figures most_cells → r ≡ Made p → after ≡ afterwards (is_plan r) buffer (values_of (read_sheet text) cells_for) → Left text p
+    (text : List ℕ) (r : (Result Plan Why)) (p : Plan) (buffer after : List ℕ) → length buffer ≡ most_cells
+    → r ≡ plan_answer text most_figures most_cells → r ≡ Ok p → after ≡ afterwards (is_plan r) buffer (values_of (read_sheet text) cells_for) → Left text p
     after
 plan-left text r p buffer after long answer is filled =
     let M = plan-made text p (sym answer ∙ is) in
     left-for text p M.sheet buffer after M.read M.is long (filled ∙ stored-for text r p M.sheet buffer M.read is)
 
 -- where a text was printed, it fits and ends with its last byte
-ended : (bytes : List ℕ) (room n : ℕ) → answer.Value n ≡ print_text bytes room → (n ≡ length bytes) × (length bytes ≤ room)
+ended : (bytes : List ℕ) (room n : ℕ) → Ok n ≡ print_text bytes room → (n ≡ length bytes) × (length bytes ≤ room)
 unfolding print_text
 ended bytes room n h = go (leb (length bytes) room) refl h
   where
     go :
         (t : Bool) → leb (length bytes) room ≡ t
-        → answer.Value n ≡ pick t (answer.Value (length bytes)) (answer.Refused (refused_at ShortLoan 0))
+        → Ok n ≡ pick t (Ok (length bytes)) (Err (refused_at ShortLoan 0))
         → (n ≡ length bytes) × (length bytes ≤ room)
     go true e h = (cc, leb-true (length bytes) room e)
     go false e h = absurd (let z : ◌≡◌ {A = ℕ} 0 1 = cc in omega arith)
 
 -- demand 3 holds of what is printed
 printed-demand :
-    (text : List ℕ) (S : Sheet) → read_sheet text ≡ got S → (out after : List ℕ) (r : Answer)
+    (text : List ℕ) (S : Sheet) → read_sheet text ≡ got S → (out after : List ℕ) (r : (Result ℕ Why))
     → PrintedAs (sheet_text S) out r after → Demand3Of r text after
-printed-demand text S e out after (answer.Value n) p =
+printed-demand text S e out after (Ok n) p =
     let fits = ended (sheet_text S) (length out) n p.0 in
     let same : take n after ≡ sheet_text S = cc (fits.0, p.1, take-sets out (sheet_text S) fits.1) in
     rw same (demand-three text S e)
-printed-demand text S e out after (answer.Refused r) p = tt
+printed-demand text S e out after (Err r) p = tt
 
 -- the table of a sheet that was read, printed: demand 3 holds of it, and what is promised of four-place percentages
 pub sheet-printed :
-    (text : List ℕ) (S : Sheet) (t : Table) → read_sheet text ≡ got S → t ≡ table_for S → (out after : List ℕ) (r : Answer)
+    (text : List ℕ) (S : Sheet) (t : Table) → read_sheet text ≡ got S → t ≡ table_for S → (out after : List ℕ) (r : (Result ℕ Why))
     → PrintedAs (table_text t) out r after
     → (r ≡ print_read (read_sheet text) sheet_text (length out))
     × ((after ≡ afterwards (is_value r) out (values_of (read_sheet text) sheet_text)) × (Demand3Of r text after × FourPlaces text r out after))

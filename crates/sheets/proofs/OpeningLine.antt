@@ -1,4 +1,5 @@
 -- Line 1 of a sheet: what it has where it was read, and how it is read from what a search for its LF finds.
+use Rattle.std.specs.Prelude.{Option, Some}
 use Prim.Native.Nat.{ℕ, ◌+◌, ◌≤◌, ◌<◌}
 use mathlib.Core.Path.{◌≡◌, refl, ap, ◌∙◌}
 use mathlib.Core.List.{List, [], ◌∷◌}
@@ -10,8 +11,6 @@ use borrow.Author.Tests.{le-leb, lt-leb, leb-true, eqb-true}
 use Rattle.numerals.specs.Decimal.{number}
 use Rattle.numerals.specs.Text.{split, index_of}
 use Rattle.numerals.specs.Limits.{most_bits, text_limit}
-use Rattle.numerals.specs.declared.digits.Number.{Number}
-use Rattle.numerals.specs.declared.digits.Number.TheVariants.{Value}
 use Rattle.numerals.specs.declared.refusal.Refusal.TheVariants.{Malformed, TooLong}
 use Rattle.numerals.proofs.Fields.{cut, cut-last, split-some}
 use Rattle.sheets.specs.Reading.{got, refused, unless, field}
@@ -19,7 +18,7 @@ use Rattle.sheets.specs.FirstLine.{Opening, opening_fields, opening_lines, first
 use Rattle.sheets.specs.Inner.Fields.{lines_at, fields_at}
 use Rattle.sheets.proofs.Readings.{not-got, got_same, unless-got, on_field-got, same_true}
 
-module _ (word : List ℕ) (second third : List ℕ → Number) where
+module _ (word : List ℕ) (second third : List ℕ → (Option ℕ)) where
   -- what was read as line 1
   pub record Opened (text : List ℕ) (o : Opening) : Type 0 where
     pub line : List ℕ
@@ -28,9 +27,9 @@ module _ (word : List ℕ) (second third : List ℕ → Number) where
     pub some : 1 ≤ length o.behind
     pub named : field (split 32 line) 0 ≡ word
     pub four : length (split 32 line) ≡ 4
-    pub bits : number 1 most_bits (field (split 32 line) 1) ≡ Value o.k
-    pub left : second (field (split 32 line) 2) ≡ Value o.second
-    pub right : third (field (split 32 line) 3) ≡ Value o.third
+    pub bits : number 1 most_bits (field (split 32 line) 1) ≡ Some o.k
+    pub left : second (field (split 32 line) 2) ≡ Some o.second
+    pub right : third (field (split 32 line) 3) ≡ Some o.third
 
   pub opened : (text : List ℕ) (o : Opening) → first_line word second third text ≡ got o → Opened text o
   unfolding first_line opening_lines opening_fields
@@ -54,9 +53,9 @@ module _ (word : List ℕ) (second third : List ℕ → Number) where
             some = rw (← behind) (omega arith);
             named = same_true (field (split 32 l) 0) word named.0;
             four = eqb-true (length (split 32 l)) 4 four.0;
-            bits = k.1 ∙ ap (λ (p : Opening). Value p.k) all;
-            left = x.1 ∙ ap (λ (p : Opening). Value p.second) all;
-            right = y.1 ∙ ap (λ (p : Opening). Value p.third) all;
+            bits = k.1 ∙ ap (λ (p : Opening). Some p.k) all;
+            left = x.1 ∙ ap (λ (p : Opening). Some p.second) all;
+            right = y.1 ∙ ap (λ (p : Opening). Some p.third) all;
           }
 
   -- a text by its first two lines and those behind them

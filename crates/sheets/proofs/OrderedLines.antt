@@ -8,7 +8,7 @@ use lib.ListN.{length, length-reverse}
 use borrow.Author.Tests.{ltb-true}
 use Rattle.numerals.specs.Text.{split}
 use Rattle.numerals.proofs.Decimal.{only-text}
-use Rattle.numerals.proofs.Suffix.{suffix-only}
+use Rattle.numerals.proofs.SuffixTexts.{suffix-only}
 use Rattle.numerals.specs.Sums.{sum_to}
 use Rattle.numerals.proofs.Sums.{sum_one, sum-most, sum-zero}
 use Rattle.packing.specs.Count.{Line, own_rules}

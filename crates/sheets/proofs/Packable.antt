@@ -1,4 +1,5 @@
 -- The numbers of a percentage sheet that was read pass the checks of the packing, which then packs the sheet's own services.
+use Rattle.std.specs.Prelude.{Err, Ok, Result}
 use Prim.Native.Nat.{ℕ, suc, ◌+◌, ◌*◌, ◌<◌, ◌≤◌}
 use mathlib.Core.Path.{◌≡◌, refl, ◌∙◌}
 use mathlib.Core.Bool.{Bool, true, false}
@@ -11,23 +12,21 @@ use borrow.Author.Tests.{lt-ltb, le-leb}
 use Rattle.numerals.specs.Pick.{pick}
 use Rattle.numerals.specs.Limits.{most_bits, most_backends, most_services, most_capacity, most_volume, unit}
 use Rattle.numerals.specs.declared.refusal.Refusal.TheVariants.{ShortLoan}
-use Rattle.expansion.specs.declared.call.Checked.TheVariants.{Sound as Passed}
 use Rattle.numerals.specs.Buffer.{filled}
 use Rattle.packing.specs.Count.{services}
 use Rattle.packing.specs.Answer.{chunks, services_of, check_service, check_from, check_services, check_head, check_all, lines_made, packed_of, figures_made}
-use Rattle.packing.specs.Answer.{cells, figures_buffer, table_buffer, written, answer, is_made, services_with}
+use Rattle.packing.specs.Answer.{about as about_buffer, cells, figures_buffer, table_buffer, written, answer, is_made, services_with}
 use Rattle.packing.specs.declared.answer.Packed.{Packed}
-use Rattle.packing.specs.declared.answer.Packing.{Packing}
-use Rattle.packing.specs.declared.answer.Packing.TheVariants.{Made, Refused}
 use Rattle.sheets.specs.PercentageSheet.{Sheet, read_sheet}
 use Rattle.sheets.specs.Calls.{about, services_in, table_for, plan_of, plan_answer, values_of, afterwards, is_plan, figures_for, cells_for}
-use Rattle.sheets.specs.Inner.Planning.{plan_from}
 use Rattle.sheets.specs.Inner.SheetReader.{sizes_of, row_of, SheetHeld}
 use Rattle.sheets.specs.declared.percentage_sheet.Head.{Head}
-use Rattle.sheets.specs.declared.answer.Planned.TheVariants as planned
 use Rattle.sheets.proofs.TableChecks.{is_within_lem}
 use Rattle.sheets.proofs.SheetLimits.{Row, Limits, row-passes, limits}
 use Rattle.sheets.proofs.Chunks.{chunks-row}
+use Rattle.packing.specs.declared.answer.NotPacked.{NotPacked}
+use Rattle.sheets.specs.declared.answer.Plan.{Plan}
+use Rattle.sheets.specs.declared.answer.Refused.{Refused}
 
 pub same-services :
     (S : Sheet) → sizes_of S.ids ≡ sizes_of S.weights
@@ -39,7 +38,7 @@ same-services S paired =
 
 -- one service, and the services from s on
 service-passes :
-    (v : ℕ) (ids more ws rest : List ℕ) → v ≤ most_volume → Row ids ws → check_service v (length ws) (ids ++ more) (ws ++ rest) ≡ Passed
+    (v : ℕ) (ids more ws rest : List ℕ) → v ≤ most_volume → Row ids ws → check_service v (length ws) (ids ++ more) (ws ++ rest) ≡ Ok tt
 unfolding check_service
 service-passes v ids more ws rest h r =
     let own : take (length ws) (ids ++ more) ≡ ids = rw (← r.paired) (take-append_seam ids more) in
@@ -58,7 +57,7 @@ from-passes :
     (s : ℕ) (volumes : List ℕ) (iss wss : List (List ℕ)) → length volumes ≡ length wss → length iss ≡ length wss → s + length wss ≤ most_services
     → ((i : ℕ) → i < length wss → get_or volumes i 0 ≤ most_volume)
     → ((i : ℕ) → i < length wss → Row (get_or iss i []) (get_or wss i []))
-    → check_from s volumes (sizes_of wss) (row_of iss) (row_of wss) ≡ Passed
+    → check_from s volumes (sizes_of wss) (row_of iss) (row_of wss) ≡ Ok tt
 unfolding check_from sizes_of row_of
 from-passes s [] [] [] same named few small rows = refl
 from-passes s [] [] (ws ∷ wss) same named few small rows = absurd (omega arith)
@@ -80,7 +79,7 @@ from-passes s (v ∷ volumes) (ids ∷ iss) (ws ∷ wss) same named few small ro
 
 pub all_pass :
     (S : Sheet) → Limits S
-    → check_all S.k S.tolerance S.capacity S.volumes (sizes_of S.weights) (row_of S.ids) (row_of S.weights) ≡ Passed
+    → check_all S.k S.tolerance S.capacity S.volumes (sizes_of S.weights) (row_of S.ids) (row_of S.weights) ≡ Ok tt
 unfolding check_all check_head check_services
 all_pass S l =
     simp (
@@ -93,14 +92,19 @@ all_pass S l =
       le-leb (length S.volumes) S.capacity l.room,
     )
 
+-- the packing's answer, as the one call answers it
+abbrev pub plan_from : ℕ → ℕ → Result Packed NotPacked → Result Plan Refused
+plan_from k n (Ok p) = Ok (record { k = k; services = n; rules = p.rules; total = p.total })
+plan_from k n (Err r) = Err (about r.buffer r.why 0)
+
 -- a choice by two tests, carried through to the one call's answer
 plan-picks :
     (k n : ℕ) (t u : Bool) (p : Packed)
-    → plan_from k n (pick t (pick u (Made p) (Refused ShortLoan table_buffer)) (Refused ShortLoan figures_buffer))
+    → plan_from k n (pick t (pick u (Ok p) (Err (about_buffer table_buffer ShortLoan))) (Err (about_buffer figures_buffer ShortLoan)))
     ≡ pick t
-    (pick u (planned.Made (record { k = k; services = n; rules = p.rules; total = p.total }))
-    (planned.Refused (about table_buffer ShortLoan 0)))
-    (planned.Refused (about figures_buffer ShortLoan 0))
+    (pick u (Ok (record { k = k; services = n; rules = p.rules; total = p.total }))
+    (Err (about table_buffer ShortLoan 0)))
+    (Err (about figures_buffer ShortLoan 0))
 plan-picks k n true true p = refl
 plan-picks k n true false p = refl
 plan-picks k n false u p = refl
@@ -115,9 +119,9 @@ plan-answer S limits paired a b = rw (all_pass S limits, same-services S paired)
     (plan-picks S.k (length S.volumes) (leb (3 * length S.volumes) a) (leb (4 * length (lines_made (services_in S) S.tolerance S.capacity)) b)
     (packed_of (services_in S) S.tolerance S.capacity))
 
-fill-same : (k n : ℕ) (p : Packing) (out vs : List ℕ) → filled (is_made p) out 0 vs ≡ afterwards (is_plan (plan_from k n p)) out vs
-fill-same k n (Made p) out vs = refl
-fill-same k n (Refused why buffer) out vs = refl
+fill-same : (k n : ℕ) (p : (Result Packed NotPacked)) (out vs : List ℕ) → filled (is_made p) out 0 vs ≡ afterwards (is_plan (plan_from k n p)) out vs
+fill-same k n (Ok p) out vs = refl
+fill-same k n (Err r) out vs = refl
 
 -- the numbers that the memory holds, packed: the answer and the buffers of the one call
 module _ (text : List ℕ) {vs zs is ws : List ℕ} {head : Head} {n row : ℕ} (held : SheetHeld (read_sheet text) vs zs is ws head n row) where
@@ -136,7 +140,7 @@ module _ (text : List ℕ) {vs zs is ws : List ℕ} {head : Head} {n row : ℕ} 
   unfolding cells_for table_for
   held-cells = cc held-services
 
-  module _ (p : Packing) where
+  module _ (p : (Result Packed NotPacked)) where
     pub plan-made :
         (a b : ℕ) → p ≡ answer head.k head.tolerance head.capacity (take n vs) (take n zs) (take row is) (take row ws) a b
         → plan_from head.k n p ≡ plan_answer text a b

@@ -1,4 +1,5 @@
 -- The reader of the rule sheet, step by step: one line more that is placed and stored, and what the lines come to at their end.
+use Rattle.std.specs.Prelude.{Err}
 use Prim.Native.Nat.{ℕ, ◌+◌, ◌*◌, ◌≤◌, ◌<◌}
 use mathlib.Core.Path.{◌≡◌, refl, sym, ap, ◌∙◌}
 use mathlib.Core.Bool.{Bool, true, false}
@@ -25,7 +26,6 @@ use Rattle.sheets.specs.Inner.TableReader.{Passed, Filled, sheet_answer, whole_o
 use Rattle.sheets.specs.Inner.Fields.{lines_at, fields_at}
 use Rattle.sheets.specs.declared.rule_sheet.TableHead.{TableHead}
 use Rattle.sheets.specs.declared.order.Last.{Last}
-use Rattle.sheets.specs.declared.rule_sheet.SheetLines.TheVariants.{Refused}
 use Rattle.sheets.proofs.Readings.{not-got, unless-got}
 use Rattle.sheets.proofs.TableChecks.{Follows, in_order_lem, check-lines}
 use Rattle.sheets.proofs.Following.{last-count}
@@ -164,7 +164,7 @@ about-none r e = ap (λ (o : ℕ). about o r.why r.line) (sym e)
 
 -- a sheet that is refused
 pub refused-by :
-    (r : Reading Table) (why : Refusal) (line : ℕ) (table : List ℕ) → r ≡ refused why line → (Refused (refused_at why line) ≡ sheet_answer r) × Filled r table
+    (r : Reading Table) (why : Refusal) (line : ℕ) (table : List ℕ) → r ≡ refused why line → (Err (refused_at why line) ≡ sheet_answer r) × Filled r table
 unfolding sheet_answer
 refused-by (got t) why line table e = absurd (not-got (sym e))
 refused-by (refused w l) why line table e = (cc, tt)

@@ -1,4 +1,5 @@
 -- What was read passed every test: each step of a reading, taken backwards.
+use Rattle.std.specs.Prelude.{None, Option, Some}
 use Prim.Native.Nat.{ℕ}
 use mathlib.Core.Path.{◌≡◌, refl, sym, ap₂}
 use mathlib.Core.Bool.{Bool, true, false, true≢false}
@@ -6,14 +7,11 @@ use mathlib.Core.List.{List, [], ◌∷◌}
 use native.Mathlib.Omega.{arith}
 use lib.Dec.{eqb}
 use borrow.Author.Tests.{eqb-true}
-use Rattle.numerals.specs.declared.digits.Number.{Number}
-use Rattle.numerals.specs.declared.digits.Number.TheVariants.{Value, Bad}
-use Rattle.numerals.specs.declared.suffixes.SuffixRead.{SuffixRead}
-use Rattle.numerals.specs.declared.suffixes.SuffixRead.TheVariants.{Suffix, Bad as NoSuffix}
 use Rattle.numerals.proofs.Choice.{both_left, both_right}
 use Rattle.numerals.specs.declared.refusal.Refusal.{Refusal}
 use Rattle.sheets.specs.Reading.{Reading, got, refused, then, unless, on_field, same}
 use Rattle.sheets.specs.RuleSheet.{on_suffix}
+use Rattle.numerals.specs.declared.suffixes.Suffix.{Suffix}
 
 -- a refusal is nothing that was read
 pub not-got : {A : Type 0} {why : Refusal} {line : ℕ} {a : A} → refused why line ≡ got a → ⊥
@@ -28,17 +26,17 @@ module _ {A : Type 0} where
   unless-got true why line next h = (refl, h)
   unless-got false why line next h = absurd (not-got h)
 
-  pub on_field-got : (n : Number) (line : ℕ) (f : ℕ → Reading A) {a : A} → on_field n line f ≡ got a → (v : ℕ) × (n ≡ Value v) × (f v ≡ got a)
+  pub on_field-got : (n : (Option ℕ)) (line : ℕ) (f : ℕ → Reading A) {a : A} → on_field n line f ≡ got a → (v : ℕ) × (n ≡ Some v) × (f v ≡ got a)
   unfolding on_field
-  on_field-got (Value v) line f h = (v, refl, h)
-  on_field-got Bad line f h = absurd (not-got h)
+  on_field-got (Some v) line f h = (v, refl, h)
+  on_field-got None line f h = absurd (not-got h)
 
   pub on_suffix-got :
-      (s : SuffixRead) (line : ℕ) (f : ℕ → ℕ → Reading A) {a : A}
-      → on_suffix s line f ≡ got a → (l : ℕ) × (v : ℕ) × (s ≡ Suffix l v) × (f l v ≡ got a)
+      (s : (Option Suffix)) (line : ℕ) (f : ℕ → ℕ → Reading A) {a : A}
+      → on_suffix s line f ≡ got a → (l : ℕ) × (v : ℕ) × (s ≡ Some (record { len = l; value = v })) × (f l v ≡ got a)
   unfolding on_suffix
-  on_suffix-got (Suffix l v) line f h = (l, v, refl, h)
-  on_suffix-got NoSuffix line f h = absurd (not-got h)
+  on_suffix-got (Some s) line f h = (s.len, s.value, refl, h)
+  on_suffix-got None line f h = absurd (not-got h)
 
   pub then-got : {B : Type 0} (r : Reading A) (f : A → Reading B) {b : B} → then r f ≡ got b → (a : A) × (r ≡ got a) × (f a ≡ got b)
   unfolding then

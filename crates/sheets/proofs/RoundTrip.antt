@@ -9,7 +9,7 @@ use borrow.Author.Tests.{le-leb, eqb-true}
 use Rattle.numerals.specs.Decimal.{number}
 use Rattle.numerals.specs.Text.{split}
 use Rattle.numerals.proofs.Decimal.{only-text, width-least}
-use Rattle.numerals.proofs.Suffix.{suffix-only}
+use Rattle.numerals.proofs.SuffixTexts.{suffix-only}
 use Rattle.packing.specs.Count.{Line}
 use Rattle.packing.specs.Answer.{cells}
 use Rattle.sheets.specs.Reading.{Reading, got, refused, unless, field}

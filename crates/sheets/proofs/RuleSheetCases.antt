@@ -1,4 +1,5 @@
 -- Worked cases of document 01 on rule sheets, lookup, churn and tables in numbers: each refusal, and what is accepted.
+use Rattle.std.specs.Prelude.{Err, Ok, Result}
 use Prim.Native.Nat.{ℕ, zero, suc, ◌<◌}
 use Prim.Native.String as string
 use mathlib.Core.Path.{◌≡◌, refl}
@@ -29,8 +30,7 @@ use Rattle.sheets.specs.Cases.{bytes}
 use Rattle.sheets.proofs.TableTexts.{lines_width}
 use Rattle.sheets.proofs.NumbersText.{handed_width, length-handed}
 use Rattle.sheets.proofs.TableHanded.{handed-long}
-use Rattle.sheets.specs.declared.answer.Answer.{Answer}
-use Rattle.sheets.specs.declared.answer.Answer.TheVariants.{Value, Refused}
+use Rattle.sheets.specs.declared.answer.Refused.{Refused}
 
 -- a text n times
 abbrev times : ℕ → List ℕ → List ℕ
@@ -104,12 +104,12 @@ abbrev table_bytes : List ℕ
 table_bytes = bytes "TABLE 5 5 29333392000\n1 *0 2\n1 * 3\n2 *00 2\n2 *0 1\n2 * 3\n"
 
 pub record Lookups : Type 0 where
-  pub matching : lookup_answer table_bytes 1 0 ≡ Value 2
-  pub star : lookup_answer table_bytes 1 1 ≡ Value 3
-  pub second : lookup_answer table_bytes 2 4294967294 ≡ Value 1
-  pub zeroth : lookup_answer table_bytes 0 0 ≡ Refused (refused_at no8 0)
-  pub unknown : lookup_answer table_bytes 3 0 ≡ Refused (refused_at no8 0)
-  pub malformed : lookup_answer (bytes "TABLE 5 5 29333392000") 3 0 ≡ Refused (refused_at no1 1)
+  pub matching : lookup_answer table_bytes 1 0 ≡ Ok 2
+  pub star : lookup_answer table_bytes 1 1 ≡ Ok 3
+  pub second : lookup_answer table_bytes 2 4294967294 ≡ Ok 1
+  pub zeroth : lookup_answer table_bytes 0 0 ≡ Err (refused_at no8 0)
+  pub unknown : lookup_answer table_bytes 3 0 ≡ Err (refused_at no8 0)
+  pub malformed : lookup_answer (bytes "TABLE 5 5 29333392000") 3 0 ≡ Err (refused_at no1 1)
 
 pub lookups : Lookups
 unfolding lookup_answer lookup_in has_service first_match matches bytes read_table text_limit table_line first_line opening_lines opening_fields whole_table
@@ -119,17 +119,17 @@ lookups = record { matching = refl; star = refl; second = refl; zeroth = refl; u
 
 -- Churn: suffixes that moved, and which sheet a refusal names.
 
-abbrev churns : string.String → string.String → ℕ → Answer
+abbrev churns : string.String → string.String → ℕ → Result ℕ Refused
 churns old new n = churn_answer (bytes old) (bytes new) n
 
 pub record Churns : Type 0 where
-  pub all : churns "TABLE 1 1 0\n1 * 1\n" "TABLE 1 1 0\n1 * 2\n" 1 ≡ Value 2
-  pub half : churns "TABLE 1 1 0\n1 * 1\n" "TABLE 1 2 0\n1 *1 2\n1 * 1\n" 1 ≡ Value 1
-  pub first : churns "TABLE 1 1 0\n2 * 1\n" "TABLE 2 1 0\n3 * 2\n" 1 ≡ Refused (about 1 no8 0)
-  pub second : churns "TABLE 1 1 0\n1 * 1\n" "TABLE 2 1 0\n2 * 2\n" 1 ≡ Refused (about 2 no8 0)
-  pub neither : churns "TABLE 1 1 0\n1 * 1\n" "TABLE 2 1 0\n1 * 1\n" 1 ≡ Refused (about 0 no12 0)
-  pub old : churns "TABLE 1 1 0\n1 * 1" "TABLE 1 1 0" 1 ≡ Refused (about 1 no1 2)
-  pub new : churns "TABLE 1 1 0\n2 * 1\n" "TABLE 1 1 0" 1 ≡ Refused (about 2 no1 1)
+  pub all : churns "TABLE 1 1 0\n1 * 1\n" "TABLE 1 1 0\n1 * 2\n" 1 ≡ Ok 2
+  pub half : churns "TABLE 1 1 0\n1 * 1\n" "TABLE 1 2 0\n1 *1 2\n1 * 1\n" 1 ≡ Ok 1
+  pub first : churns "TABLE 1 1 0\n2 * 1\n" "TABLE 2 1 0\n3 * 2\n" 1 ≡ Err (about 1 no8 0)
+  pub second : churns "TABLE 1 1 0\n1 * 1\n" "TABLE 2 1 0\n2 * 2\n" 1 ≡ Err (about 2 no8 0)
+  pub neither : churns "TABLE 1 1 0\n1 * 1\n" "TABLE 2 1 0\n1 * 1\n" 1 ≡ Err (about 0 no12 0)
+  pub old : churns "TABLE 1 1 0\n1 * 1" "TABLE 1 1 0" 1 ≡ Err (about 1 no1 2)
+  pub new : churns "TABLE 1 1 0\n2 * 1\n" "TABLE 1 1 0" 1 ≡ Err (about 2 no1 1)
 
 pub all-churns : Churns
 unfolding churn_answer churn_of moved differing sum_to count_to has_service first_match matches bytes read_table text_limit table_line first_line opening_lines

@@ -1,5 +1,6 @@
 -- A percentage sheet read with j more decimals (document 02, Req 07): where none of its percentages has more than before, it is the same sheet in parts
 -- that are 10 ^ j times as small, or has the same refusal.
+use Rattle.std.specs.Prelude.{None, Option, Some}
 use Prim.Native.Nat.{ℕ, suc, ◌+◌, ◌*◌, ◌^◌}
 use mathlib.Core.Path.{◌≡◌, refl, sym, ap, ◌∙◌}
 use mathlib.Core.Bool.{true}
@@ -13,8 +14,6 @@ use Rattle.numerals.specs.Limits.{most_bits, most_capacity, most_volume, text_li
 use Rattle.numerals.specs.Percentage.{percentage, few_decimals}
 use Rattle.numerals.specs.Refusals.{no1, no2, no3, no4, no5, no6, no11}
 use Rattle.numerals.specs.Text.{split}
-use Rattle.numerals.specs.declared.digits.Number.{Number}
-use Rattle.numerals.specs.declared.digits.Number.TheVariants.{Value, Bad}
 use Rattle.numerals.proofs.Choice.{both_left, both_right}
 use Rattle.numerals.proofs.MoreDecimals.{scaled_number, percent-scaled}
 use Rattle.numerals.proofs.Scaled.{eqb-scaled}
@@ -77,10 +76,10 @@ module _ (m : ℕ) where
       (unless-under _ _ no5 1 _ _ (unless-under _ _ no6 1 _ _ refl))
 
 -- a number that was read m times as large
-field-scaled : {A : Type 0} (m : ℕ) (n : Number) (line : ℕ) (f : ℕ → Reading A) → on_field (scaled_number m n) line f ≡ on_field n line (λ v. f (m * v))
+field-scaled : {A : Type 0} (m : ℕ) (n : (Option ℕ)) (line : ℕ) (f : ℕ → Reading A) → on_field (scaled_number m n) line f ≡ on_field n line (λ v. f (m * v))
 unfolding on_field
-field-scaled m (Value v) line f = refl
-field-scaled m Bad line f = refl
+field-scaled m (Some v) line f = refl
+field-scaled m None line f = refl
 
 module _ (d j all : ℕ) where
   abbrev m : ℕ

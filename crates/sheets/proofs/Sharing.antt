@@ -1,4 +1,5 @@
 -- The share of a backend: counted suffix by suffix it is that of the definition, and the shares of a service that is there sum to all suffixes.
+use Rattle.std.specs.Prelude.{Err, Ok}
 use Prim.Native.Nat.{ℕ, suc, ◌+◌, ◌-◌, ◌^◌, ◌<◌}
 use mathlib.Core.Path.{◌≡◌, sym, ap, ◌∙◌}
 use mathlib.Core.Bool.{Bool, true, false}
@@ -22,7 +23,6 @@ use Rattle.sheets.specs.RuleSheet.{Table}
 use Rattle.sheets.specs.Calls.{refused_at, has_service}
 use Rattle.sheets.specs.Inner.TableNumbers.{lines_in}
 use Rattle.sheets.specs.Shares.{share_in, share_answer}
-use Rattle.sheets.specs.declared.answer.ShareRead.TheVariants.{Made, Refused}
 use Rattle.sheets.specs.declared.rule_sheet.TableHead.{TableHead}
 use Rattle.sheets.proofs.TableChecks.{Proper}
 use Rattle.sheets.proofs.FirstMatch.{first-few, has-match}
@@ -80,16 +80,16 @@ module _
     there : has_service H.table n ≡ ltb 0 r
     there = rw (first, H.lines) (has-match H.table H.proper n 0)
 
-    pub share-none : r ≡ 0 → share_answer text n b ≡ Refused (refused_at UnknownService 0)
+    pub share-none : r ≡ 0 → share_answer text n b ≡ Err (refused_at UnknownService 0)
     unfolding share_answer share_in
     share-none e = rw (H.read, there, e)
 
-    pub share-out : 0 < r → in_limits 1 most_id b ≡ false → share_answer text n b ≡ Refused (refused_at BadField 0)
+    pub share-out : 0 < r → in_limits 1 most_id b ≡ false → share_answer text n b ≡ Err (refused_at BadField 0)
     unfolding share_answer share_in
     share-out some o = rw (H.read, there, lt-ltb 0 r some, o)
 
     pub share-made :
         0 < r → in_limits 1 most_id b ≡ true
-        → share_answer text n b ≡ Made (record { k = h.k; share = share h.k (own_rules n (lines_in numbers h.n)) b })
+        → share_answer text n b ≡ Ok (record { k = h.k; share = share h.k (own_rules n (lines_in numbers h.n)) b })
     unfolding share_answer share_in
     share-made some i = rw (H.read, there, lt-ltb 0 r some, i, H.lines, bits)

@@ -1,4 +1,5 @@
 -- The limits of a percentage sheet that was read: of line 1, of the number of services, of each volume and of the backends of each service.
+use Rattle.std.specs.Prelude.{Ok, Some}
 use Prim.Native.Nat.{ℕ, zero, suc, ◌+◌, ◌-◌, ◌≤◌, ◌<◌}
 use mathlib.Core.Path.{◌≡◌, refl, sym, ap, ◌∙◌}
 use mathlib.Core.Bool.{true}
@@ -10,14 +11,12 @@ use lib.ListN.{length, get_or, drop, length-drop}
 use borrow.Author.Tests.{ltb-true, leb-true, eqb-true, le-leb, eq-eqb}
 use Rattle.numerals.specs.Decimal.{number}
 use Rattle.numerals.specs.Text.{split}
-use Rattle.numerals.specs.declared.digits.Number.TheVariants.{Value}
 use Rattle.numerals.proofs.Decimal.{only-text}
 use Rattle.numerals.specs.Limits.{most_bits, most_backends, most_id, most_services, most_capacity, most_volume, decimals, unit}
 use Rattle.numerals.specs.Sums.{sum_to}
 use Rattle.numerals.proofs.Sums.{sum-none, sum-suc, sum-ext, sum-split}
 use Rattle.numerals.proofs.Searches.{true-all}
 use Rattle.expansion.specs.Answer.{id_before, is_backend, check_weights}
-use Rattle.expansion.specs.declared.call.Checked.TheVariants.{Sound as Passed}
 use Rattle.expansion.proofs.Checks.{weights-sum}
 use Rattle.expansion.proofs.Ids.{Rises}
 use Rattle.sheets.specs.Reading.{got, field}
@@ -78,7 +77,7 @@ module _ {ids ws : List ℕ} (r : Row ids ws) where
   row-most b l = ascends-most 0 ids r.ascends b (omega (arith, r.paired))
 
   -- they pass the checks of a call without a text
-  pub row-passes : check_weights ids ws ≡ Passed
+  pub row-passes : check_weights ids ws ≡ Ok tt
   unfolding is_backend
   row-passes =
       let each : (b : ℕ) → b < length ws → is_backend ids ws b ≡ true =
@@ -155,7 +154,7 @@ pub record LineRead (d all i : ℕ) (fs : List (List ℕ)) (s : Service) : Type 
   pub place : i < most_services
   pub some : 3 ≤ length fs
   pub few : length fs ≤ 2 + most_backends
-  pub volume : number 0 most_volume (field fs 1) ≡ Value s.volume
+  pub volume : number 0 most_volume (field fs 1) ≡ Some s.volume
   pub weights : weight_fields d (i + 2) 0 (drop 2 fs) ≡ got (record { ids = s.ids; weights = s.weights })
   pub balanced : sum s.weights ≡ all
 

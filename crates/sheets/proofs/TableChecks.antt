@@ -1,12 +1,16 @@
 -- What a table that passed the checks has, and that this is enough to pass.
 use Prim.Native.Nat.{ℕ, ◌^◌, ◌≤◌, ◌<◌}
 use mathlib.Core.Path.{◌≡◌, refl, sym, ap, ◌∙◌}
-use mathlib.Core.Bool.{true, false}
+use mathlib.Core.Bool.{true, false, ◌&&◌}
 use mathlib.Core.List.{List, [], ◌∷◌, reverse, reverse_aux}
 use native.Mathlib.Nat.{add-zero}
 use lib.Dec.{leb, ltb}
 use lib.ListN.{length}
 use borrow.Author.Tests.{lt-ltb, le-leb, lt-leb, ltb-true, leb-true, eqb-true}
+use native.Mathlib.Omega.{arith}
+use Rattle.std.proofs.lemmas.Bool.Decides.{nat_tests}
+use Rattle.std.specs.Ordering.{partial_le, is_le, nat_cmp}
+use Rattle.std.specs.contracts.prelude.UsizePartialOrd.TheImpl as usize
 use Rattle.numerals.proofs.Choice.{both_false, both_left, both_right}
 use Rattle.expansion.specs.Answer.{in_limits}
 use Rattle.expansion.proofs.Checks.{limits as within}
@@ -31,6 +35,16 @@ below-least least most x h = rw (lt-leb least x h)
 pub above_most : (least most x : ℕ) → most < x → in_limits least most x ≡ false
 unfolding in_limits
 above_most least most x h = rw (lt-leb x most h) (both_false (leb least x))
+
+-- `(least..=most).contains(&x)` is that test
+le-is : (a b : ℕ) → is_le (nat_cmp a b) ≡ leb a b
+le-is a b = grind (arith, nat_tests)
+
+pub contains-is :
+    (least most x : ℕ)
+    → (partial_le usize.partial_cmp-value.it least x && partial_le usize.partial_cmp-value.it x most) ≡ in_limits least most x
+unfolding in_limits
+contains-is least most x = rw (le-is least x, le-is x most) (elim (leb least x) [ true ↦ refl | false ↦ refl ])
 
 -- a rule line in its limits
 pub record Formed (k : ℕ) (l : Line) : Type 0 where

@@ -1,4 +1,5 @@
 -- A table handed in numbers: what each check of it comes to, in their order.
+use Rattle.std.specs.Prelude.{Err, Ok, Result}
 use Prim.Native.Nat.{ℕ, ◌+◌, ◌*◌, ◌/◌, ◌≤◌, ◌<◌}
 use mathlib.Core.Path.{◌≡◌, refl, ap, ◌∙◌}
 use mathlib.Core.Bool.{Bool, true, false}
@@ -8,8 +9,6 @@ use lib.Dec.{leb, eqb}
 use lib.ListN.{length}
 use lib.Seq.{take_all}
 use borrow.Author.Tests.{le-leb, lt-leb}
-use Rattle.expansion.specs.declared.call.Checked.{Checked}
-use Rattle.expansion.specs.declared.call.Checked.TheVariants.{Sound, Refused}
 use Rattle.numerals.specs.declared.refusal.Refusal.TheVariants.{Malformed, BadField, Order, TooLong}
 use Rattle.packing.specs.Count.{Line}
 use Rattle.sheets.specs.Reading.{Reading, got, refused, then, unless}
@@ -22,26 +21,27 @@ use Rattle.sheets.specs.Inner.TableNumbers.{lines_in, table_in, RuleLines}
 use Rattle.sheets.specs.Inner.Writing.{CheckedAs, checked_from, checked_cells, handed}
 use Rattle.sheets.proofs.NumbersText.{count-lines, count-broken, rule-lines}
 use Rattle.sheets.proofs.Readings.{unless-got}
-use Rattle.sheets.proofs.TableChecks.{is_within_lem, proper, check-same}
+use Rattle.sheets.proofs.TableChecks.{proper, check-same}
+use Rattle.numerals.specs.declared.refusal.Refusal.{Refusal}
 
 -- the end of the check, whatever the table is answered as
-ends-alike : {A : Type 0} (broken : ℕ) (a : A) (read : Reading (List Line)) (r : Checked)
+ends-alike : {A : Type 0} (broken : ℕ) (a : A) (read : Reading (List Line)) (r : (Result (Unit {0}) Refusal))
     → CheckedAs r (then read (check_end broken (tt {0}))) tt
     → CheckedAs r (then read (check_end broken a)) a
 unfolding then unless check_end
 ends-alike broken a (got all) r h = go (eqb broken 0) (closed all) r h
   where
-    go : (s t : Bool) (r : Checked)
+    go : (s t : Bool) (r : (Result (Unit {0}) Refusal))
         → CheckedAs r (unless s Malformed 0 (unless t Order 0 (got (tt {0})))) tt
         → CheckedAs r (unless s Malformed 0 (unless t Order 0 (got a))) a
-    go true true Sound h = refl
-    go true true (Refused why) h = cc
-    go true false Sound h = cc
-    go true false (Refused why) h = cc
-    go false t Sound h = cc
-    go false t (Refused why) h = cc
-ends-alike broken a (refused why line) Sound h = cc
-ends-alike broken a (refused why line) (Refused other) h = cc
+    go true true (Ok tt) h = refl
+    go true true (Err why) h = cc
+    go true false (Ok tt) h = cc
+    go true false (Err why) h = cc
+    go false t (Ok tt) h = cc
+    go false t (Err why) h = cc
+ends-alike broken a (refused why line) (Ok tt) h = cc
+ends-alike broken a (refused why line) (Err other) h = cc
 
 module _ (k total : ℕ) (cs : List ℕ) where
   abbrev n : ℕ
@@ -63,25 +63,25 @@ module _ (k total : ℕ) (cs : List ℕ) where
     unfolding check_sheet unless
     handed-bits h = checks ∙ rw h
 
-    module _ (one : 1 ≤ k) (few : k ≤ most_bits) where
+    module _ (bits : in_limits 1 most_bits k ≡ true) where
       pub handed-count : in_limits 1 most_capacity n ≡ false → table_handed k total cs ≡ refused BadField 0
       unfolding check_sheet unless
-      handed-count h = checks ∙ rw (is_within_lem 1 most_bits k one few, count, h)
+      handed-count h = checks ∙ rw (bits, count, h)
 
-      module _ (some : 1 ≤ n) (fits : n ≤ most_capacity) where
+      module _ (few : in_limits 1 most_capacity n ≡ true) where
         pub handed-total : leb total total_limit ≡ false → table_handed k total cs ≡ refused BadField 0
         unfolding check_sheet unless
-        handed-total h = checks ∙ rw (is_within_lem 1 most_bits k one few, count, is_within_lem 1 most_capacity n some fits, h)
+        handed-total h = checks ∙ rw (bits, count, few, h)
 
         pub handed-lines :
-            total ≤ total_limit → (r : Checked) → CheckedAs r (checked_cells k cs) tt
+            total ≤ total_limit → (r : (Result (Unit {0}) Refusal)) → CheckedAs r (checked_cells k cs) tt
             → CheckedAs r (table_handed k total cs) (handed k total cs)
         unfolding check_sheet unless checked_from
         handed-lines small r h =
             let t : Table = handed k total cs in
             let broken = length (broken_from cs) in
             let rest : table_handed k total cs ≡ then (check_lines k [] (lines_from cs)) (check_end broken t) =
-            checks ∙ rw (is_within_lem 1 most_bits k one few, count, is_within_lem 1 most_capacity n some fits, le-leb total total_limit small) in
+            checks ∙ rw (bits, count, few, le-leb total total_limit small) in
             rw rest (ends-alike broken t (check_lines k [] (lines_from cs)) r h)
 
 -- a table that passed: it is whole lines, which are in their limits

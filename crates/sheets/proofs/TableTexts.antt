@@ -10,7 +10,7 @@ use Rattle.numerals.specs.Text.{split}
 use Rattle.numerals.specs.Limits.{most_bits, most_id, most_services}
 use Rattle.numerals.proofs.Decimal.{length-decimal, decimal-free, width-least}
 use Rattle.numerals.proofs.Fields.{Free}
-use Rattle.numerals.proofs.Suffix.{length-suffix, suffix-free}
+use Rattle.numerals.proofs.SuffixTexts.{length-suffix, suffix-free}
 use Rattle.packing.specs.Count.{Line}
 use Rattle.sheets.specs.RuleSheet.{Table, table_word, head_text, line_text, lines_text, table_text}
 use Rattle.sheets.specs.Inner.Writing.{line_width}

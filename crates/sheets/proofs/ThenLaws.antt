@@ -1,9 +1,8 @@
 -- What follows a reading, taken into each of its steps.
+use Rattle.std.specs.Prelude.{None, Option, Some}
 use Prim.Native.Nat.{ℕ}
 use mathlib.Core.Path.{◌≡◌, refl}
 use mathlib.Core.Bool.{Bool, true, false}
-use Rattle.numerals.specs.declared.digits.Number.{Number}
-use Rattle.numerals.specs.declared.digits.Number.TheVariants.{Value, Bad}
 use Rattle.numerals.specs.declared.refusal.Refusal.{Refusal}
 use Rattle.sheets.specs.Reading.{Reading, got, refused, then, unless, on_field}
 
@@ -15,10 +14,10 @@ module _ {A B : Type 0} (g : A → Reading B) where
   unless-under false why line r s h = refl
 
   pub field-under :
-      (n : Number) (line : ℕ) (f : ℕ → Reading B) (h : ℕ → Reading A) → ((v : ℕ) → f v ≡ then (h v) g) → on_field n line f ≡ then (on_field n line h) g
+      (n : (Option ℕ)) (line : ℕ) (f : ℕ → Reading B) (h : ℕ → Reading A) → ((v : ℕ) → f v ≡ then (h v) g) → on_field n line f ≡ then (on_field n line h) g
   unfolding on_field then
-  field-under (Value v) line f h same = same v
-  field-under Bad line f h same = refl
+  field-under (Some v) line f h same = same v
+  field-under None line f h same = refl
 
   pub then-under :
       {C : Type 0} (r : Reading C) (f : C → Reading B) (h : C → Reading A) → ((c : C) → r ≡ got c → f c ≡ then (h c) g) → then r f ≡ then (then r h) g

@@ -1,4 +1,5 @@
 -- Witnesses: the premises of the round trip and of demand 3 can be met, the bounds of demand 3 are reached, and the one call has each of its answers.
+use Rattle.std.specs.Prelude.{Err, Ok}
 use Prim.Native.Nat.{ℕ, zero, suc, ◌<◌, ◌≤◌}
 use mathlib.Core.Path.{◌≡◌, refl, subst}
 use mathlib.Core.List.{List, [], ◌∷◌}
@@ -38,8 +39,6 @@ use Rattle.sheets.specs.Inner.Premises.{check_table}
 use Rattle.sheets.specs.Calls.{about, services_in, table_for, plan_of, plan_answer, figures_for, sheet_text, print_text, print_read}
 use Rattle.sheets.specs.Demand.{Demand3}
 use Rattle.sheets.specs.Cases.{bytes, cases}
-use Rattle.sheets.specs.declared.answer.Planned.TheVariants as planned
-use Rattle.sheets.specs.declared.answer.Answer.TheVariants.{Value}
 use Rattle.sheets.proofs.Cases.{right}
 use Rattle.sheets.proofs.DemandThree.{demand-three}
 
@@ -83,7 +82,7 @@ unfolding sheet_text
 sample-printed = rw sample-packed sample-written
 
 -- and the call that prints answers so many bytes
-pub sample-answer : print_read (read_sheet sheet_bytes) sheet_text text_limit ≡ Value 56
+pub sample-answer : print_read (read_sheet sheet_bytes) sheet_text text_limit ≡ Ok 56
 unfolding cases print_text bytes text_limit
 sample-answer = rw (right.0, sample-printed)
 
@@ -184,10 +183,10 @@ sample-figures = made packs-sample.first packs-sample.second (lists-are 0) (list
     made a b c d = rw (a, b, c, d) figures-right
 
 pub record OneCall : Type 0 where
-  pub made : plan_answer sheet_bytes 6 20 ≡ planned.Made (record { k = 5; services = 2; rules = 5; total = 29333392000 })
-  pub table-short : plan_answer sheet_bytes 6 19 ≡ planned.Refused (about table_buffer no7 0)
-  pub figures-short : plan_answer sheet_bytes 5 20 ≡ planned.Refused (about figures_buffer no7 0)
-  pub both-short : plan_answer sheet_bytes 5 19 ≡ planned.Refused (about figures_buffer no7 0)
+  pub made : plan_answer sheet_bytes 6 20 ≡ Ok (record { k = 5; services = 2; rules = 5; total = 29333392000 })
+  pub table-short : plan_answer sheet_bytes 6 19 ≡ Err (about table_buffer no7 0)
+  pub figures-short : plan_answer sheet_bytes 5 20 ≡ Err (about figures_buffer no7 0)
+  pub both-short : plan_answer sheet_bytes 5 19 ≡ Err (about figures_buffer no7 0)
 
 pub one-call : OneCall
 unfolding cases plan_answer plan_of

@@ -1,4 +1,5 @@
 -- Writing one part after the other writes their bytes after each other.
+use Rattle.std.specs.Prelude.{Ok, Result}
 use Prim.Native.Nat.{ℕ, suc, ◌+◌, ◌<◌}
 use mathlib.Core.Path.{◌≡◌, refl, sym, ap, ◌∙◌}
 use mathlib.Core.List.{List, [], ◌∷◌, ◌++◌}
@@ -7,10 +8,9 @@ use native.Mathlib.Omega.{arith}
 use lib.ListN.{length, set, length-append}
 use lib.Seq.{sets, length-sets}
 use Rattle.numerals.specs.Digits.{put, put_end}
-use Rattle.numerals.specs.declared.digits.Written.{Written}
-use Rattle.numerals.specs.declared.digits.Written.TheVariants.{End}
 use Rattle.numerals.proofs.Writing.{written}
 use Rattle.sheets.specs.Inner.Writing.{Wrote, Before, end_at}
+use Rattle.numerals.specs.declared.refusal.Refusal.{Refusal}
 
 pub sets-append : (l : List ℕ) (at : ℕ) (xs ys : List ℕ) → sets l at (xs ++ ys) ≡ sets (sets l at xs) (at + length xs) ys
 sets-append l at [] ys = ap (λ (i : ℕ). sets l i ys) (sym (add-zero at))
@@ -43,12 +43,12 @@ module _
     (at : ℕ)
     (bs : List ℕ)
     (room : at + length bs < length out)
-    (w : Written)
+    (w : (Result ℕ Refusal))
     (after : List ℕ)
     (is : w ≡ put_end out at bs)
     (put-it : after ≡ put out at bs)
   where
-    ends-in : w ≡ End (at + length bs)
+    ends-in : w ≡ Ok (at + length bs)
     ends-in = is ∙ sym (written out at bs (omega arith)).0
 
     pub text : Wrote out after at (end_at w) bs

@@ -1,5 +1,5 @@
 -- What the public calls answer, and what they write, for every input.
-use Rattle.std.specs.Prelude.{ℕ, ◌+◌, ◌*◌, ◌^◌, Bool, true, false, List, [], ◌∷◌, ◌++◌, leb, ltb, eqb, length}
+use Rattle.std.specs.Prelude.{ℕ, ◌+◌, ◌*◌, ◌^◌, Bool, true, false, List, [], ◌∷◌, ◌++◌, leb, ltb, eqb, length, Err, Ok, Result}
 use Rattle.numerals.specs.Buffer.{filled}
 use Rattle.numerals.specs.Pick.{pick}
 use Rattle.numerals.specs.Decimal.{decimal}
@@ -15,12 +15,8 @@ use Rattle.sheets.specs.Reading.{Reading, got, refused, unless}
 use Rattle.sheets.specs.PercentageSheet.{Sheet, read_sheet}
 use Rattle.sheets.specs.RuleSheet.{Table, head_text, lines_text, table_text, count_of, read_table, check_sheet}
 use Rattle.sheets.specs.declared.answer.Refused.{Refused as Why}
-use Rattle.sheets.specs.declared.answer.Answer.{Answer}
-use Rattle.sheets.specs.declared.answer.Answer.TheVariants.{Value, Refused}
-use Rattle.sheets.specs.declared.answer.Planned.{Planned}
-use Rattle.sheets.specs.declared.answer.Planned.TheVariants as planned
-use Rattle.sheets.specs.declared.answer.TableRead.{TableRead}
-use Rattle.sheets.specs.declared.answer.TableRead.TheVariants as table_read
+use Rattle.sheets.specs.declared.answer.Plan.{Plan}
+use Rattle.sheets.specs.declared.answer.TableRecord.{TableRecord}
 
 -- a refusal with its line, about one of two sheets or buffers, or about neither
 abbrev pub about : ℕ → Refusal → ℕ → Why
@@ -43,17 +39,17 @@ values_of (refused why line) f = []
 abbrev pub afterwards : Bool → List ℕ → List ℕ → List ℕ
 afterwards made out vs = filled made out 0 vs
 
-abbrev pub is_value : Answer → Bool
-is_value (Value n) = true
-is_value (Refused r) = false
+abbrev pub is_value : Result ℕ Why → Bool
+is_value (Ok n) = true
+is_value (Err r) = false
 
-abbrev pub is_plan : Planned → Bool
-is_plan (planned.Made p) = true
-is_plan (planned.Refused r) = false
+abbrev pub is_plan : Result Plan Why → Bool
+is_plan (Ok p) = true
+is_plan (Err r) = false
 
-abbrev pub is_table : TableRead → Bool
-is_table (table_read.Made r) = true
-is_table (table_read.Refused r) = false
+abbrev pub is_table : Result TableRecord Why → Bool
+is_table (Ok r) = true
+is_table (Err r) = false
 
 -- the services of a sheet whose weights sum to `all`, as the count is fed them; backends are labelled by their ids
 abbrev pub services_at : ℕ → Sheet → Services
@@ -77,16 +73,16 @@ unfoldable pub table_for : Sheet → Table
 table_for S = table_with (services_in S) S
 
 -- the one call: the table and the figures of a percentage sheet's text; 7 is about the lent buffer that is too short
-unfoldable pub plan_of : Sheet → ℕ → ℕ → Planned
+unfoldable pub plan_of : Sheet → ℕ → ℕ → Result Plan Why
 plan_of S figures_room table_room =
     pick (leb (3 * length S.volumes) figures_room)
     (pick (leb (4 * length (table_for S).lines) table_room)
-    (planned.Made (record { k = S.k; services = length S.volumes; rules = length (table_for S).lines; total = (table_for S).total }))
-    (planned.Refused (about table_buffer no7 0)))
-    (planned.Refused (about figures_buffer no7 0))
+    (Ok (record { k = S.k; services = length S.volumes; rules = length (table_for S).lines; total = (table_for S).total }))
+    (Err (about table_buffer no7 0)))
+    (Err (about figures_buffer no7 0))
 
-unfoldable pub plan_answer : List ℕ → ℕ → ℕ → Planned
-plan_answer text figures_room table_room = answered planned.Refused no_buffer (read_sheet text) (λ S. plan_of S figures_room table_room)
+unfoldable pub plan_answer : List ℕ → ℕ → ℕ → Result Plan Why
+plan_answer text figures_room table_room = answered Err no_buffer (read_sheet text) (λ S. plan_of S figures_room table_room)
 
 unfoldable pub figures_for : Sheet → List ℕ
 figures_for S = figures_made (services_in S) S.tolerance S.capacity
@@ -95,11 +91,11 @@ unfoldable pub cells_for : Sheet → List ℕ
 cells_for S = cells (table_for S).lines
 
 -- a text, or other values, for a lent buffer: how many of them are written, if there is room, else 7
-unfoldable pub print_text : List ℕ → ℕ → Answer
-print_text bytes room = pick (leb (length bytes) room) (Value (length bytes)) (Refused (refused_at no7 0))
+unfoldable pub print_text : List ℕ → ℕ → Result ℕ Why
+print_text bytes room = pick (leb (length bytes) room) (Ok (length bytes)) (Err (refused_at no7 0))
 
-abbrev pub print_read : {A : Type 0} → Reading A → (A → List ℕ) → ℕ → Answer
-print_read r text room = answered Refused 0 r (λ a. print_text (text a) room)
+abbrev pub print_read : {A : Type 0} → Reading A → (A → List ℕ) → ℕ → Result ℕ Why
+print_read r text room = answered Err 0 r (λ a. print_text (text a) room)
 
 -- the rule sheet of a percentage sheet's text
 unfoldable pub sheet_text : Sheet → List ℕ
@@ -141,25 +137,25 @@ table_handed k total cs =
     (check_sheet (record { k = k; total = total; lines = lines_from cs }) (length (broken_from cs)))
 
 -- the table of a rule sheet's text, into a lent buffer
-unfoldable pub read_in : Table → ℕ → TableRead
+unfoldable pub read_in : Table → ℕ → Result TableRecord Why
 read_in t room =
     pick (leb (4 * length t.lines) room)
-    (table_read.Made (record { k = t.k; rules = length t.lines; total = t.total }))
-    (table_read.Refused (refused_at no7 0))
+    (Ok (record { k = t.k; rules = length t.lines; total = t.total }))
+    (Err (refused_at no7 0))
 
-unfoldable pub read_answer : List ℕ → ℕ → TableRead
-read_answer text room = answered table_read.Refused 0 (read_table text) (λ t. read_in t room)
+unfoldable pub read_answer : List ℕ → ℕ → Result TableRecord Why
+read_answer text room = answered Err 0 (read_table text) (λ t. read_in t room)
 
 -- service n has lines
 unfoldable pub has_service : Table → ℕ → Bool
 has_service t n = ltb 0 (count_of n t.lines)
 
 -- lookup (document 01, "Lookup and churn"): the id of the backend of the first matching line of service n
-unfoldable pub lookup_in : Table → ℕ → ℕ → Answer
-lookup_in t n address = pick (has_service t n) (Value (first_match (own_rules n t.lines) address)) (Refused (refused_at no8 0))
+unfoldable pub lookup_in : Table → ℕ → ℕ → Result ℕ Why
+lookup_in t n address = pick (has_service t n) (Ok (first_match (own_rules n t.lines) address)) (Err (refused_at no8 0))
 
-unfoldable pub lookup_answer : List ℕ → ℕ → ℕ → Answer
-lookup_answer text n address = answered Refused 0 (read_table text) (λ t. lookup_in t n address)
+unfoldable pub lookup_answer : List ℕ → ℕ → ℕ → Result ℕ Why
+lookup_answer text n address = answered Err 0 (read_table text) (λ t. lookup_in t n address)
 
 -- of the suffixes below `all`, the number for which service n has another backend in the new lines than in the old
 unfoldable pub moved : ℕ → List Line → List Line → ℕ → ℕ
@@ -175,10 +171,10 @@ of_service refuse first second alike a =
     (refuse (about 2 no8 0)))
     (refuse (about 1 no8 0))
 
-unfoldable pub churn_of : Table → Table → ℕ → Answer
+unfoldable pub churn_of : Table → Table → ℕ → Result ℕ Why
 churn_of old new n =
-    of_service Refused (has_service old n) (has_service new n) (eqb old.k new.k) (Value (moved (2 ^ old.k) old.lines new.lines n))
+    of_service Err (has_service old n) (has_service new n) (eqb old.k new.k) (Ok (moved (2 ^ old.k) old.lines new.lines n))
 
 -- the first sheet is read wholly first
-unfoldable pub churn_answer : List ℕ → List ℕ → ℕ → Answer
-churn_answer old new n = answered Refused 1 (read_table old) (λ o. answered Refused 2 (read_table new) (λ m. churn_of o m n))
+unfoldable pub churn_answer : List ℕ → List ℕ → ℕ → Result ℕ Why
+churn_answer old new n = answered Err 1 (read_table old) (λ o. answered Err 2 (read_table new) (λ m. churn_of o m n))

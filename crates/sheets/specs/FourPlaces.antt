@@ -1,6 +1,6 @@
 -- Sheets of four-place percentages (document 02, Req 07): they remain valid and give the same rules, and their printed totals are a hundred times larger. The
 -- definitions of a sheet and its table are taken at the decimals and the unit of document 01 and at those of Req 07.
-use Rattle.std.specs.Prelude.{ℕ, ◌*◌, Bool, true, List, [], ◌∷◌, ◌≡◌, length, drop}
+use Rattle.std.specs.Prelude.{ℕ, ◌*◌, Bool, true, List, [], ◌∷◌, ◌≡◌, length, drop, Result}
 use Rattle.numerals.specs.Limits.{decimals, unit}
 use Rattle.numerals.specs.Percentage.{few_decimals}
 use Rattle.numerals.specs.Pick.{both}
@@ -9,7 +9,7 @@ use Rattle.sheets.specs.Reading.{Reading, got, then, field}
 use Rattle.sheets.specs.PercentageSheet.{read_sheet_at}
 use Rattle.sheets.specs.RuleSheet.{Table, table_text}
 use Rattle.sheets.specs.Calls.{services_at, table_with, print_read, afterwards, is_value, values_of}
-use Rattle.sheets.specs.declared.answer.Answer.{Answer}
+use Rattle.sheets.specs.declared.answer.Refused.{Refused}
 
 -- document 01: a percentage has up to four decimals, and weights sum to 1,000,000
 abbrev pub former_decimals : ℕ
@@ -49,7 +49,7 @@ unfoldable pub few_in_sheet : ℕ → List ℕ → Bool
 few_in_sheet d text = few_in_lines d (split 10 text)
 
 -- what is promised of a text and of what the call that prints answers and leaves in the lent buffer
-pub record FourPlaces (text : List ℕ) (r : Answer) (out out' : List ℕ) : Type 0 where
+pub record FourPlaces (text : List ℕ) (r : Result ℕ Refused) (out out' : List ℕ) : Type 0 where
   -- what is accepted at document 01's decimals and unit remains valid, with the same lines and a hundred times the total
   pub valid : (t : Table) → former_table text ≡ got t → table_at decimals unit text ≡ got (hundredfold t)
   -- so it is for every sheet in which no percentage has more than four decimals; and one that is refused there has the same refusal, number and line

@@ -6,6 +6,5 @@ pub mod Order
 pub mod TableNumbers
 pub mod TableReader
 pub mod Writing
-pub mod Planning
 pub mod Update
 pub mod Premises

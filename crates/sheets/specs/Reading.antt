@@ -1,8 +1,6 @@
 -- Reading a text line by line (document 01, "Turned-back work"): what was read, or the refusal and its line; the first refusal is the answer.
-use Rattle.std.specs.Prelude.{ℕ, Bool, true, false, List, [], ◌∷◌, eqb, get_or}
+use Rattle.std.specs.Prelude.{ℕ, Bool, true, false, List, [], ◌∷◌, eqb, get_or, None, Option, Some}
 use Rattle.numerals.specs.Pick.{both}
-use Rattle.numerals.specs.declared.digits.Number.{Number}
-use Rattle.numerals.specs.declared.digits.Number.TheVariants.{Value, Bad}
 use Rattle.numerals.specs.declared.refusal.Refusal.{Refusal}
 use Rattle.numerals.specs.Refusals.{no2}
 
@@ -21,9 +19,9 @@ unless true why line next = next
 unless false why line next = refused why line
 
 -- a field that was read as a number
-unfoldable pub on_field : {A : Type 0} → Number → ℕ → (ℕ → Reading A) → Reading A
-on_field (Value v) line f = f v
-on_field Bad line f = refused no2 line
+unfoldable pub on_field : {A : Type 0} → Option ℕ → ℕ → (ℕ → Reading A) → Reading A
+on_field (Some v) line f = f v
+on_field None line f = refused no2 line
 
 -- two texts are the same
 unfoldable pub same : List ℕ → List ℕ → Bool

@@ -1,14 +1,10 @@
 -- The rule sheet (document 01, "Rule sheet and program"): its text, and its reading with every refusal in its order.
-use Rattle.std.specs.Prelude.{ℕ, ◌+◌, Bool, true, List, [], ◌∷◌, ◌++◌, reverse, leb, ltb, eqb, length}
+use Rattle.std.specs.Prelude.{ℕ, ◌+◌, Bool, true, List, [], ◌∷◌, ◌++◌, reverse, leb, ltb, eqb, length, Err, None, Option, Result, Some}
 use Rattle.numerals.specs.Pick.{pick, both}
 use Rattle.numerals.specs.Decimal.{number, decimal}
 use Rattle.numerals.specs.Suffix.{suffix, suffix_text}
 use Rattle.numerals.specs.Digits.{put, put_end}
-use Rattle.numerals.specs.declared.digits.Written.{Written}
-use Rattle.numerals.specs.declared.digits.Written.TheVariants.{Refused}
 use Rattle.numerals.specs.Text.{split}
-use Rattle.numerals.specs.declared.suffixes.SuffixRead.{SuffixRead}
-use Rattle.numerals.specs.declared.suffixes.SuffixRead.TheVariants.{Suffix, Bad}
 use Rattle.expansion.specs.Answer.{in_limits}
 use Rattle.expansion.specs.FirstMatch.{is_rule}
 use Rattle.numerals.specs.Refusals.{no1, no2, no4, no5, no9, no10}
@@ -16,6 +12,8 @@ use Rattle.packing.specs.Count.{Line, own_rules}
 use Rattle.sheets.specs.Reading.{Reading, got, refused, then, unless, on_field, field}
 use Rattle.sheets.specs.FirstLine.{Opening, first_line}
 use Rattle.numerals.specs.Limits.{most_bits, most_id, most_services, most_rules, most_capacity, total_limit}
+use Rattle.numerals.specs.declared.refusal.Refusal.{Refusal}
+use Rattle.numerals.specs.declared.suffixes.Suffix.{Suffix}
 
 -- what a rule sheet says; its lines have the printed numbers: services 1 to 64, backends by their ids, 1 to 9,999
 pub record Table : Type 0 where
@@ -44,9 +42,9 @@ head_text k n total = table_word ++ 32 ∷ decimal k ++ 32 ∷ decimal n ++ 32 �
 unfoldable pub table_text : Table → List ℕ
 table_text t = head_text t.k (length t.lines) t.total ++ lines_text t.lines
 
-unfoldable pub on_suffix : {A : Type 0} → SuffixRead → ℕ → (ℕ → ℕ → Reading A) → Reading A
-on_suffix (Suffix l v) line f = f l v
-on_suffix Bad line f = refused no2 line
+unfoldable pub on_suffix : {A : Type 0} → Option Suffix → ℕ → (ℕ → ℕ → Reading A) → Reading A
+on_suffix (Some s) line f = f s.len s.value
+on_suffix None line f = refused no2 line
 
 -- how many of the lines are of service n
 unfoldable pub count_of : ℕ → List Line → ℕ
@@ -130,5 +128,5 @@ unfoldable pub put_line : List ℕ → ℕ → Line → List ℕ
 put_line out at l = pick (is_line most_bits l) (put out at (line_text l)) out
 
 -- the answer of that: a number out of its limits is refusal 2, which comes before 7
-unfoldable pub put_line_end : List ℕ → ℕ → Line → Written
-put_line_end out at l = pick (is_line most_bits l) (put_end out at (line_text l)) (Refused no2)
+unfoldable pub put_line_end : List ℕ → ℕ → Line → Result ℕ Refusal
+put_line_end out at l = pick (is_line most_bits l) (put_end out at (line_text l)) (Err no2)

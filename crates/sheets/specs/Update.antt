@@ -1,6 +1,6 @@
 -- What an update reads (document 02, Req 03 and 04): of a rule sheet the rules of a service, which are its old list, and of a percentage sheet its
 -- new weights with their ids, and the tolerance. The first sheet is read wholly, then the second; then the first that lacks the service, then unlike k.
-use Rattle.std.specs.Prelude.{ℕ, ◌-◌, Bool, true, false, List, [], leb, eqb, length, get_or}
+use Rattle.std.specs.Prelude.{ℕ, ◌-◌, Bool, true, false, List, [], leb, eqb, length, get_or, Err, Ok, Result}
 use Rattle.numerals.specs.Pick.{pick, both}
 use Rattle.numerals.specs.Refusals.{no7}
 use Rattle.expansion.specs.Answer.{in_limits}
@@ -11,8 +11,7 @@ use Rattle.sheets.specs.PercentageSheet.{Sheet, read_sheet}
 use Rattle.sheets.specs.RuleSheet.{Table, read_table}
 use Rattle.sheets.specs.Calls.{refused_at, answered, of_service, has_service}
 use Rattle.sheets.specs.declared.answer.Refused.{Refused as Why}
-use Rattle.sheets.specs.declared.answer.UpdateRead.{UpdateRead}
-use Rattle.sheets.specs.declared.answer.UpdateRead.TheVariants.{Made, Refused}
+use Rattle.sheets.specs.declared.answer.UpdateRecord.{UpdateRecord}
 
 -- the old list of service n: its lines, the newest rule first
 unfoldable pub old_rules : Table → ℕ → List Rule
@@ -34,19 +33,19 @@ abbrev pub of_both : {A : Type 0} → (Why → A) → Table → Sheet → ℕ �
 of_both refuse t S n a = of_service refuse (has_service t n) (has_weights S n) (eqb t.k S.k) a
 
 -- the answer, where the lent buffers have so many places
-unfoldable pub update_in : Table → Sheet → ℕ → ℕ → ℕ → ℕ → UpdateRead
+unfoldable pub update_in : Table → Sheet → ℕ → ℕ → ℕ → ℕ → Result UpdateRecord Why
 update_in t S n rules_room ids_room weights_room =
-    of_both Refused t S n
+    of_both Err t S n
     (pick
     (both (leb (length (numbers_of (old_rules t n))) rules_room) (both (leb (length (new_ids S n)) ids_room) (leb (length (new_weights S n)) weights_room)))
-    (Made (record { k = t.k; tolerance = S.tolerance; rules = length (old_rules t n); backends = length (new_weights S n) }))
-    (Refused (refused_at no7 0)))
+    (Ok (record { k = t.k; tolerance = S.tolerance; rules = length (old_rules t n); backends = length (new_weights S n) }))
+    (Err (refused_at no7 0)))
 
-unfoldable pub update_read_answer : List ℕ → List ℕ → ℕ → ℕ → ℕ → ℕ → UpdateRead
+unfoldable pub update_read_answer : List ℕ → List ℕ → ℕ → ℕ → ℕ → ℕ → Result UpdateRecord Why
 update_read_answer old sheet n rules_room ids_room weights_room =
-    answered Refused 1 (read_table old) (λ t. answered Refused 2 (read_sheet sheet) (λ S. update_in t S n rules_room ids_room weights_room))
+    answered Err 1 (read_table old) (λ t. answered Err 2 (read_sheet sheet) (λ S. update_in t S n rules_room ids_room weights_room))
 
 -- both were read; only then are the lent buffers filled
-abbrev pub is_read : UpdateRead → Bool
-is_read (Made r) = true
-is_read (Refused r) = false
+abbrev pub is_read : Result UpdateRecord Why → Bool
+is_read (Ok r) = true
+is_read (Err r) = false

@@ -1,8 +1,9 @@
 // What the calls answer.
 ghost use Rattle.std.specs.Prelude.{◌≡◌};
-ghost use Rattle.sheets.specs.Calls.{refused_at};
+ghost use Rattle.sheets.specs.Calls.{about, refused_at};
 
 use numerals::Refusal;
+use packing::NotPacked;
 
 // Why a sheet, a call or a buffer is refused; the line from 1, or 0 where the line isn't the reason; and of two sheets, or
 // of the one call's two lent buffers (figures 1, table 2), the one that it is about, or 0 where it is about neither.
@@ -13,11 +14,17 @@ pub struct Refused {
     pub of: usize,
 }
 
-// A number: how many bytes were written, the id of a backend, or how many suffixes moved.
-#[derive(Drop)]
-pub enum Answer {
-    Value(usize),
-    Refused(Refused),
+impl Refused {
+    // The same, about one of two sheets.
+    pub fn about(self, of: usize) -> Refused
+        ensures { result ≡ about of self.why self.line }
+    {
+        Refused {
+            why: self.why,
+            line: self.line,
+            of,
+        }
+    }
 }
 
 // The measures of a table that was planned.
@@ -29,12 +36,6 @@ pub struct Plan {
     pub total: u64,
 }
 
-#[derive(Drop)]
-pub enum Planned {
-    Made(Plan),
-    Refused(Refused),
-}
-
 // The measures of a table that was read.
 #[derive(Drop)]
 pub struct TableRecord {
@@ -43,23 +44,11 @@ pub struct TableRecord {
     pub total: u64,
 }
 
-#[derive(Drop)]
-pub enum TableRead {
-    Made(TableRecord),
-    Refused(Refused),
-}
-
 // The share of a backend: how many suffixes of k bits it is given.
 #[derive(Drop)]
 pub struct ShareRecord {
     pub k: usize,
     pub share: u64,
-}
-
-#[derive(Drop)]
-pub enum ShareRead {
-    Made(ShareRecord),
-    Refused(Refused),
 }
 
 // The measures of what an update reads: the rules of the old list and the new weights.
@@ -71,10 +60,26 @@ pub struct UpdateRecord {
     pub backends: usize,
 }
 
-#[derive(Drop)]
-pub enum UpdateRead {
-    Made(UpdateRecord),
-    Refused(Refused),
+// A refusal of numbers is at no line.
+impl From<Refusal> for Refused {
+    ghost from_gives = { λ why r. r ≡ refused_at why 0 };
+
+    fn from(why: Refusal) -> Refused {
+        refused_at(why, 0)
+    }
+}
+
+// One of the packing is about one of its two buffers, or about neither.
+impl From<NotPacked> for Refused {
+    ghost from_gives = { λ n r. r ≡ about n.buffer n.why 0 };
+
+    fn from(n: NotPacked) -> Refused {
+        Refused {
+            why: n.why,
+            line: 0,
+            of: n.buffer,
+        }
+    }
 }
 
 // A refusal that is about neither of two.

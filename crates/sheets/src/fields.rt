@@ -5,8 +5,6 @@ ghost use Rattle.numerals.specs.Decimal.{number};
 ghost use Rattle.sheets.specs.Reading.{same, field};
 ghost use Rattle.sheets.specs.Inner.Fields.{fields_at, IsField};
 
-use numerals::Number;
-
 // A part of a text.
 #[derive(Drop)]
 pub struct Span {
@@ -20,14 +18,12 @@ pub fn field_at(s: &[u8], from: usize, to: usize, n: usize) -> Span
     ensures { IsField s.now from to n result.from result.to }
 {
     let mut at = from;
-    let mut i = 0;
-    while i < n {
+    for _ in 0..n {
         let end = numerals::find(s, at, to, 32);
         if to <= end {
             return Span { from: to, to };
         }
         at = end + 1;
-        i += 1;
     }
     Span {
         from: at,
@@ -36,7 +32,14 @@ pub fn field_at(s: &[u8], from: usize, to: usize, n: usize) -> Span
 }
 
 // A number in a field of a line.
-pub fn number_in(text: &[u8], from: usize, to: usize, n: usize, least: u64, most: u64) -> Number
+pub fn number_in(
+    text: &[u8],
+    from: usize,
+    to: usize,
+    n: usize,
+    least: u64,
+    most: u64,
+) -> Option<u64>
     requires { (from ≤ to) × (to ≤ length text.now) }
     ensures { result ≡ number least most (field (fields_at text.now from to) n) }
 {
@@ -49,15 +52,5 @@ pub fn is_word(s: &[u8], from: usize, to: usize, word: &[u8]) -> bool
     requires { (from ≤ to) × (to ≤ length s.now) }
     ensures { result ≡ same (slice from to s.now) word.now }
 {
-    if to - from != word.len() {
-        return false;
-    }
-    let mut i = 0;
-    while i < word.len() {
-        if s[from + i] != word[i] {
-            return false;
-        }
-        i += 1;
-    }
-    true
+    &s[from..to] == word
 }

@@ -7,7 +7,7 @@ ghost use Rattle.sheets.specs.Inner.Fields.{fields_at};
 ghost use Rattle.sheets.specs.Inner.FirstLine.{read_as, FieldsAs, OpenedAs};
 
 use crate::answer::{Refused, refused_at};
-use numerals::{Number, Refusal};
+use numerals::Refusal;
 
 // The form of a field: a number in its limits, or a percentage.
 #[derive(Drop)]
@@ -25,14 +25,8 @@ pub struct FirstLine {
     pub next: usize,
 }
 
-#[derive(Drop)]
-pub enum FirstRead {
-    Line(FirstLine),
-    Refused(Refused),
-}
-
 // A field of a line, read by its form.
-fn read_form(text: &[u8], from: usize, to: usize, n: usize, form: Form) -> Number
+fn read_form(text: &[u8], from: usize, to: usize, n: usize, form: Form) -> Option<u64>
     requires { (from ≤ to) × (to ≤ length text.now) }
     ensures { result ≡ read_as form (field (fields_at text.now from to) n) }
 {
@@ -44,28 +38,29 @@ fn read_form(text: &[u8], from: usize, to: usize, n: usize, form: Form) -> Numbe
 }
 
 // The fields of line 1, which ends at a position.
-fn read_fields(text: &[u8], to: usize, word: &[u8], second: Form, third: Form) -> FirstRead
+fn read_fields(
+    text: &[u8],
+    to: usize,
+    word: &[u8],
+    second: Form,
+    third: Form,
+) -> Result<FirstLine, Refused>
     requires { (to < length text.now) × (length text.now ≤ text_limit) }
     ensures { FieldsAs result text.now to word.now second third }
 {
     let first = crate::fields::field_at(text, 0, to, 0);
     if !crate::fields::is_word(text, first.from, first.to, word) {
-        return FirstRead::Refused(refused_at(Refusal::Malformed, 1));
+        return Err(refused_at(Refusal::Malformed, 1));
     }
     if numerals::count_fields(text, 0, to, 32) != 4 {
-        return FirstRead::Refused(refused_at(Refusal::Malformed, 1));
+        return Err(refused_at(Refusal::Malformed, 1));
     }
-    let Number::Value(k) = crate::fields::number_in(text, 0, to, 1, 1, numerals::MOST_BITS as u64)
-    else {
-        return FirstRead::Refused(refused_at(Refusal::BadField, 1));
-    };
-    let Number::Value(x) = read_form(text, 0, to, 2, second) else {
-        return FirstRead::Refused(refused_at(Refusal::BadField, 1));
-    };
-    let Number::Value(y) = read_form(text, 0, to, 3, third) else {
-        return FirstRead::Refused(refused_at(Refusal::BadField, 1));
-    };
-    FirstRead::Line(FirstLine {
+    let k = crate::fields::number_in(text, 0, to, 1, 1, numerals::MOST_BITS as u64).ok_or(
+        refused_at(Refusal::BadField, 1),
+    )?;
+    let x = read_form(text, 0, to, 2, second).ok_or(refused_at(Refusal::BadField, 1))?;
+    let y = read_form(text, 0, to, 3, third).ok_or(refused_at(Refusal::BadField, 1))?;
+    Ok(FirstLine {
         k: k as usize,
         second: x,
         third: y,
@@ -74,15 +69,20 @@ fn read_fields(text: &[u8], to: usize, word: &[u8], second: Form, third: Form) -
 }
 
 // The text's length, then its line 1.
-pub fn read_first_line(text: &[u8], word: &[u8], second: Form, third: Form) -> FirstRead
+pub fn read_first_line(
+    text: &[u8],
+    word: &[u8],
+    second: Form,
+    third: Form,
+) -> Result<FirstLine, Refused>
     ensures { OpenedAs result text.now (first_line word.now (read_as second) (read_as third) text.now) }
 {
     if numerals::TEXT_LIMIT < text.len() {
-        return FirstRead::Refused(refused_at(Refusal::TooLong, 0));
+        return Err(refused_at(Refusal::TooLong, 0));
     }
     let end = numerals::find(text, 0, text.len(), 10);
     if text.len() <= end {
-        return FirstRead::Refused(refused_at(Refusal::Malformed, 1));
+        return Err(refused_at(Refusal::Malformed, 1));
     }
     read_fields(text, end, word, second, third)
 }

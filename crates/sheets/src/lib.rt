@@ -13,10 +13,7 @@ mod shares;
 mod tables;
 mod update_read;
 
-pub use answer::{
-    Answer, Plan, Planned, Refused, ShareRead, ShareRecord, TableRead, TableRecord, UpdateRead,
-    UpdateRecord,
-};
+pub use answer::{Plan, Refused, ShareRecord, TableRecord, UpdateRecord};
 pub use planning::{plan, split_sheet};
 pub use printing::{write_line, write_table};
 pub use shares::count_share;

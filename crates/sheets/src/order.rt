@@ -16,30 +16,29 @@ pub struct Last {
     pub len: usize,
 }
 
-#[derive(Drop)]
-pub enum Placed {
-    Next(Last),
-    Refused(Refusal),
-}
-
 // The places of a tally of lines by their service.
 pub const TALLY: usize = 1 + numerals::MOST_SERVICES;
 
 // A line behind these: the 33rd rule of its service, in order or not, then the order. `tally` has the number of lines
 // of each service.
-pub fn place_line(last: Last, tally: &mut [usize], service: usize, len: usize) -> Placed
+pub fn place_line(
+    last: Last,
+    tally: &mut [usize],
+    service: usize,
+    len: usize,
+) -> Result<Last, Refusal>
     requires { (service ≤ most_services) × ((last.count ≤ most_capacity) × (length tally.old ≡ 1 + most_services)) }
     ensures { Placing last service len tally.old result tally.new }
 {
     let n = tally[service];
     if !in_order(last, service, len) && n < numerals::MOST_RULES {
-        return Placed::Refused(Refusal::Order);
+        return Err(Refusal::Order);
     }
     if numerals::MOST_RULES <= n {
-        return Placed::Refused(Refusal::TooMany);
+        return Err(Refusal::TooMany);
     }
     tally[service] = n + 1;
-    Placed::Next(Last {
+    Ok(Last {
         count: last.count + 1,
         service,
         len,

@@ -8,8 +8,8 @@ ghost use Rattle.sheets.specs.Inner.Fields.{lines_at, fields_at};
 ghost use Rattle.sheets.specs.Inner.SheetReader.{BackendOf, WeightsOf, VolumeOf, ServiceOf, LineOf, SheetOf, sheet_from, finished};
 
 use crate::answer::{Refused, refused_at};
-use crate::first_line::{FirstRead, Form};
-use numerals::{Number, Refusal};
+use crate::first_line::Form;
+use numerals::Refusal;
 
 // The fields of a service's line: its word, its volume and the weights.
 const MOST_FIELDS: usize = 2 + numerals::MOST_BACKENDS;
@@ -22,78 +22,51 @@ pub struct Head {
     pub capacity: usize,
 }
 
-// A backend of a line: its id and its weight.
-#[derive(Drop)]
-pub enum BackendRead {
-    Backend { id: usize, weight: u64 },
-    Bad,
+// A backend of a line.
+#[derive(Clone, Copy)]
+pub struct Backend {
+    pub id: usize,
+    pub weight: u64,
 }
 
 // The weights of a line: their number and their sum.
-#[derive(Drop)]
-pub enum WeightsRead {
-    Weights { count: usize, sum: u64 },
-    Refused(Refusal),
-}
-
-// A line of a service up to its weights: its volume.
-#[derive(Drop)]
-pub enum VolumeRead {
-    Volume(u64),
-    Refused(Refusal),
-}
-
-// A line of a service: how many weights it has.
-#[derive(Drop)]
-pub enum ServiceRead {
-    Weights(usize),
-    Refused(Refusal),
+#[derive(Clone, Copy)]
+pub struct LineWeights {
+    pub count: usize,
+    pub sum: u64,
 }
 
 // A line of a service in the text: how many weights it has, and where the next line begins.
-#[derive(Drop)]
-pub enum LineRead {
-    Service { count: usize, next: usize },
-    Refused(Refusal),
+#[derive(Clone, Copy)]
+pub struct ServiceLine {
+    pub count: usize,
+    pub next: usize,
 }
 
-// A whole sheet: line 1, the number of services, and the number of all their backends.
+// A whole sheet in memory: line 1, the number of services, and the number of all their backends.
 #[derive(Drop)]
-pub enum SheetRead {
-    Sheet {
-        head: Head,
-        services: usize,
-        row: usize,
-    },
-    Refused(Refused),
+pub struct SheetInMemory {
+    pub head: Head,
+    pub services: usize,
+    pub row: usize,
 }
 
 // The backend between two positions, id:percentage (58 is ':'), behind one with the id `before`.
-fn read_backend(text: &[u8], from: usize, to: usize, before: usize) -> BackendRead
+fn read_backend(text: &[u8], from: usize, to: usize, before: usize) -> Option<Backend>
     requires { (from ≤ to) × ((to ≤ length text.now) × (before ≤ most_id)) }
     ensures { BackendOf result before (slice from to text.now) }
 {
     let colon = numerals::find(text, from, to, 58);
     if to <= colon {
-        return BackendRead::Bad;
+        return None;
     }
     let least = (before + 1) as u64;
-    let Number::Value(id) = numerals::read_number(
-        text,
-        from,
-        colon,
-        least,
-        numerals::MOST_ID as u64,
-    ) else {
-        return BackendRead::Bad;
-    };
-    let Number::Value(weight) = numerals::read_percentage(text, colon + 1, to) else {
-        return BackendRead::Bad;
-    };
-    BackendRead::Backend {
+    let id = numerals::read_number(text, from, colon, least, numerals::MOST_ID as u64)?;
+    let weight = numerals::read_percentage(text, colon + 1, to)?;
+    Some(Backend {
         id: id as usize,
         weight,
-    }
+    })
 }
 
 // The backends between two positions, each read into the two rows from place `at` on.
@@ -104,7 +77,7 @@ fn read_weights(
     ids: &mut [usize],
     weights: &mut [u64],
     at: usize,
-) -> WeightsRead
+) -> Result<LineWeights, Refusal>
     requires from_le_to { (from ≤ to) × (to ≤ length text.now) }
     requires to_len_bound { (length (fields_at text.now from to) ≤ most_backends)
         × ((at + most_backends ≤ length ids.old) × (at + most_backends ≤ length weights.old)) }
@@ -115,52 +88,40 @@ fn read_weights(
     let mut before = 0;
     let mut count = 0;
     let mut sum: u64 = 0;
+    // a `while`, since it goes from field to field by the position at which each ends
     while start <= to {
         let end = numerals::find(text, start, to, 32);
-        let read = read_backend(text, start, end, before);
-        let BackendRead::Backend { id, weight } = read else {
-            return WeightsRead::Refused(Refusal::BadField);
-        };
-        ids[at + count] = id;
-        weights[at + count] = weight;
-        before = id;
-        sum += weight;
+        let backend = read_backend(text, start, end, before).ok_or(Refusal::BadField)?;
+        ids[at + count] = backend.id;
+        weights[at + count] = backend.weight;
+        before = backend.id;
+        sum += backend.weight;
         count += 1;
         start = end + 1;
     }
-    WeightsRead::Weights { count, sum }
+    Ok(LineWeights { count, sum })
 }
 
 // The line of service i up to its weights: SERVICE volume, and the number of its fields.
-fn read_volume(text: &[u8], from: usize, to: usize, i: usize) -> VolumeRead
+fn read_volume(text: &[u8], from: usize, to: usize, i: usize) -> Result<u64, Refusal>
     requires { (from ≤ to) × (to ≤ length text.now) }
     ensures { VolumeOf result i (fields_at text.now from to) }
 {
     let word = crate::fields::field_at(text, from, to, 0);
     if !crate::fields::is_word(text, word.from, word.to, b"SERVICE") {
-        return VolumeRead::Refused(Refusal::Malformed);
+        return Err(Refusal::Malformed);
     }
     if numerals::MOST_SERVICES <= i {
-        return VolumeRead::Refused(Refusal::TooMany);
+        return Err(Refusal::TooMany);
     }
     let count = numerals::count_fields(text, from, to, 32);
     if count < 3 {
-        return VolumeRead::Refused(Refusal::Malformed);
+        return Err(Refusal::Malformed);
     }
     if MOST_FIELDS < count {
-        return VolumeRead::Refused(Refusal::TooMany);
+        return Err(Refusal::TooMany);
     }
-    let Number::Value(volume) = crate::fields::number_in(
-        text,
-        from,
-        to,
-        1,
-        0,
-        numerals::MOST_VOLUME,
-    ) else {
-        return VolumeRead::Refused(Refusal::BadField);
-    };
-    VolumeRead::Volume(volume)
+    crate::fields::number_in(text, from, to, 1, 0, numerals::MOST_VOLUME).ok_or(Refusal::BadField)
 }
 
 // The line of service i: SERVICE volume id1:p1 .. idM:pM.
@@ -173,7 +134,7 @@ fn read_service(
     ids: &mut [usize],
     weights: &mut [u64],
     at: usize,
-) -> ServiceRead
+) -> Result<usize, Refusal>
     requires from_le_to { (from ≤ to) × (to ≤ length text.now) }
     requires most_services_in_bounds { (most_services ≤ length volumes.old)
         × ((most_services * most_backends ≤ length ids.old) × (most_services * most_backends ≤ length weights.old)) }
@@ -181,24 +142,14 @@ fn read_service(
     ensures { ServiceOf result volumes.old volumes.new ids.old ids.new
         weights.old weights.new at i (fields_at text.now from to) }
 {
-    let opened = read_volume(text, from, to, i);
-    match opened {
-        VolumeRead::Refused(why) => ServiceRead::Refused(why),
-        VolumeRead::Volume(volume) => {
-            let first = crate::fields::field_at(text, from, to, 2);
-            let read = read_weights(text, first.from, to, ids, weights, at);
-            match read {
-                WeightsRead::Refused(why) => ServiceRead::Refused(why),
-                WeightsRead::Weights { count, sum } => {
-                    if sum != numerals::UNIT {
-                        return ServiceRead::Refused(Refusal::Unbalanced);
-                    }
-                    volumes[i] = volume;
-                    ServiceRead::Weights(count)
-                }
-            }
-        }
+    let volume = read_volume(text, from, to, i)?;
+    let first = crate::fields::field_at(text, from, to, 2);
+    let read = read_weights(text, first.from, to, ids, weights, at)?;
+    if read.sum != numerals::UNIT {
+        return Err(Refusal::Unbalanced);
     }
+    volumes[i] = volume;
+    Ok(read.count)
 }
 
 // The line of service i that begins at a position.
@@ -210,7 +161,7 @@ fn read_line(
     ids: &mut [usize],
     weights: &mut [u64],
     at: usize,
-) -> LineRead
+) -> Result<ServiceLine, Refusal>
     requires start_in_bounds { start < length text.now }
     requires most_services_in_bounds { (most_services ≤ length volumes.old)
         × ((most_services * most_backends ≤ length ids.old) × (most_services * most_backends ≤ length weights.old)) }
@@ -220,33 +171,30 @@ fn read_line(
 {
     let end = numerals::find(text, start, text.len(), 10);
     if text.len() <= end {
-        return LineRead::Refused(Refusal::Malformed);
+        return Err(Refusal::Malformed);
     }
-    let read = read_service(text, start, end, i, volumes, ids, weights, at);
-    match read {
-        ServiceRead::Refused(why) => LineRead::Refused(why),
-        ServiceRead::Weights(count) => LineRead::Service {
-            count,
-            next: end + 1,
-        },
-    }
+    let count = read_service(text, start, end, i, volumes, ids, weights, at)?;
+    Ok(ServiceLine {
+        count,
+        next: end + 1,
+    })
 }
 
 // After the lines: no service, then a capacity below their number.
-fn finish(head: Head, services: usize, row: usize) -> SheetRead
+fn finish(head: Head, services: usize, row: usize) -> Result<SheetInMemory, Refused>
     ensures { result ≡ finished head services row }
 {
     if services == 0 {
-        return SheetRead::Refused(refused_at(Refusal::NoService, 1));
+        return Err(refused_at(Refusal::NoService, 1));
     }
     if head.capacity < services {
-        return SheetRead::Refused(refused_at(Refusal::TableShort, 1));
+        return Err(refused_at(Refusal::TableShort, 1));
     }
-    SheetRead::Sheet {
+    Ok(SheetInMemory {
         head,
         services,
         row,
-    }
+    })
 }
 
 // The lines of the services, from a position on.
@@ -258,7 +206,7 @@ fn read_services(
     sizes: &mut [usize],
     ids: &mut [usize],
     weights: &mut [u64],
-) -> SheetRead
+) -> Result<SheetInMemory, Refused>
     requires from_in_bounds { from ≤ length text.now }
     requires most_services_in_bounds { (most_services ≤ length volumes.old)
         × ((most_services ≤ length sizes.old)
@@ -269,16 +217,17 @@ fn read_services(
     let mut start = from;
     let mut i = 0;
     let mut at = 0;
+    // a `while`, since each line that is read tells where the next one begins
     while start < text.len() {
         let read = read_line(text, start, i, volumes, ids, weights, at);
         match read {
-            LineRead::Refused(why) => {
-                return SheetRead::Refused(refused_at(why, i + 2));
+            Err(why) => {
+                return Err(refused_at(why, i + 2));
             }
-            LineRead::Service { count, next } => {
-                sizes[i] = count;
-                at += count;
-                start = next;
+            Ok(line) => {
+                sizes[i] = line.count;
+                at += line.count;
+                start = line.next;
             }
         }
         i += 1;
@@ -293,14 +242,14 @@ pub fn read_sheet(
     sizes: &mut [usize],
     ids: &mut [usize],
     weights: &mut [u64],
-) -> SheetRead
+) -> Result<SheetInMemory, Refused>
     requires { (most_services ≤ length volumes.old)
         × ((most_services ≤ length sizes.old)
         × ((most_services * most_backends ≤ length ids.old) × (most_services * most_backends ≤ length weights.old))) }
     ensures { SheetOf result (read_sheet text.now)
         volumes.new sizes.new ids.new weights.new }
 {
-    let read = crate::first_line::read_first_line(
+    let line = crate::first_line::read_first_line(
         text,
         b"SHEET",
         Form::Percentage,
@@ -308,16 +257,11 @@ pub fn read_sheet(
             least: 1,
             most: numerals::MOST_CAPACITY as u64,
         },
-    );
-    match read {
-        FirstRead::Refused(why) => SheetRead::Refused(why),
-        FirstRead::Line(line) => {
-            let head = Head {
-                k: line.k,
-                tolerance: line.second,
-                capacity: line.third as usize,
-            };
-            read_services(text, head, line.next, volumes, sizes, ids, weights)
-        }
-    }
+    )?;
+    let head = Head {
+        k: line.k,
+        tolerance: line.second,
+        capacity: line.third as usize,
+    };
+    read_services(text, head, line.next, volumes, sizes, ids, weights)
 }

@@ -4,12 +4,9 @@ ghost use Rattle.sheets.specs.PercentageSheet.{read_sheet};
 ghost use Rattle.sheets.specs.Calls as calls;
 ghost use Rattle.sheets.specs.Demand.{Demand3Of};
 ghost use Rattle.sheets.specs.FourPlaces.{FourPlaces};
-ghost use Rattle.sheets.specs.Inner.Planning.{plan_from};
 
-use crate::answer::{Answer, Plan, Planned, Refused};
-use crate::percentage_sheet::SheetRead;
+use crate::answer::{Plan, Refused};
 use crate::rule_sheet::CELLS;
-use packing::Packing;
 
 // The backends of all services: as many ids, and as many weights.
 pub const WEIGHTS: usize = numerals::MOST_SERVICES * numerals::MOST_BACKENDS;
@@ -19,7 +16,7 @@ const FIGURES: usize = 3 * numerals::MOST_SERVICES;
 
 // The table and the figures of a percentage sheet. `figures` takes three numbers for each service: its grant, the length
 // of its list and how the list ended (within 0, no gain 1, budget 2). `table` takes four for each line.
-pub fn plan(text: &[u8], figures: &mut [usize], table: &mut [usize]) -> Planned
+pub fn plan(text: &[u8], figures: &mut [usize], table: &mut [usize]) -> Result<Plan, Refused>
     ensures answer { result ≡ calls.plan_answer text.now (length figures.old) (length table.old) }
     ensures figures { figures.new ≡ calls.afterwards (calls.is_plan result) figures.old
         (calls.values_of (read_sheet text.now) calls.figures_for) }
@@ -31,58 +28,37 @@ pub fn plan(text: &[u8], figures: &mut [usize], table: &mut [usize]) -> Planned
     // what stands there first means nothing; ones are stored by the word, zeros by the byte
     let mut ids = [1usize; WEIGHTS];
     let mut weights = [1u64; WEIGHTS];
-    let read = crate::percentage_sheet::read_sheet(
+    let sheet = crate::percentage_sheet::read_sheet(
         text,
         &mut volumes,
         &mut sizes,
         &mut ids,
         &mut weights,
-    );
-    match read {
-        SheetRead::Refused(why) => Planned::Refused(why),
-        SheetRead::Sheet {
-            head,
-            services,
-            row,
-        } => {
-            let k = head.k;
-            let packed = packing::pack(
-                k,
-                head.tolerance,
-                head.capacity,
-                &volumes[..services],
-                &sizes[..services],
-                &ids[..row],
-                &weights[..row],
-                figures,
-                table,
-            );
-            plan_from(k, services, packed)
-        }
-    }
-}
-
-// The packing's answer, as the one call answers it.
-fn plan_from(k: usize, services: usize, packed: Packing) -> Planned
-    ensures { result ≡ plan_from k services packed }
-{
-    match packed {
-        Packing::Made(p) => Planned::Made(Plan {
-            k,
-            services,
-            rules: p.rules,
-            total: p.total,
-        }),
-        Packing::Refused(why, buffer) => Planned::Refused(Refused {
-            why,
-            line: 0,
-            of: buffer,
-        }),
-    }
+    )?;
+    let k = sheet.head.k;
+    let services = sheet.services;
+    let row = sheet.row;
+    let packed = packing::pack(
+        k,
+        sheet.head.tolerance,
+        sheet.head.capacity,
+        &volumes[..services],
+        &sizes[..services],
+        &ids[..row],
+        &weights[..row],
+        figures,
+        table,
+    )?;
+    Ok(Plan {
+        k,
+        services,
+        rules: packed.rules,
+        total: packed.total,
+    })
 }
 
 // The rule sheet of a percentage sheet, into a lent buffer.
-pub fn split_sheet(text: &[u8], out: &mut [u8]) -> Answer
+pub fn split_sheet(text: &[u8], out: &mut [u8]) -> Result<usize, Refused>
     ensures answer { result ≡ calls.print_read (read_sheet text.now) calls.sheet_text (length out.old) }
     ensures buffer { out.new ≡ calls.afterwards (calls.is_value result) out.old
         (calls.values_of (read_sheet text.now) calls.sheet_text) }
@@ -91,9 +67,6 @@ pub fn split_sheet(text: &[u8], out: &mut [u8]) -> Answer
 {
     let mut figures = [0usize; FIGURES];
     let mut table = [1usize; CELLS];
-    let planned = plan(text, &mut figures, &mut table);
-    match planned {
-        Planned::Made(p) => crate::printing::print(p.k, p.total, &table, p.rules, out),
-        Planned::Refused(why) => Answer::Refused(why),
-    }
+    let p = plan(text, &mut figures, &mut table)?;
+    crate::printing::print(p.k, p.total, &table, p.rules, out)
 }

@@ -9,10 +9,9 @@ ghost use Rattle.sheets.specs.Inner.TableNumbers.{line, line_at, table_in, RuleL
 ghost use Rattle.sheets.specs.Inner.Writing.{Wrote, Before, end_at, line_width, counted, CheckedAs, checked_cells, Checking, handed};
 ghost use Rattle.sheets.specs.Calls as calls;
 
-use crate::answer::{Answer, refused_at};
-use crate::order::{Last, Placed, TALLY};
-use expansion::Checked;
-use numerals::{Refusal, Written};
+use crate::answer::{Refused, refused_at};
+use crate::order::{Last, TALLY};
+use numerals::Refusal;
 
 // One byte more than a text may have. Widths are counted up to it, so that no sum wraps.
 const OVER_LONG: usize = numerals::TEXT_LIMIT + 1;
@@ -21,13 +20,7 @@ const OVER_LONG: usize = numerals::TEXT_LIMIT + 1;
 fn add_width(a: usize, b: usize) -> usize
     ensures { result ≡ counted (a + b) }
 {
-    if OVER_LONG <= a {
-        return OVER_LONG;
-    }
-    if OVER_LONG - a <= b {
-        return OVER_LONG;
-    }
-    a + b
+    a.saturating_add(b).min(OVER_LONG)
 }
 
 // How many bytes the text of a line has.
@@ -40,16 +33,6 @@ fn line_width(service: usize, len: usize, backend: usize) -> usize
     )
 }
 
-// How many lines so many numbers are, a last one of fewer than four too.
-fn line_count(numbers: usize) -> usize
-    ensures { result ≡ (numbers + 3) / 4 }
-{
-    if numbers % 4 == 0 {
-        return numbers / 4;
-    }
-    numbers / 4 + 1
-}
-
 // How many bytes the text has that the numbers before a position make, whatever they are.
 pub fn text_width(k: usize, total: u64, table: &[usize], to: usize) -> usize
     requires { to ≤ length table.now }
@@ -57,32 +40,27 @@ pub fn text_width(k: usize, total: u64, table: &[usize], to: usize) -> usize
 {
     let mut width = 9
         + numerals::decimal_width(k as u64)
-        + numerals::decimal_width(line_count(to) as u64)
+        + numerals::decimal_width(to.div_ceil(4) as u64)
         + numerals::decimal_width(total);
-    let mut i = 0;
-    while i < to / 4 {
+    let lines = to / 4;
+    for i in 0..lines {
         let c = 4 * i;
         width = add_width(width, line_width(table[c], table[c + 1], table[c + 3]));
-        i += 1;
     }
     if to % 4 == 0 {
         return width;
     }
-    add_width(width, numerals::decimal_width(table[4 * i] as u64) + 1)
+    add_width(width, numerals::decimal_width(table[4 * lines] as u64) + 1)
 }
 
 // A separator behind a text that was written; the position after it.
-fn separate(out: &mut [u8], written: Written, separator: u8) -> usize
+fn separate(out: &mut [u8], written: Result<usize, Refusal>, separator: u8) -> usize
     requires { Before written (length out.old) }
     ensures { Wrote out.old out.new (end_at written) result (separator ∷ []) }
 {
-    match written {
-        Written::End(end) => {
-            out[end] = separator;
-            end + 1
-        }
-        Written::Refused(_) => 0,
-    }
+    let end = written.unwrap();
+    out[end] = separator;
+    end + 1
 }
 
 // A number, and a separator behind it; the position after them.
@@ -108,12 +86,7 @@ fn put_head(out: &mut [u8], k: usize, n: usize, total: u64) -> usize
     requires { length (head_text k n total) ≤ length out.old }
     ensures { Wrote out.old out.new 0 result (head_text k n total) }
 {
-    out[0] = 84;
-    out[1] = 65;
-    out[2] = 66;
-    out[3] = 76;
-    out[4] = 69;
-    out[5] = 32;
+    out[..6].copy_from_slice(b"TABLE ");
     let a = put_number(out, 6, k as u64, 32);
     let b = put_number(out, a, n as u64, 32);
     put_number(out, b, total, 10)
@@ -142,11 +115,9 @@ pub fn put_table(out: &mut [u8], k: usize, total: u64, table: &[usize], n: usize
     ensures { Wrote out.old out.new 0 result (table_text (table_in k total table.now n)) }
 {
     let mut at = put_head(out, k, n, total);
-    let mut left = n;
-    while 0 < left {
-        let c = 4 * (n - left);
+    for i in 0..n {
+        let c = 4 * i;
         at = put_line(out, at, table[c], table[c + 1], table[c + 2], table[c + 3]);
-        left -= 1;
     }
     at
 }
@@ -164,16 +135,22 @@ fn fits(k: usize, total: u64, table: &[usize], n: usize, room: usize) -> bool
 }
 
 // The text of a table whose lines are proper, into a lent buffer.
-pub fn print(k: usize, total: u64, table: &[usize], n: usize, out: &mut [u8]) -> Answer
+pub fn print(
+    k: usize,
+    total: u64,
+    table: &[usize],
+    n: usize,
+    out: &mut [u8],
+) -> Result<usize, Refused>
     requires { (n ≤ most_capacity) × RuleLines table.now n }
     ensures answer { result ≡ calls.print_text (table_text (table_in k total table.now n)) (length out.old) }
     ensures buffer { out.new ≡ calls.afterwards (calls.is_value result) out.old
         (table_text (table_in k total table.now n)) }
 {
     if !fits(k, total, table, n, out.len()) {
-        return Answer::Refused(refused_at(Refusal::ShortLoan, 0));
+        return Err(refused_at(Refusal::ShortLoan, 0));
     }
-    Answer::Value(put_table(out, k, total, table, n))
+    Ok(put_table(out, k, total, table, n))
 }
 
 // A line of numbers has the form and the limits of a rule line.
@@ -181,24 +158,20 @@ fn is_line(k: usize, service: usize, len: usize, value: usize, backend: usize) -
     requires { k ≤ most_bits }
     ensures { result ≡ is_line k (line service len value backend) }
 {
-    if service < 1 {
-        return false;
-    }
-    if numerals::MOST_SERVICES < service {
-        return false;
-    }
-    if k < len {
-        return false;
-    }
-    let all: usize = 1 << len;
-    if all <= value {
-        return false;
-    }
-    0 < backend && backend <= numerals::MOST_ID
+    (1..=numerals::MOST_SERVICES).contains(&service)
+        && len <= k
+        && value < 1 << len
+        && (1..=numerals::MOST_ID).contains(&backend)
 }
 
 // Line i of a table that is no text, behind those before it.
-fn check_line(k: usize, table: &[usize], i: usize, last: Last, tally: &mut [usize]) -> Placed
+fn check_line(
+    k: usize,
+    table: &[usize],
+    i: usize,
+    last: Last,
+    tally: &mut [usize],
+) -> Result<Last, Refusal>
     requires { (k ≤ most_bits) × ((4 * i + 3 < length table.now)
         × ((last.count ≤ most_capacity) × (length tally.old ≡ 1 + most_services))) }
     ensures { Checking k last (line_at table.now i) tally.old result tally.new }
@@ -207,13 +180,13 @@ fn check_line(k: usize, table: &[usize], i: usize, last: Last, tally: &mut [usiz
     let service = table[c];
     let len = table[c + 1];
     if !is_line(k, service, len, table[c + 2], table[c + 3]) {
-        return Placed::Refused(Refusal::BadField);
+        return Err(Refusal::BadField);
     }
     crate::order::place_line(last, tally, service, len)
 }
 
 // The lines of a table that is no text, in their order; numbers left over are a last line of too few fields.
-fn check_lines(k: usize, table: &[usize]) -> Checked
+fn check_lines(k: usize, table: &[usize]) -> Result<(), Refusal>
     requires { (k ≤ most_bits) × (length table.now / 4 ≤ most_capacity) }
     ensures { CheckedAs result (checked_cells k table.now) (tt {0}) }
 {
@@ -223,66 +196,48 @@ fn check_lines(k: usize, table: &[usize]) -> Checked
         service: 0,
         len: 0,
     };
-    let mut i = 0;
-    while i < table.len() / 4 {
-        let checked = check_line(k, table, i, last, &mut tally);
-        match checked {
-            Placed::Refused(why) => {
-                return Checked::Refused(why);
-            }
-            Placed::Next(next) => {
-                last = next;
-            }
-        }
-        i += 1;
+    for i in 0..table.len() / 4 {
+        last = check_line(k, table, i, last, &mut tally)?;
     }
     if table.len() % 4 != 0 {
-        return Checked::Refused(Refusal::Malformed);
+        return Err(Refusal::Malformed);
     }
     if last.len == 0 {
-        Checked::Sound
+        Ok(())
     } else {
-        Checked::Refused(Refusal::Order)
+        Err(Refusal::Order)
     }
 }
 
 // A table that is no text, checked as its sheet would be.
-fn check_table(k: usize, total: u64, table: &[usize]) -> Checked
+fn check_table(k: usize, total: u64, table: &[usize]) -> Result<(), Refusal>
     ensures { CheckedAs result (calls.table_handed k total table.now) (handed k total table.now) }
 {
     if numerals::TEXT_LIMIT < text_width(k, total, table, table.len()) {
-        return Checked::Refused(Refusal::TooLong);
+        return Err(Refusal::TooLong);
     }
-    if k < 1 {
-        return Checked::Refused(Refusal::BadField);
+    if !(1..=numerals::MOST_BITS).contains(&k) {
+        return Err(Refusal::BadField);
     }
-    if numerals::MOST_BITS < k {
-        return Checked::Refused(Refusal::BadField);
-    }
-    let n = line_count(table.len());
-    if n < 1 {
-        return Checked::Refused(Refusal::BadField);
-    }
-    if numerals::MOST_CAPACITY < n {
-        return Checked::Refused(Refusal::BadField);
+    // a last line of fewer than four numbers is one too
+    let n = table.len().div_ceil(4);
+    if !(1..=numerals::MOST_CAPACITY).contains(&n) {
+        return Err(Refusal::BadField);
     }
     if numerals::TOTAL_LIMIT < total {
-        return Checked::Refused(Refusal::BadField);
+        return Err(Refusal::BadField);
     }
     check_lines(k, table)
 }
 
 // The rule sheet of a table: four numbers for each line, its service, the length and the value of its suffix, and the
 // id of its backend.
-pub fn write_table(k: usize, total: u64, table: &[usize], out: &mut [u8]) -> Answer
+pub fn write_table(k: usize, total: u64, table: &[usize], out: &mut [u8]) -> Result<usize, Refused>
     ensures answer { result ≡ calls.print_read (calls.table_handed k total table.now) table_text (length out.old) }
     ensures buffer { out.new ≡ calls.afterwards (calls.is_value result) out.old
         (calls.values_of (calls.table_handed k total table.now) table_text) }
 {
-    let checked = check_table(k, total, table);
-    if let Checked::Refused(why) = checked {
-        return Answer::Refused(refused_at(why, 0));
-    }
+    check_table(k, total, table)?;
     print(k, total, table, table.len() / 4, out)
 }
 
@@ -295,20 +250,20 @@ pub fn write_line(
     len: usize,
     value: usize,
     backend: usize,
-) -> Written
+) -> Result<usize, Refusal>
     ensures answer { result ≡ put_line_end out.old at
         (record { service = service; rule = record { len = len; value = value; backend = backend } }) }
     ensures buffer { out.new ≡ put_line out.old at
         (record { service = service; rule = record { len = len; value = value; backend = backend } }) }
 {
     if !is_line(numerals::MOST_BITS, service, len, value, backend) {
-        return Written::Refused(Refusal::BadField);
+        return Err(Refusal::BadField);
     }
     if out.len() < at {
-        return Written::Refused(Refusal::ShortLoan);
+        return Err(Refusal::ShortLoan);
     }
     if out.len() - at < line_width(service, len, backend) {
-        return Written::Refused(Refusal::ShortLoan);
+        return Err(Refusal::ShortLoan);
     }
-    Written::End(put_line(out, at, service, len, value, backend))
+    Ok(put_line(out, at, service, len, value, backend))
 }

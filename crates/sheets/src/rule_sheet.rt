@@ -10,9 +10,9 @@ ghost use Rattle.sheets.specs.Inner.Order.{last_of};
 ghost use Rattle.sheets.specs.Inner.TableReader.{line_of, LineAs, Passed, Taking, sheet_answer, Filled, whole_of, table_from};
 
 use crate::answer::{Refused, refused_at};
-use crate::first_line::{FirstRead, Form};
-use crate::order::{Last, Placed, TALLY};
-use numerals::{MOST_ID, MOST_SERVICES, Number, Refusal, SuffixRead};
+use crate::first_line::Form;
+use crate::order::{Last, TALLY};
+use numerals::{MOST_ID, MOST_SERVICES, Refusal};
 
 // The places of a table in numbers.
 pub const CELLS: usize = 4 * numerals::MOST_CAPACITY;
@@ -34,49 +34,26 @@ pub struct RuleLine {
     pub backend: usize,
 }
 
-#[derive(Drop)]
-pub enum LineRead {
-    Line(RuleLine),
-    Refused(Refusal),
-}
-
-// A whole sheet: line 1, and the number of its rule lines.
-#[derive(Drop)]
-pub enum SheetLines {
-    Table(TableHead),
-    Refused(Refused),
-}
-
 // A rule line by its fields: service suffix backend.
-fn read_line(text: &[u8], from: usize, to: usize, k: usize) -> LineRead
+fn read_line(text: &[u8], from: usize, to: usize, k: usize) -> Result<RuleLine, Refusal>
     requires { (from ≤ to) × (to ≤ length text.now) }
     ensures { LineAs result k (fields_at text.now from to) }
 {
     if numerals::count_fields(text, from, to, 32) != 3 {
-        return LineRead::Refused(Refusal::Malformed);
+        return Err(Refusal::Malformed);
     }
-    let Number::Value(service) = crate::fields::number_in(
-        text,
-        from,
-        to,
-        0,
-        1,
-        MOST_SERVICES as u64,
-    ) else {
-        return LineRead::Refused(Refusal::BadField);
-    };
+    let service = crate::fields::number_in(text, from, to, 0, 1, MOST_SERVICES as u64).ok_or(
+        Refusal::BadField,
+    )?;
     let f = crate::fields::field_at(text, from, to, 1);
-    let SuffixRead::Suffix { len, value } = numerals::read_suffix(text, f.from, f.to, k) else {
-        return LineRead::Refused(Refusal::BadField);
-    };
-    let Number::Value(backend) = crate::fields::number_in(text, from, to, 2, 1, MOST_ID as u64)
-    else {
-        return LineRead::Refused(Refusal::BadField);
-    };
-    LineRead::Line(RuleLine {
+    let suffix = numerals::read_suffix(text, f.from, f.to, k).ok_or(Refusal::BadField)?;
+    let backend = crate::fields::number_in(text, from, to, 2, 1, MOST_ID as u64).ok_or(
+        Refusal::BadField,
+    )?;
+    Ok(RuleLine {
         service: service as usize,
-        len,
-        value,
+        len: suffix.len,
+        value: suffix.value,
         backend: backend as usize,
     })
 }
@@ -102,47 +79,42 @@ fn take_line(
     last: Last,
     tally: &mut [usize],
     table: &mut [usize],
-) -> Placed
+) -> Result<Last, Refusal>
     requires from_le_to { (from ≤ to) × (to ≤ length text.now) }
     requires passed { (before : List RuleOf) × Passed k before last tally.old table.old }
     ensures { Taking k last (fields_at text.now from to)
         tally.old table.old result tally.new table.new }
 {
-    let read = read_line(text, from, to, k);
-    match read {
-        LineRead::Refused(why) => Placed::Refused(why),
-        LineRead::Line(line) => {
-            let placed = crate::order::place_line(last, tally, line.service, line.len);
-            match placed {
-                Placed::Refused(why) => Placed::Refused(why),
-                Placed::Next(next) => {
-                    store_line(table, last.count, line);
-                    Placed::Next(next)
-                }
-            }
-        }
-    }
+    let line = read_line(text, from, to, k)?;
+    let next = crate::order::place_line(last, tally, line.service, line.len)?;
+    store_line(table, last.count, line);
+    Ok(next)
 }
 
 // After the lines: no service, then another number of lines than n, then a last line without `*`.
-fn finish(head: TableHead, last: Last) -> SheetLines
+fn finish(head: TableHead, last: Last) -> Result<TableHead, Refused>
     requires { last.count ≤ most_capacity }
     ensures { (all : List RuleOf) → last ≡ last_of all → result ≡ sheet_answer (whole_of head all) }
 {
     if last.count == 0 {
-        return SheetLines::Refused(refused_at(Refusal::NoService, 1));
+        return Err(refused_at(Refusal::NoService, 1));
     }
     if last.count != head.n {
-        return SheetLines::Refused(refused_at(Refusal::Miscount, 1));
+        return Err(refused_at(Refusal::Miscount, 1));
     }
     if last.len != 0 {
-        return SheetLines::Refused(refused_at(Refusal::Order, last.count + 1));
+        return Err(refused_at(Refusal::Order, last.count + 1));
     }
-    SheetLines::Table(head)
+    Ok(head)
 }
 
 // The rule lines, from a position on.
-fn read_lines(text: &[u8], head: TableHead, from: usize, table: &mut [usize]) -> SheetLines
+fn read_lines(
+    text: &[u8],
+    head: TableHead,
+    from: usize,
+    table: &mut [usize],
+) -> Result<TableHead, Refused>
     requires { (from ≤ length text.now) × (length table.old ≡ 4 * most_capacity) }
     ensures answer { result ≡ sheet_answer (table_from head [] (lines_at text.now from)) }
     ensures buffer { Filled (table_from head [] (lines_at text.now from)) table.new }
@@ -154,17 +126,18 @@ fn read_lines(text: &[u8], head: TableHead, from: usize, table: &mut [usize]) ->
         len: 0,
     };
     let mut start = from;
+    // each turn goes on behind the newline that ended its line
     while start < text.len() {
         let end = numerals::find(text, start, text.len(), 10);
         if text.len() <= end {
-            return SheetLines::Refused(refused_at(Refusal::Malformed, last.count + 2));
+            return Err(refused_at(Refusal::Malformed, last.count + 2));
         }
         let placed = take_line(text, start, end, head.k, last, &mut tally, table);
         match placed {
-            Placed::Refused(why) => {
-                return SheetLines::Refused(refused_at(why, last.count + 2));
+            Err(why) => {
+                return Err(refused_at(why, last.count + 2));
             }
-            Placed::Next(next) => {
+            Ok(next) => {
                 last = next;
             }
         }
@@ -174,12 +147,12 @@ fn read_lines(text: &[u8], head: TableHead, from: usize, table: &mut [usize]) ->
 }
 
 // A rule sheet.
-pub fn read_sheet_lines(text: &[u8], table: &mut [usize]) -> SheetLines
+pub fn read_sheet_lines(text: &[u8], table: &mut [usize]) -> Result<TableHead, Refused>
     requires { length table.old ≡ 4 * most_capacity }
     ensures answer { result ≡ sheet_answer (read_table text.now) }
     ensures buffer { Filled (read_table text.now) table.new }
 {
-    let read = crate::first_line::read_first_line(
+    let line = crate::first_line::read_first_line(
         text,
         b"TABLE",
         Form::Limits {
@@ -190,16 +163,11 @@ pub fn read_sheet_lines(text: &[u8], table: &mut [usize]) -> SheetLines
             least: 0,
             most: numerals::TOTAL_LIMIT,
         },
-    );
-    match read {
-        FirstRead::Refused(why) => SheetLines::Refused(why),
-        FirstRead::Line(line) => {
-            let head = TableHead {
-                k: line.k,
-                n: line.second as usize,
-                total: line.third,
-            };
-            read_lines(text, head, line.next, table)
-        }
-    }
+    )?;
+    let head = TableHead {
+        k: line.k,
+        n: line.second as usize,
+        total: line.third,
+    };
+    read_lines(text, head, line.next, table)
 }

@@ -6,8 +6,8 @@ ghost use Rattle.packing.specs.Count.{own_rules};
 ghost use Rattle.sheets.specs.Shares.{share_answer};
 ghost use Rattle.sheets.specs.Inner.TableNumbers.{lines_in, RuleLines};
 
-use crate::answer::{ShareRead, ShareRecord, refused_at};
-use crate::rule_sheet::{CELLS, SheetLines};
+use crate::answer::{Refused, ShareRecord, refused_at};
+use crate::rule_sheet::CELLS;
 use numerals::{MOST_ID, Refusal};
 
 // How many of the k-bit suffixes a backend of a service is given.
@@ -17,12 +17,10 @@ fn tally(table: &[usize], n: usize, service: usize, k: usize, backend: usize) ->
 {
     let all: usize = 1 << k;
     let mut held: u64 = 0;
-    let mut s = 0;
-    while s < all {
+    for s in 0..all {
         if crate::tables::first_backend(table, n, service, s) == backend {
             held += 1;
         }
-        s += 1;
     }
     held
 }
@@ -33,11 +31,12 @@ fn lines_before(table: &[usize], n: usize, service: usize) -> usize
     ensures few { result ≤ n }
     ensures same { own_rules service (lines_in (drop (4 * result) table.now) (n - result)) ≡ own_rules service (lines_in table.now n) }
 {
-    let mut before = 0;
-    while before < n && table[4 * before] != service {
-        before += 1;
+    for i in 0..n {
+        if table[4 * i] == service {
+            return i;
+        }
     }
-    before
+    n
 }
 
 // The same count, tallied from the service's first line on: the walk of each suffix then starts behind the services before it.
@@ -51,27 +50,19 @@ fn tally_service(table: &[usize], n: usize, service: usize, k: usize, backend: u
 }
 
 // The share of the backend with this id of a service of a rule sheet.
-pub fn count_share(text: &[u8], service: usize, backend: usize) -> ShareRead
+pub fn count_share(text: &[u8], service: usize, backend: usize) -> Result<ShareRecord, Refused>
     ensures { result ≡ share_answer text.now service backend }
 {
     let mut lines = [0usize; CELLS];
-    let read = crate::rule_sheet::read_sheet_lines(text, &mut lines);
-    match read {
-        SheetLines::Refused(why) => ShareRead::Refused(why),
-        SheetLines::Table(head) => {
-            if crate::tables::first_backend(&lines, head.n, service, 0) == 0 {
-                return ShareRead::Refused(refused_at(Refusal::UnknownService, 0));
-            }
-            if backend < 1 {
-                return ShareRead::Refused(refused_at(Refusal::BadField, 0));
-            }
-            if MOST_ID < backend {
-                return ShareRead::Refused(refused_at(Refusal::BadField, 0));
-            }
-            ShareRead::Made(ShareRecord {
-                k: head.k,
-                share: tally_service(&lines, head.n, service, head.k, backend),
-            })
-        }
+    let head = crate::rule_sheet::read_sheet_lines(text, &mut lines)?;
+    if crate::tables::first_backend(&lines, head.n, service, 0) == 0 {
+        return Err(refused_at(Refusal::UnknownService, 0));
     }
+    if !(1..=MOST_ID).contains(&backend) {
+        return Err(refused_at(Refusal::BadField, 0));
+    }
+    Ok(ShareRecord {
+        k: head.k,
+        share: tally_service(&lines, head.n, service, head.k, backend),
+    })
 }

@@ -1,6 +1,6 @@
 // What an update reads: of a rule sheet the rules of a service, of a percentage sheet its new weights with their ids, and
 // the tolerance.
-ghost use Rattle.std.specs.Prelude.{◌≡◌, ◌+◌, ◌*◌, ◌-◌, ◌^◌, ◌≤◌, ◌<◌, length, get_or, take, drop};
+ghost use Rattle.std.specs.Prelude.{◌≡◌, ◌+◌, ◌*◌, ◌-◌, ◌^◌, ◌≤◌, ◌<◌, length, get_or};
 ghost use Rattle.std.proofs.lemmas.List.Edits.{sets};
 ghost use Rattle.numerals.specs.Limits.{most_backends, most_services};
 ghost use Rattle.numerals.specs.Refusals.{no8};
@@ -14,10 +14,10 @@ ghost use Rattle.sheets.specs.Inner.TableNumbers.{lines_in};
 ghost use Rattle.sheets.specs.Inner.TableReader.{table_of};
 ghost use Rattle.sheets.specs.Inner.Update.{judged, sheet_in};
 
-use crate::answer::{Refused, UpdateRead, UpdateRecord, refused_at};
-use crate::percentage_sheet::{Head, SheetRead};
+use crate::answer::{Refused, UpdateRecord, refused_at};
+use crate::percentage_sheet::Head;
 use crate::planning::WEIGHTS;
-use crate::rule_sheet::{CELLS, SheetLines, TableHead};
+use crate::rule_sheet::{CELLS, TableHead};
 use expansion::PER_RULE;
 use numerals::Refusal;
 
@@ -30,7 +30,7 @@ pub fn read_update(
     rules: &mut [usize],
     ids: &mut [usize],
     weights: &mut [u64],
-) -> UpdateRead
+) -> Result<UpdateRecord, Refused>
     ensures answer { result ≡ update_read_answer old.now sheet.now service
         (length rules.old) (length ids.old) (length weights.old) }
     ensures rules { rules.new ≡ calls.afterwards (is_read result) rules.old
@@ -42,11 +42,8 @@ pub fn read_update(
 {
     // what stands there first means nothing; ones are stored by the word, zeros by the byte
     let mut lines = [1usize; CELLS];
-    let read = crate::rule_sheet::read_sheet_lines(old, &mut lines);
-    match read {
-        SheetLines::Refused(why) => UpdateRead::Refused(crate::tables::about(why, 1)),
-        SheetLines::Table(table) => read_second(table, &lines, sheet, service, rules, ids, weights),
-    }
+    let table = crate::rule_sheet::read_sheet_lines(old, &mut lines).map_err(|r| r.about(1))?;
+    read_second(table, &lines, sheet, service, rules, ids, weights)
 }
 
 // The same, once the rule sheet is in memory.
@@ -58,9 +55,9 @@ fn read_second(
     rules: &mut [usize],
     ids: &mut [usize],
     weights: &mut [u64],
-) -> UpdateRead
+) -> Result<UpdateRecord, Refused>
     requires { 4 * table.n ≤ length lines.now }
-    ensures answer { result ≡ calls.answered UpdateRead.Refused 2 (read_sheet sheet.now)
+    ensures answer { result ≡ calls.answered Err 2 (read_sheet sheet.now)
         (λ S. update_in (table_of table lines.now) S service
         (length rules.old) (length ids.old) (length weights.old)) }
     ensures rules { rules.new ≡ calls.afterwards (is_read result) rules.old
@@ -75,32 +72,25 @@ fn read_second(
     // what stands there first means nothing; ones are stored by the word
     let mut named = [1usize; WEIGHTS];
     let mut all = [1u64; WEIGHTS];
-    let read = crate::percentage_sheet::read_sheet(
+    let new = crate::percentage_sheet::read_sheet(
         sheet,
         &mut volumes,
         &mut sizes,
         &mut named,
         &mut all,
-    );
-    match read {
-        SheetRead::Refused(why) => UpdateRead::Refused(crate::tables::about(why, 2)),
-        SheetRead::Sheet {
-            head,
-            services,
-            row,
-        } => select(
-            table,
-            lines,
-            head,
-            &sizes[..services],
-            &named[..row],
-            &all[..row],
-            service,
-            rules,
-            ids,
-            weights,
-        ),
-    }
+    ).map_err(|r| r.about(2))?;
+    select(
+        table,
+        lines,
+        new.head,
+        &sizes[..new.services],
+        &named[..new.row],
+        &all[..new.row],
+        service,
+        rules,
+        ids,
+        weights,
+    )
 }
 
 // The same, once both sheets are in memory: judged first, since a refusal writes nothing.
@@ -115,7 +105,7 @@ fn select(
     rules: &mut [usize],
     ids: &mut [usize],
     weights: &mut [u64],
-) -> UpdateRead
+) -> Result<UpdateRecord, Refused>
     requires n_in_bounds { 4 * table.n ≤ length lines.now }
     requires sizes_value { (sum sizes.now ≡ length named.now)
         × ((sum sizes.now ≡ length row.now) × (length row.now ≤ most_services * most_backends)) }
@@ -138,7 +128,7 @@ fn select(
         backends,
     };
     let services = sizes.len();
-    let answer = judge(
+    let made = judge(
         found,
         head.k,
         services,
@@ -146,17 +136,13 @@ fn select(
         rules.len(),
         ids.len(),
         weights.len(),
-    );
-    match answer {
-        UpdateRead::Refused(why) => UpdateRead::Refused(why),
-        UpdateRead::Made(made) => {
-            store_own(lines, table.n, service, rules);
-            let from = row_before(sizes, service - 1);
-            crate::tables::copy(&named[from..], ids, backends);
-            store_weights(row, from, backends, weights);
-            UpdateRead::Made(made)
-        }
-    }
+    )?;
+    store_own(lines, table.n, service, rules);
+    let from: usize = sizes[..service - 1].iter().sum();
+    let to = from + backends;
+    ids[..backends].copy_from_slice(&named[from..to]);
+    weights[..backends].copy_from_slice(&row[from..to]);
+    Ok(made)
 }
 
 // What the measures come to: the service in each sheet, then the two k, then the places of the lent buffers.
@@ -168,32 +154,23 @@ fn judge(
     rules: usize,
     ids: usize,
     weights: usize,
-) -> UpdateRead
+) -> Result<UpdateRecord, Refused>
     requires { 3 * found.rules < 2 ^ 64 }
     ensures { result ≡ judged found k services service rules ids weights }
 {
     if found.rules == 0 {
-        return UpdateRead::Refused(lacking(1));
+        return Err(lacking(1));
     }
-    if service == 0 {
-        return UpdateRead::Refused(lacking(2));
-    }
-    if services < service {
-        return UpdateRead::Refused(lacking(2));
+    if !(1..=services).contains(&service) {
+        return Err(lacking(2));
     }
     if found.k != k {
-        return UpdateRead::Refused(refused_at(Refusal::Depth, 0));
+        return Err(refused_at(Refusal::Depth, 0));
     }
-    if rules < PER_RULE * found.rules {
-        return UpdateRead::Refused(refused_at(Refusal::ShortLoan, 0));
+    if rules < PER_RULE * found.rules || ids < found.backends || weights < found.backends {
+        return Err(refused_at(Refusal::ShortLoan, 0));
     }
-    if ids < found.backends {
-        return UpdateRead::Refused(refused_at(Refusal::ShortLoan, 0));
-    }
-    if weights < found.backends {
-        return UpdateRead::Refused(refused_at(Refusal::ShortLoan, 0));
-    }
-    UpdateRead::Made(found)
+    Ok(found)
 }
 
 // The refusal of a sheet that lacks the service.
@@ -214,12 +191,10 @@ fn lines_of(table: &[usize], n: usize, service: usize) -> usize
     ensures count { result ≡ count_of service (lines_in table.now n) }
 {
     let mut count = 0;
-    let mut i = 0;
-    while i < n {
+    for i in 0..n {
         if table[4 * i] == service {
             count += 1;
         }
-        i += 1;
     }
     count
 }
@@ -230,15 +205,13 @@ fn store_own(table: &[usize], n: usize, service: usize, rules: &mut [usize])
     ensures { rules.new ≡ sets rules.old 0 (numbers_of (own_rules service (lines_in table.now n))) }
 {
     let mut at = 0;
-    let mut i = 0;
-    while i < n {
+    for i in 0..n {
         if table[4 * i] == service {
             rules[at] = table[4 * i + 1];
             rules[at + 1] = table[4 * i + 2];
             rules[at + 2] = table[4 * i + 3];
             at += PER_RULE;
         }
-        i += 1;
     }
 }
 
@@ -246,37 +219,6 @@ fn store_own(table: &[usize], n: usize, service: usize, rules: &mut [usize])
 fn size_of(sizes: &[usize], service: usize) -> usize
     ensures { (1 ≤ service) → (service ≤ length sizes.now) → result ≡ get_or sizes.now (service - 1) 0 }
 {
-    if service == 0 {
-        return 0;
-    }
-    if sizes.len() < service {
-        return 0;
-    }
-    sizes[service - 1]
-}
-
-// How many places of a row stand before those of a service's place.
-fn row_before(sizes: &[usize], place: usize) -> usize
-    requires { (place ≤ length sizes.now) × (sum sizes.now ≤ most_services * most_backends) }
-    ensures { result ≡ sum (take place sizes.now) }
-{
-    let mut before = 0;
-    let mut i = 0;
-    while i < place {
-        before += sizes[i];
-        i += 1;
-    }
-    before
-}
-
-// So many weights of their row, into a lent buffer that is long enough.
-fn store_weights(row: &[u64], from: usize, n: usize, weights: &mut [u64])
-    requires { (from + n ≤ length row.now) × (n ≤ length weights.old) }
-    ensures { weights.new ≡ sets weights.old 0 (take n (drop from row.now)) }
-{
-    let mut i = 0;
-    while i < n {
-        weights[i] = row[from + i];
-        i += 1;
-    }
+    // 0 is no service's number: one less is then a place that no row has
+    sizes.get(service.wrapping_sub(1)).copied().unwrap_or(0)
 }

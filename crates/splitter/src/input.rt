@@ -1,19 +1,13 @@
 // A text read to its end. A read that fails is never taken for the end: half a sheet would be another sheet.
-ghost use Rattle.std.specs.Prelude.{◌≡◌, ◌≤◌, ◌↔◌, length, IsTrue};
+ghost use Rattle.std.specs.Prelude.{◌≡◌, ◌≤◌, ◌<◌, ◌↔◌, length, take, IfOk, IfSome, IsTrue, OnErr};
 ghost use Rattle.std.specs.IoError.{error_kind};
-ghost use Rattle.splitter.specs.Input.{bytes, Came, judged};
+ghost use Rattle.std.specs.Io.{ReadsAtMost};
+ghost use Rattle.std.specs.Io.KnownBytes.{Consumes, IsAtEnd, Keeps};
+ghost use Rattle.splitter.specs.Input.{judged};
 
-use crate::part::start;
 use crate::{arguments, output};
 use std::io::ErrorKind;
 use std::{fs, io};
-
-// A text's bytes, or why it can't be read, which was then told on standard error.
-#[derive(Drop)]
-pub enum Read {
-    Bytes(usize),
-    Failed(io::Error),
-}
 
 // The limit of a text, and the byte past it by which one that is too long is refused.
 pub const TEXT: usize = commands::ROOM + 1;
@@ -24,85 +18,70 @@ const INTERRUPTIONS: usize = 1000;
 // The number of the error of such a read.
 const EINTR: i32 = 4;
 
-// What a read came to.
-#[derive(Drop)]
-enum Step {
-    Bytes(usize),
-    End,
-    Interrupted,
-    Failed(io::Error),
-}
-
 fn is_interruption(error: &io::Error) -> bool
     ensures { IsTrue result ↔ (error_kind error.now ≡ ErrorKind.Interrupted) }
 {
     error.kind() == ErrorKind::Interrupted
 }
 
-// What a read's answer is: only 0 is the end of the input, and an error is a failure, unless it is an interruption.
-fn judge(got: io::Result<usize>) -> Step
+// What a read's answer counts for: nothing where a signal interrupted it, else itself. Only Ok(0) is the end of the input, and an error never is.
+fn judge(got: io::Result<usize>) -> Option<io::Result<usize>>
     ensures { result ≡ judged got }
 {
-    let error = match got {
-        Ok(n) => {
-            if n == 0 {
-                return Step::End;
-            }
-            return Step::Bytes(n);
-        }
-        Err(e) => e,
-    };
-    if !is_interruption(&error) {
-        return Step::Failed(error);
+    match got {
+        Err(e) if is_interruption(&e) => None,
+        Err(e) => Some(Err(e)),
+        Ok(n) => Some(Ok(n)),
     }
-    Step::Interrupted
 }
 
 // One read, tried again where a signal interrupted it.
-fn read_some(file: &mut impl io::Read, text: &mut [u8]) -> Step
-    ensures { Came (length text.new) result }
+fn read_some<R: io::Read>(file: &mut R, text: &mut [u8]) -> io::Result<usize>
+    ensures bound { ReadsAtMost result text.new }
+    ensures bytes { IfOk result (λ n. Consumes (R.remaining file.old) (R.remaining file.new) (take n text.new)) }
+    ensures end { IfOk result (λ n. n ≡ 0 → 0 < length text.old → IsAtEnd (R.remaining file.new)) }
+    ensures kept { OnErr result (Keeps (R.remaining file.old) (R.remaining file.new)) }
 {
     for _ in 0..INTERRUPTIONS {
-        let got = file.read(text);
-        let step = judge(got);
-        let Step::Interrupted = step else {
-            return step;
-        };
+        if let Some(answer) = judge(file.read(text)) {
+            return answer;
+        }
     }
-    Step::Failed(io::Error::from_raw_os_error(EINTR))
+    Err(io::Error::from_raw_os_error(EINTR))
 }
 
-// Reads until the end of the input was seen or the buffer is full.
-fn read_whole(file: &mut impl io::Read, text: &mut [u8]) -> Read
-    ensures { bytes result ≤ length text.new }
+// Reads until the end of the input was seen or the buffer is full: the first n bytes are then all that was left, or as many of it as there is room for.
+fn read_whole<R: io::Read>(file: &mut R, text: &mut [u8]) -> io::Result<usize>
+    ensures bound { IfOk result (λ n. n ≤ length text.new) }
+    ensures rest { IfOk result (λ n. IfSome (R.remaining file.old) (λ xs. take n text.new ≡ take (length text.new) xs)) }
 {
     let mut n = 0;
     while n < text.len() {
-        let step = read_some(file, &mut text[n..]);
-        match step {
-            Step::Bytes(more) => n += more,
-            Step::End => return Read::Bytes(n),
-            Step::Interrupted => return Read::Failed(io::Error::from_raw_os_error(EINTR)),
-            Step::Failed(e) => return Read::Failed(e),
+        let more = read_some(file, &mut text[n..])?;
+        if more == 0 {
+            return Ok(n);
         }
+        n += more;
     }
-    Read::Bytes(n)
+    Ok(n)
 }
 
 // Reads an open file into a buffer; where that can't be, says so on standard error under the given name.
-fn read_open(rt: &HostRuntime, file: &mut impl io::Read, name: &[u8], text: &mut [u8]) -> Read
-    ensures { bytes result ≤ length text.new }
+fn read_open<R: io::Read>(
+    rt: &HostRuntime,
+    file: &mut R,
+    name: &[u8],
+    text: &mut [u8],
+) -> io::Result<usize>
+    ensures bound { IfOk result (λ n. n ≤ length text.new) }
+    ensures rest { IfOk result (λ n. IfSome (R.remaining file.old) (λ xs. take n text.new ≡ take (length text.new) xs)) }
 {
-    let read = read_whole(file, text);
-    if let Read::Failed(e) = &read {
-        output::fail(rt, name, e);
-    }
-    read
+    read_whole(file, text).inspect_err(|e| output::fail(rt, name, e))
 }
 
 // Reads standard input into a buffer; where that can't be, says so on standard error.
-pub fn read_input(rt: &HostRuntime, text: &mut [u8]) -> Read
-    ensures { bytes result ≤ length text.new }
+pub fn read_input(rt: &HostRuntime, text: &mut [u8]) -> io::Result<usize>
+    ensures { IfOk result (λ n. n ≤ length text.new) }
 {
     read_open(rt, &mut rt.stdin(), b"standard input", text)
 }
@@ -116,38 +95,32 @@ fn open(rt: &HostRuntime, name: &[u8]) -> io::Result<fs::File> {
 }
 
 // Reads the file of a name into a buffer; where that can't be, says so on standard error.
-fn read_named(rt: &HostRuntime, name: &[u8], text: &mut [u8]) -> Read
-    ensures { bytes result ≤ length text.new }
+fn read_named(rt: &HostRuntime, name: &[u8], text: &mut [u8]) -> io::Result<usize>
+    ensures { IfOk result (λ n. n ≤ length text.new) }
 {
-    match open(rt, name) {
-        Ok(mut file) => read_open(rt, &mut file, name, text),
-        Err(e) => {
-            output::fail(rt, name, &e);
-            Read::Failed(e)
-        }
-    }
+    let mut file = open(rt, name).inspect_err(|e| output::fail(rt, name, e))?;
+    read_open(rt, &mut file, name, text)
 }
 
 // Reads the file that an argument of any length names.
-fn read_long_named(rt: &HostRuntime, i: usize, text: &mut [u8]) -> Read
-    ensures { bytes result ≤ length text.new }
+fn read_long_named(rt: &HostRuntime, i: usize, text: &mut [u8]) -> io::Result<usize>
+    ensures { IfOk result (λ n. n ≤ length text.new) }
 {
     let mut name = [0u8; arguments::ROOM];
-    let n = arguments::read(rt, i, &mut name);
-    read_named(rt, start(&name, n), text)
+    read_named(rt, arguments::read(rt, i, &mut name), text)
 }
 
 // Reads the file that an argument names, or standard input for `-`, into a buffer; where that can't be, says so on standard error.
-pub fn read_file(rt: &HostRuntime, i: usize, text: &mut [u8]) -> Read
-    ensures { bytes result ≤ length text.new }
+pub fn read_file(rt: &HostRuntime, i: usize, text: &mut [u8]) -> io::Result<usize>
+    ensures { IfOk result (λ n. n ≤ length text.new) }
 {
     if arguments::is_input(rt, i) {
         return read_input(rt, text);
     }
     let mut name = [0u8; arguments::SHORT];
-    let n = arguments::read(rt, i, &mut name);
-    if n == 0 {
+    let name = arguments::read(rt, i, &mut name);
+    if name.is_empty() {
         return read_long_named(rt, i, text);
     }
-    read_named(rt, start(&name, n), text)
+    read_named(rt, name, text)
 }

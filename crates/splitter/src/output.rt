@@ -5,11 +5,6 @@ use std::io;
 use std::io::{Cursor, ErrorKind, Write};
 use std::process::ExitCode;
 
-// The first n bytes of a text's buffer. An array, not a slice, whose length each caller would have to prove.
-pub fn text(out: &[u8; commands::ROOM], n: usize) -> &[u8] {
-    start(out, n)
-}
-
 // The status that a shell shows of a program that a pipe without a reader ended.
 const NO_READER: u8 = 141;
 
@@ -34,7 +29,7 @@ pub fn tell(rt: &HostRuntime, message: &[u8]) {
 pub fn usage(rt: &HostRuntime, command: Command) -> ExitCode {
     let mut out = [0u8; commands::ROOM];
     let n = commands::usage(command, &mut out);
-    tell(rt, text(&out, n));
+    tell(rt, start(&out, n));
     ExitCode::SUCCESS
 }
 
@@ -46,13 +41,11 @@ pub fn complain(rt: &HostRuntime, message: &[u8], command: Command) -> ExitCode 
 
 // What stands before the number of a system's error, and before the zeros behind a text.
 fn words(text: &[u8]) -> &[u8] {
-    for i in 0..text.len() {
-        let rest = &text[i..];
-        if rest.starts_with(b" (os error ") || rest.starts_with(&[0]) {
-            return start(text, i);
-        }
-    }
-    text
+    let end = (0..text.len()).find(|i| {
+        let rest = &text[*i..];
+        rest.starts_with(b" (os error ") || rest.starts_with(&[0])
+    });
+    start(text, end.unwrap_or(text.len()))
 }
 
 // Says on standard error what failed, and why: an error as `io::Error` prints it, without the number behind the system's text.

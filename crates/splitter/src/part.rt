@@ -5,5 +5,5 @@ ghost use Rattle.std.specs.Prelude.{◌≡◌, take};
 pub fn start(text: &[u8], n: usize) -> &[u8]
     ensures { result.now ≡ take n text.now }
 {
-    if n <= text.len() { &text[..n] } else { text }
+    &text[..n.min(text.len())]
 }

@@ -1,4 +1,5 @@
 -- The two calls on sheets that were read: their answers, their lent buffers and what is promised of them.
+use Rattle.std.specs.Prelude.{Err, Ok, Result}
 use Prim.Native.Nat.{ℕ, ◌-◌, ◌≤◌, ◌<◌}
 use mathlib.Core.Bool.{true}
 use mathlib.Core.List.{List, [], ◌∷◌}
@@ -15,8 +16,6 @@ use Rattle.sheets.specs.Calls.{afterwards, is_value, has_service}
 use Rattle.sheets.specs.Reading.{got}
 use Rattle.sheets.specs.RuleSheet.{Table, count_of, read_table}
 use Rattle.sheets.specs.declared.answer.Refused.{Refused as Why}
-use Rattle.sheets.specs.declared.answer.Answer.{Answer}
-use Rattle.sheets.specs.declared.answer.Answer.TheVariants as answer
 use Rattle.sheets.proofs.FirstMatch.{has-match, first-few}
 use Rattle.sheets.proofs.Following.{count-other, by-service}
 use Rattle.sheets.proofs.OneCall.{take-sets}
@@ -87,7 +86,7 @@ module _ (old new : List ℕ) (n k : ℕ) (before after : List ℕ) (R : BothRea
   unfolding change_of
   same-change = ap (λ (j : ℕ). record { k = j; old = own_rules n R.t.lines; new = own_rules n R.u.lines }) R.depth
 
-  sheets-are : (f : Change → Answer) → of_sheets old new n f ≡ f C
+  sheets-are : (f : Change → (Result ℕ Why)) → of_sheets old new n f ≡ f C
   sheets-are f =
       of-tables old new n f R.t R.u R.first R.second
       ∙ rw (R.in_first, R.in_second, eq-eqb R.t.k R.u.k (R.depth ∙ sym R.alike)) (ap f same-change)
@@ -113,7 +112,7 @@ module _ (old new : List ℕ) (n k : ℕ) (before after : List ℕ) (R : BothRea
   staged limit l = staged-row C limit l (stage-counted C)
 
   module _ (limit capacity room : ℕ) where
-    abbrev answer₁ : Answer
+    abbrev answer₁ : Result ℕ Why
     answer₁ = handed (judged k f₀ g₀ limit capacity 1) (row_of k f₀ g₀ limit) room
 
     pub places-answer : answer₁ ≡ places_answer old new n limit capacity room
@@ -124,27 +123,27 @@ module _ (old new : List ℕ) (n k : ℕ) (before after : List ℕ) (R : BothRea
         ∙ handed-same k f₀ g₀ limit capacity 1 (row C limit) (row_of k f₀ g₀ limit) room (row_same limit))
 
     -- it counts only where the limit is in its limits
-    some-limit : (m : ℕ) → answer₁ ≡ answer.Value m → 1 ≤ limit
+    some-limit : (m : ℕ) → answer₁ ≡ Ok m → 1 ≤ limit
     some-limit m e =
         let found = handed-row (judged k f₀ g₀ limit capacity 1) (row_of k f₀ g₀ limit) room m e in
         (judges k f₀ g₀ limit capacity 1 found.0 found.1).some
 
-    pub places-buffer : (r : Answer) (out : List ℕ) → r ≡ answer₁
+    pub places-buffer : (r : (Result ℕ Why)) (out : List ℕ) → r ≡ answer₁
         → afterwards (is_value r) out (row_of k f₀ g₀ limit) ≡ afterwards (is_value r) out (places_written old new n limit)
     unfolding places_written
-    places-buffer (answer.Refused w) out e = refl
-    places-buffer (answer.Value m) out e =
+    places-buffer (Err w) out e = refl
+    places-buffer (Ok m) out e =
         ap (sets out 0) (sym (values-are (λ D. row D limit) ∙ row_same limit (some-limit m (sym e))))
 
-    pub places-promised : (r : Answer) (out exit : List ℕ) → r ≡ answer₁ → length out ≡ room
+    pub places-promised : (r : (Result ℕ Why)) (out exit : List ℕ) → r ≡ answer₁ → length out ≡ room
         → exit ≡ afterwards (is_value r) out (row_of k f₀ g₀ limit)
         → (m : ℕ)
-        → r ≡ answer.Value m
+        → r ≡ Ok m
         → PromisedRow old new n limit (take m exit)
     places-promised r out exit e long is m v t u a b =
         let here = sym e ∙ v in
         let fits = handed-fits (judged k f₀ g₀ limit capacity 1) (row_of k f₀ g₀ limit) room m here in
-        let filled : exit ≡ sets out 0 (row_of k f₀ g₀ limit) = is ∙ ap (λ (x : Answer). afterwards (is_value x) out (row_of k f₀ g₀ limit)) v in
+        let filled : exit ≡ sets out 0 (row_of k f₀ g₀ limit) = is ∙ ap (λ (x : (Result ℕ Why)). afterwards (is_value x) out (row_of k f₀ g₀ limit)) v in
         let written : take m exit ≡ row C limit =
         ap₂ (λ (i : ℕ) (x : List ℕ). take i x) fits.0 filled ∙ take-sets out (row_of k f₀ g₀ limit) (omega (arith, fits.1))
         ∙ sym (row_same limit (some-limit m here)) in
@@ -159,7 +158,7 @@ module _ (old new : List ℕ) (n k : ℕ) (before after : List ℕ) (R : BothRea
     abbrev text : List ℕ
     text = text_at k f₀ g₀ n (get_or (row_of k f₀ g₀ limit) (number - 1) 0)
 
-    abbrev answer₂ : Answer
+    abbrev answer₂ : Result ℕ Why
     answer₂ = handed (judged k f₀ g₀ limit capacity number) text room
 
     text_same : 1 ≤ limit → stage_text C n (place_of C limit number) ≡ text
@@ -172,42 +171,42 @@ module _ (old new : List ℕ) (n k : ℕ) (before after : List ℕ) (R : BothRea
         ∙ change-is C f₀ g₀ R.spread_first.at R.spread_second.at limit capacity number (stage_text C n (place_of C limit number)) room
         ∙ handed-same k f₀ g₀ limit capacity number (stage_text C n (place_of C limit number)) text room text_same)
 
-    some-limit₂ : (m : ℕ) → answer₂ ≡ answer.Value m → 1 ≤ limit
+    some-limit₂ : (m : ℕ) → answer₂ ≡ Ok m → 1 ≤ limit
     some-limit₂ m e =
         let found = handed-row (judged k f₀ g₀ limit capacity number) text room m e in
         (judges k f₀ g₀ limit capacity number found.0 found.1).some
 
-    pub lines-buffer : (r : Answer) (out : List ℕ) → r ≡ answer₂
+    pub lines-buffer : (r : (Result ℕ Why)) (out : List ℕ) → r ≡ answer₂
         → afterwards (is_value r) out text ≡ afterwards (is_value r) out (lines_written old new n limit number)
     unfolding lines_written
-    lines-buffer (answer.Refused w) out e = refl
-    lines-buffer (answer.Value m) out e =
+    lines-buffer (Err w) out e = refl
+    lines-buffer (Ok m) out e =
         ap (sets out 0) (sym (values-are (λ D. stage_text D n (place_of D limit number)) ∙ text_same (some-limit₂ m (sym e))))
 
-    pub lines-promised : (r : Answer) (out exit : List ℕ) → r ≡ answer₂ → length out ≡ room → exit ≡ afterwards (is_value r) out text
+    pub lines-promised : (r : (Result ℕ Why)) (out exit : List ℕ) → r ≡ answer₂ → length out ≡ room → exit ≡ afterwards (is_value r) out text
         → (m : ℕ)
-        → r ≡ answer.Value m
+        → r ≡ Ok m
         → PromisedStage old new n limit number (take m exit)
     unfolding stage_text
     lines-promised r out exit e long is m v t u a b =
         let here = sym e ∙ v in
         let some = some-limit₂ m here in
         let fits = handed-fits (judged k f₀ g₀ limit capacity number) text room m here in
-        let filled : exit ≡ sets out 0 text = is ∙ ap (λ (x : Answer). afterwards (is_value x) out text) v in
+        let filled : exit ≡ sets out 0 text = is ∙ ap (λ (x : (Result ℕ Why)). afterwards (is_value x) out text) v in
         let written : take m exit ≡ stage_text C n (place_of C limit number) =
         ap₂ (λ (i : ℕ) (x : List ℕ). take i x) fits.0 filled ∙ take-sets out text (omega (arith, fits.1)) ∙ sym (text_same some) in
         let depth : t.k ≡ k = ap (λ (x : Table). x.k) (got_same (sym a ∙ R.first)) ∙ R.depth in
         rw (same_tables t u a b, depth) (staged limit some, (stage_rules C (place_of C limit number), written, stage-printed C (place_of C limit number)))
 
 -- what is refused of both sheets is the answer of each call, and nothing is promised of it
-module _ (old new : List ℕ) (n : ℕ) (w : Why) (no : (f : Change → Answer) → of_sheets old new n f ≡ answer.Refused w) where
-  pub places-refused : (limit capacity room : ℕ) → places_answer old new n limit capacity room ≡ answer.Refused w
+module _ (old new : List ℕ) (n : ℕ) (w : Why) (no : (f : Change → (Result ℕ Why)) → of_sheets old new n f ≡ Err w) where
+  pub places-refused : (limit capacity room : ℕ) → places_answer old new n limit capacity room ≡ Err w
   unfolding places_answer
   places-refused limit capacity room = no (λ C. of_change C limit capacity 1 (row C limit) room)
 
-  pub lines-refused : (limit capacity number room : ℕ) → lines_answer old new n limit capacity number room ≡ answer.Refused w
+  pub lines-refused : (limit capacity number room : ℕ) → lines_answer old new n limit capacity number room ≡ Err w
   unfolding lines_answer
   lines-refused limit capacity number room = no (λ C. of_change C limit capacity number (stage_text C n (place_of C limit number)) room)
 
-pub not-value : {w : Why} {m : ℕ} {P : Type 0} → answer.Refused w ≡ answer.Value m → P
+pub not-value : {w : Why} {m : ℕ} {P : Type 0} → Err w ≡ Ok m → P
 not-value e = absurd (let z : ◌≡◌ {A = ℕ} 0 1 = cc in omega arith)

@@ -13,7 +13,8 @@ use Rattle.packing.specs.Table.{lines_of}
 use Rattle.sheets.specs.Cases.{bytes}
 use Rattle.sheets.specs.Reading.{then, unless, on_field, same}
 use Rattle.sheets.specs.FirstLine.{first_line, opening_lines, opening_fields}
-use Rattle.sheets.specs.RuleSheet.{on_suffix, count_of, in_order, placed, rule_fields, rule_lines, closed, whole_table, table_line, read_table, line_text, lines_text}
+use Rattle.sheets.specs.RuleSheet.{on_suffix, count_of, in_order, placed, rule_fields, rule_lines, closed, whole_table, table_line, read_table}
+use Rattle.sheets.specs.RuleSheet.{line_text, lines_text}
 use Rattle.sheets.specs.Calls.{print_text, has_service}
 use Rattle.stages.specs.Stages.{stage_at, stage_churn, next_place, row_from, row}
 use Rattle.stages.specs.Lines.{one_holds, largest_of, stage_rules, stage_text}

@@ -1,5 +1,6 @@
 -- One turn of the walk that cuts the row, the leaves of filled nodes, one place more of the crowded test, and the
 -- tests of a row.
+use Rattle.std.specs.Prelude.{Err, Ok}
 use Prim.Native.Nat.{ℕ, zero, suc, ◌+◌, ◌-◌, ◌*◌, ◌^◌, ◌≤◌, ◌<◌}
 use mathlib.Core.Bool.{Bool, true, false}
 use mathlib.Core.List.{List, [], ◌∷◌, ◌++◌, append-nil}
@@ -9,10 +10,11 @@ use native.Mathlib.Nat.{zero-add, mul-one}
 use native.Mathlib.Numerals.{add-one}
 use native.Mathlib.Omega.{arith}
 use lib.Dec.{ltb}
-use lib.ListN.{length, get_or, set, length-append}
+use lib.ListN.{length, get_or, drop, set, length-append}
 use lib.Pow.{pow_pos}
-use lib.Seq.{sets, length-sets, slice, slice-cons, slice_empty}
+use lib.Seq.{sets, length-sets}
 use borrow.Author.Tests.{lt-ltb, le-ltb}
+use Rattle.std.proofs.lemmas.List.{drop_all, drop_more}
 use Rattle.numerals.specs.Limits.{most_suffixes, most_capacity}
 use Rattle.numerals.specs.Pick.{pick}
 use Rattle.numerals.specs.Refusals.{no2, no14}
@@ -20,7 +22,6 @@ use Rattle.expansion.specs.Answer.{in_limits}
 use Rattle.sheets.proofs.Writes.{sets-append}
 use Rattle.stages.specs.Inner.Nodes.{leaves, cut_at, lines_at, Nodes}
 use Rattle.stages.specs.Inner.Row.{unlike, moved_to, cuts_to, row_of, crowded_at, judged}
-use Rattle.stages.specs.declared.answer.Judged.TheVariants.{Row, Refused}
 use Rattle.stages.proofs.NodeLaws.{node-inside, lines-ext}
 use Rattle.stages.proofs.Rows.{moved-zero, cuts-zero, moved-alike, cuts-alike, moved_more, cuts-kept, moved-cut, cuts-cut}
 
@@ -175,47 +176,46 @@ stage-lines k p old new old' new' o n =
 -- the crowded test, a place more
 
 module _ (k : ℕ) (old new : ℕ → ℕ) (capacity : ℕ) (row : List ℕ) where
-  pub crowded-here : (i n : ℕ) → i < n → n ≤ length row → capacity < lines_at (cut_at (get_or row i 0) old new) k 0
-      → crowded_at k old new capacity (slice i n row) ≡ true
+  pub crowded-here : (i : ℕ) → i < length row → capacity < lines_at (cut_at (get_or row i 0) old new) k 0
+      → crowded_at k old new capacity (drop i row) ≡ true
   unfolding crowded_at
-  crowded-here i n l m h =
-      ap (crowded_at k old new capacity) (slice-cons i n row 0 l m) ∙ rw (lt-ltb capacity (lines_at (cut_at (get_or row i 0) old new) k 0) h)
+  crowded-here i l h =
+      ap (crowded_at k old new capacity) (drop_more row i 0 l) ∙ rw (lt-ltb capacity (lines_at (cut_at (get_or row i 0) old new) k 0) h)
 
-  pub crowded-later : (i n : ℕ) → i < n → n ≤ length row → lines_at (cut_at (get_or row i 0) old new) k 0 ≤ capacity
-      → crowded_at k old new capacity (slice i n row) ≡ crowded_at k old new capacity (slice (i + 1) n row)
+  pub crowded-later : (i : ℕ) → i < length row → lines_at (cut_at (get_or row i 0) old new) k 0 ≤ capacity
+      → crowded_at k old new capacity (drop i row) ≡ crowded_at k old new capacity (drop (i + 1) row)
   unfolding crowded_at
-  crowded-later i n l m h =
-      ap (crowded_at k old new capacity) (slice-cons i n row 0 l m)
-      ∙ rw (le-ltb capacity (lines_at (cut_at (get_or row i 0) old new) k 0) h) (ap (λ (j : ℕ). crowded_at k old new capacity (slice j n row))
-      (sym (add-one i)))
+  crowded-later i l h =
+      ap (crowded_at k old new capacity) (drop_more row i 0 l)
+      ∙ rw (le-ltb capacity (lines_at (cut_at (get_or row i 0) old new) k 0) h)
 
-  pub crowded-none : (n : ℕ) → crowded_at k old new capacity (slice n n row) ≡ false
+  pub crowded-none : (i : ℕ) → length row ≤ i → crowded_at k old new capacity (drop i row) ≡ false
   unfolding crowded_at
-  crowded-none n = ap (crowded_at k old new capacity) (slice_empty n row)
+  crowded-none i l = ap (crowded_at k old new capacity) (drop_all i row l)
 
 -- the tests of a row, one after the other
 
 module _ (k : ℕ) (old new : ℕ → ℕ) (limit capacity number : ℕ) where
-  pub judged-limit : in_limits 1 most_suffixes limit ≡ false → judged k old new limit capacity number ≡ Refused no2
+  pub judged-limit : in_limits 1 most_suffixes limit ≡ false → judged k old new limit capacity number ≡ Err no2
   unfolding judged
   judged-limit l = rw l
 
   module _ (l : in_limits 1 most_suffixes limit ≡ true) where
-    pub judged-capacity : in_limits 1 most_capacity capacity ≡ false → judged k old new limit capacity number ≡ Refused no2
+    pub judged-capacity : in_limits 1 most_capacity capacity ≡ false → judged k old new limit capacity number ≡ Err no2
     unfolding judged
     judged-capacity c = rw (l, c)
 
     module _ (c : in_limits 1 most_capacity capacity ≡ true) where
-      pub judged-number : in_limits 1 (length (row_of k old new limit)) number ≡ false → judged k old new limit capacity number ≡ Refused no2
+      pub judged-number : in_limits 1 (length (row_of k old new limit)) number ≡ false → judged k old new limit capacity number ≡ Err no2
       unfolding judged
       judged-number n = rw (l, c, n)
 
       module _ (n : in_limits 1 (length (row_of k old new limit)) number ≡ true) where
-        pub judged-crowded : crowded_at k old new capacity (row_of k old new limit) ≡ true → judged k old new limit capacity number ≡ Refused no14
+        pub judged-crowded : crowded_at k old new capacity (row_of k old new limit) ≡ true → judged k old new limit capacity number ≡ Err no14
         unfolding judged
         judged-crowded f = rw (l, c, n, f)
 
         pub judged-row : crowded_at k old new capacity (row_of k old new limit) ≡ false
-            → judged k old new limit capacity number ≡ Row (length (row_of k old new limit))
+            → judged k old new limit capacity number ≡ Ok (length (row_of k old new limit))
         unfolding judged
         judged-row f = rw (l, c, n, f)

@@ -1,4 +1,5 @@
 -- A change by the backends of its places: what is judged of it, and what is handed out, is what the definitions say.
+use Rattle.std.specs.Prelude.{Err, Ok, Result}
 use Prim.Native.Nat.{ℕ, zero, suc, ◌^◌, ◌≤◌, ◌<◌}
 use mathlib.Core.Bool.{Bool, true, false}
 use mathlib.Core.List.{List, [], ◌∷◌}
@@ -20,17 +21,15 @@ use Rattle.expansion.proofs.Checks.{limits as within}
 use Rattle.packing.specs.Table.{lines_of}
 use Rattle.sheets.specs.Calls.{refused_at, print_text}
 use Rattle.sheets.specs.RuleSheet.{lines_text}
-use Rattle.sheets.specs.declared.answer.Answer.TheVariants as answer
 use Rattle.stages.specs.Stages.{Change, stage_at}
 use Rattle.stages.specs.Lines.{stage_rules, stage_text}
 use Rattle.stages.specs.Calls.{crowded, in_range, of_change}
 use Rattle.stages.specs.Inner.Nodes.{cut_at, lines_at, starts_to}
 use Rattle.stages.specs.Inner.Row.{row_of, crowded_at, judged}
 use Rattle.stages.specs.Inner.Handed.{handed, text_at}
-use Rattle.stages.specs.declared.answer.Judged.{Judged}
-use Rattle.stages.specs.declared.answer.Judged.TheVariants.{Row, Refused}
 use Rattle.stages.proofs.LargestLines.{largest-starts, length-largest}
 use Rattle.stages.proofs.Rows.{row_is}
+use Rattle.numerals.specs.declared.refusal.Refusal.{Refusal}
 
 -- as many lines begin as the whole tree has
 pub starts-count : (g : ℕ → ℕ) (k : ℕ) → length (starts_to g k (2 ^ k)) ≡ lines_at g k 0
@@ -51,12 +50,12 @@ module _ (k : ℕ) (old new : ℕ → ℕ) (limit capacity number : ℕ) where
   abbrev ranged : Bool
   ranged = both (in_limits 1 most_suffixes limit) (both (in_limits 1 most_capacity capacity) (in_limits 1 (length (row_of k old new limit)) number))
 
-  pub judges : (n : ℕ) → judged k old new limit capacity number ≡ Row n → Judges k old new limit capacity number n
+  pub judges : (n : ℕ) → judged k old new limit capacity number ≡ Ok n → Judges k old new limit capacity number n
   unfolding judged
   judges n e = go ranged refl (crowded_at k old new capacity (row_of k old new limit)) refl e
     where
       go : (r : Bool) → ranged ≡ r → (c : Bool) → crowded_at k old new capacity (row_of k old new limit) ≡ c
-          → pick r (pick c (Refused no14) (Row (length (row_of k old new limit)))) (Refused no2) ≡ Row n → Judges k old new limit capacity number n
+          → pick r (pick c (Err no14) (Ok (length (row_of k old new limit)))) (Err no2) ≡ Ok n → Judges k old new limit capacity number n
       go false r c d e = absurd (let z : ◌≡◌ {A = ℕ} 0 1 = cc in omega arith)
       go true r true d e = absurd (let z : ◌≡◌ {A = ℕ} 0 1 = cc in omega arith)
       go true r false d e =
@@ -72,9 +71,9 @@ module _ (k : ℕ) (old new : ℕ → ℕ) (limit capacity number : ℕ) where
       → handed (judged k old new limit capacity number) v room ≡ handed (judged k old new limit capacity number) w room
   handed-same v w room e = go (judged k old new limit capacity number) refl
     where
-      go : (j : Judged) → judged k old new limit capacity number ≡ j → handed j v room ≡ handed j w room
-      go (Refused why) is = refl
-      go (Row n) is = ap (λ (x : List ℕ). print_text x room) (e (judges n is).some)
+      go : (j : (Result ℕ Refusal)) → judged k old new limit capacity number ≡ j → handed j v room ≡ handed j w room
+      go (Err why) is = refl
+      go (Ok n) is = ap (λ (x : List ℕ). print_text x room) (e (judges n is).some)
 
 -- each stage of a row that isn't crowded has at most so many lines
 pub sparse-at : (k : ℕ) (old new : ℕ → ℕ) (capacity : ℕ) (ps : List ℕ) → crowded_at k old new capacity ps ≡ false → (i : ℕ) → i < length ps
@@ -93,8 +92,8 @@ sparse-at k old new capacity (p ∷ ps) e i l = go (ltb capacity (lines_at (cut_
 
 -- the answer by the two tests
 handed-picked : (r c : Bool) (m : ℕ) (values : List ℕ) (room : ℕ)
-    → pick r (pick c (answer.Refused (refused_at no14 0)) (print_text values room)) (answer.Refused (refused_at no2 0))
-    ≡ handed (pick r (pick c (Refused no14) (Row m)) (Refused no2)) values room
+    → pick r (pick c (Err (refused_at no14 0)) (print_text values room)) (Err (refused_at no2 0))
+    ≡ handed (pick r (pick c (Err no14) (Ok m)) (Err no2)) values room
 handed-picked true true m values room = refl
 handed-picked true false m values room = refl
 handed-picked false c m values room = refl
@@ -139,29 +138,29 @@ module _ (C : Change) (old new : ℕ → ℕ) (A : (p : ℕ) → p < 2 ^ C.k →
           (length (row_of C.k old new limit)) values room)
 
 -- values for a lent buffer that is too short, or has room for them
-pub print-short : (values : List ℕ) (room : ℕ) → room < length values → print_text values room ≡ answer.Refused (refused_at no7 0)
+pub print-short : (values : List ℕ) (room : ℕ) → room < length values → print_text values room ≡ Err (refused_at no7 0)
 unfolding print_text
 print-short values room l = rw (lt-leb (length values) room l)
 
-pub print-fits : (values : List ℕ) (room : ℕ) → length values ≤ room → print_text values room ≡ answer.Value (length values)
+pub print-fits : (values : List ℕ) (room : ℕ) → length values ≤ room → print_text values room ≡ Ok (length values)
 unfolding print_text
 print-fits values room l = rw (le-leb (length values) room l)
 
 -- what was handed out fits
-pub handed-fits : (j : Judged) (values : List ℕ) (room m : ℕ) → handed j values room ≡ answer.Value m → (m ≡ length values) × (length values ≤ room)
+pub handed-fits : (j : (Result ℕ Refusal)) (values : List ℕ) (room m : ℕ) → handed j values room ≡ Ok m → (m ≡ length values) × (length values ≤ room)
 unfolding print_text
-handed-fits (Refused why) values room m e = absurd (let z : ◌≡◌ {A = ℕ} 0 1 = cc in omega arith)
-handed-fits (Row n) values room m e = go (leb (length values) room) refl e
+handed-fits (Err why) values room m e = absurd (let z : ◌≡◌ {A = ℕ} 0 1 = cc in omega arith)
+handed-fits (Ok n) values room m e = go (leb (length values) room) refl e
   where
-    go : (t : Bool) → leb (length values) room ≡ t → pick t (answer.Value (length values)) (answer.Refused (refused_at no7 0)) ≡ answer.Value m
+    go : (t : Bool) → leb (length values) room ≡ t → pick t (Ok (length values)) (Err (refused_at no7 0)) ≡ Ok m
         → (m ≡ length values) × (length values ≤ room)
     go true t e = (cc, leb-true (length values) room t)
     go false t e = absurd (let z : ◌≡◌ {A = ℕ} 0 1 = cc in omega arith)
 
 -- and was judged to be a row
-pub handed-row : (j : Judged) (values : List ℕ) (room m : ℕ) → handed j values room ≡ answer.Value m → (n : ℕ) × (j ≡ Row n)
-handed-row (Refused why) values room m e = absurd (let z : ◌≡◌ {A = ℕ} 0 1 = cc in omega arith)
-handed-row (Row n) values room m e = (n, refl)
+pub handed-row : (j : (Result ℕ Refusal)) (values : List ℕ) (room m : ℕ) → handed j values room ≡ Ok m → (n : ℕ) × (j ≡ Ok n)
+handed-row (Err why) values room m e = absurd (let z : ◌≡◌ {A = ℕ} 0 1 = cc in omega arith)
+handed-row (Ok n) values room m e = (n, refl)
 
 -- a number among the first of a listing
 pub first-at : (n : ℕ) (listing values : List ℕ) (i : ℕ) → take n listing ≡ values → i < n → get_or listing i 0 ≡ get_or values i 0

@@ -1,4 +1,5 @@
 -- The text of a stage: its lines in order of places, one node's after the other.
+use Rattle.std.specs.Prelude.{Ok, Result}
 use Prim.Native.Nat.{ℕ, zero, suc, ◌+◌, ◌-◌, ◌*◌, ◌/◌, ◌%◌, ◌^◌, ◌≤◌, ◌<◌}
 use mathlib.Core.Bool.{true}
 use mathlib.Core.List.{List, [], ◌∷◌, ◌++◌, append_assoc, append-nil}
@@ -12,8 +13,6 @@ use lib.Pow.{pow_pos, pow_mono}
 use lib.Seq.{sets, sets-eq, take_at, get_or-set_same, get_or-set_other}
 use Rattle.numerals.specs.Limits.{most_bits, most_suffixes, most_capacity, most_services, most_id}
 use Rattle.numerals.specs.Suffix.{place}
-use Rattle.numerals.specs.declared.digits.Written.{Written}
-use Rattle.numerals.specs.declared.digits.Written.TheVariants.{End}
 use Rattle.numerals.proofs.Place.{place-lt, place-shorter, place-involution}
 use Rattle.numerals.proofs.Writing.{written}
 use Rattle.expansion.specs.declared.rule.Rule.{Rule}
@@ -30,6 +29,7 @@ use Rattle.stages.specs.Inner.Nodes.{at, cut_at, height_at, starts_to}
 use Rattle.stages.specs.Inner.Row.{Served}
 use Rattle.stages.proofs.NodeLaws.{cut_below, cut-from, path-lt, around, height-is, height-same}
 use Rattle.stages.proofs.NodeLaws.{starts_none, starts-suc, start-here, start-not, starts-node}
+use Rattle.numerals.specs.declared.refusal.Refusal.{Refusal}
 
 -- one place more of what a listing is to have
 pub listed_more : (f : ℕ → ℕ) (s : List ℕ) (q v : ℕ) → q < length s → ((y : ℕ) → y < q → get_or s y 0 ≡ f y) → v ≡ f q
@@ -216,7 +216,7 @@ module _
           long,
         )
 
-    ends : put_line_end text end own ≡ End (end + length (line_text own))
+    ends : put_line_end text end own ≡ Ok (end + length (line_text own))
     unfolding put_line_end
     ends = rw is-line (sym (written text end (line_text own) fits).0)
 
@@ -239,7 +239,7 @@ module _
         (n value : ℕ)
         (high : n ≡ size)
         (placed : value ≡ place k p)
-        (w : Written)
+        (w : (Result ℕ Refusal))
         (after : List ℕ)
         (answer : w ≡ put_line_end text end (line service (k - n) value (at stage p)))
         (buffer : after ≡ put_line text end (line service (k - n) value (at stage p)))
@@ -247,7 +247,7 @@ module _
         same : line service (k - n) value (at stage p) ≡ own
         same = rw (high, placed)
 
-        ended : w ≡ End (end + length (line_text own))
+        ended : w ≡ Ok (end + length (line_text own))
         ended = answer ∙ ap (put_line_end text end) same ∙ ends
 
         pub line-ended : Before w (end_at w + 1)

@@ -1,7 +1,6 @@
 // A change in stages: the row of places at which it is cut, and one stage as lines for the switch.
 #![tactic(auto)]
 
-mod answer;
 mod calls;
 mod nodes;
 mod printing;

@@ -23,9 +23,7 @@ pub fn fill(holder: &[u16], k: usize, held: &mut [u16], lines: &mut [u16])
     ensures { Nodes k (at holder.now) 1 held.new lines.new }
 {
     let all: usize = 1 << k;
-    let mut i = 2 * all;
-    while 1 < i {
-        i -= 1;
+    for i in (1..2 * all).rev() {
         if all <= i {
             held[i] = holder[i - all];
             lines[i] = 1;
@@ -58,6 +56,7 @@ pub fn count_lines(
     let mut i = all + p - 1;
     let backend = new[i];
     let mut n: u16 = 1;
+    // it goes to the node above, and counts no index
     while 1 < i {
         if i % 2 == 0 {
             n = join(n, old_lines[i + 1], backend == old[i + 1]);
@@ -78,6 +77,7 @@ pub fn height(lines: &[u16], k: usize, p: usize) -> usize
     let all: usize = 1 << k;
     let mut i = all + p;
     let mut n = 0;
+    // it goes to the node above, and counts no index
     while 1 < i && lines[i / 2] == 1 {
         i = i / 2;
         n += 1;

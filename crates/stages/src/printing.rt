@@ -12,8 +12,8 @@ ghost use Rattle.stages.specs.Inner.Row.{Served};
 ghost use Rattle.stages.specs.Inner.Handed.{text_room, text_at};
 
 use crate::nodes::NODES;
-use numerals::{MOST_BITS, MOST_CAPACITY, MOST_SUFFIXES, Refusal, Written};
-use sheets::{Answer, Refused};
+use numerals::{MOST_BITS, MOST_CAPACITY, MOST_SUFFIXES, Refusal};
+use sheets::Refused;
 
 // The bytes of the longest line, and of the longest list.
 const LINE: usize = 22;
@@ -28,14 +28,12 @@ fn compose(old: &[u16], new: &[u16], k: usize, p: usize, stage: &mut [u16])
     ensures stage { (q : ℕ) → q < 2 ^ k → get_or stage.new q 0 ≡ cut_at p (at old.now) (at new.now) q }
 {
     let all: usize = 1 << k;
-    let mut q = 0;
-    while q < all {
+    for q in 0..all {
         if q < p {
             stage[q] = new[q];
         } else {
             stage[q] = old[q];
         }
-        q += 1;
     }
 }
 
@@ -57,29 +55,18 @@ fn put_lines(
     let all: usize = 1 << k;
     let mut end = 0;
     let mut p = 0;
+    // it jumps from a node to the next, of any size
     while p < all {
         let n = crate::nodes::height(lines, k, p);
         let value = (places[p] as usize) >> (MOST_BITS - k);
         let backend = stage[p] as usize;
         let written = sheets::write_line(text, end, service, k - n, value, backend);
-        if let Written::End(next) = written {
+        if let Ok(next) = written {
             end = next;
         }
         p += 1 << n;
     }
     end
-}
-
-// The first n bytes of one buffer, into another.
-fn copy_text(from: &[u8], to: &mut [u8], n: usize)
-    requires { (n ≤ length from.now) × (n ≤ length to.old) }
-    ensures { to.new ≡ sets to.old 0 (take n from.now) }
-{
-    let mut i = 0;
-    while i < n {
-        to[i] = from[i];
-        i += 1;
-    }
 }
 
 // The stage at place p as text, into a lent buffer.
@@ -90,7 +77,7 @@ pub fn print_stage(
     service: usize,
     p: usize,
     out: &mut [u8],
-) -> Answer
+) -> Result<usize, Refused>
     requires k_le_most_bits { (k ≤ most_bits) × (Served k service old.now × Served k service new.now) }
     requires k_len_bound { length (starts_to (cut_at p (at old.now) (at new.now)) k (2 ^ k)) ≤ most_capacity }
     ensures answer { result ≡ calls.print_text (text_at k (at old.now) (at new.now) service p) (length out.old) }
@@ -107,12 +94,8 @@ pub fn print_stage(
     let mut text = [0u8; TEXT];
     let end = put_lines(&stage, &lines, k, service, &places, &mut text);
     if out.len() < end {
-        return Answer::Refused(Refused {
-            why: Refusal::ShortLoan,
-            line: 0,
-            of: 0,
-        });
+        return Err(Refusal::ShortLoan.into());
     }
-    copy_text(&text, out, end);
-    Answer::Value(end)
+    out[..end].copy_from_slice(&text[..end]);
+    Ok(end)
 }

@@ -5,7 +5,6 @@ ghost use Rattle.numerals.specs.Limits.{most_bits, most_suffixes};
 ghost use Rattle.stages.specs.Inner.Nodes.{at};
 ghost use Rattle.stages.specs.Inner.Row.{row_of, crowded_at, judged, RowIn};
 
-use crate::answer::Judged;
 use crate::nodes::NODES;
 use numerals::{MOST_CAPACITY, MOST_SUFFIXES, Refusal};
 
@@ -20,8 +19,7 @@ pub fn cut(old: &[u16], new: &[u16], k: usize, limit: usize, row: &mut [usize]) 
     let all: usize = 1 << k;
     let mut n = 0;
     let mut moved = 0;
-    let mut p = 0;
-    while p < all {
+    for p in 0..all {
         if old[p] != new[p] {
             if limit < moved + 1 {
                 row[n] = p;
@@ -30,7 +28,6 @@ pub fn cut(old: &[u16], new: &[u16], k: usize, limit: usize, row: &mut [usize]) 
             }
             moved += 1;
         }
-        p += 1;
     }
     row[n] = all;
     n + 1
@@ -49,14 +46,11 @@ fn is_crowded(old: &[u16], new: &[u16], k: usize, capacity: usize, row: &[usize]
     let mut new_held = [1u16; NODES];
     let mut new_lines = [1u16; NODES];
     crate::nodes::fill(new, k, &mut new_held, &mut new_lines);
-    let mut left = n;
-    while 0 < left {
-        let p = row[n - left];
-        let lines = crate::nodes::count_lines(&old_held, &old_lines, &new_held, &new_lines, k, p);
+    for p in &row[..n] {
+        let lines = crate::nodes::count_lines(&old_held, &old_lines, &new_held, &new_lines, k, *p);
         if capacity < lines as usize {
             return true;
         }
-        left -= 1;
     }
     false
 }
@@ -71,33 +65,24 @@ pub fn judge(
     capacity: usize,
     number: usize,
     row: &mut [usize],
-) -> Judged
+) -> Result<usize, Refusal>
     requires k_le_most_bits { (k ≤ most_bits) × ((length old.now ≡ most_suffixes) × (length new.now ≡ most_suffixes)) }
     requires row_len { length row.old ≡ most_suffixes }
     ensures answer { result ≡ judged k (at old.now) (at new.now) limit capacity number }
     ensures row { RowIn k (at old.now) (at new.now) limit result row.new }
 {
-    if limit < 1 {
-        return Judged::Refused(Refusal::BadField);
+    if !(1..=MOST_SUFFIXES).contains(&limit) {
+        return Err(Refusal::BadField);
     }
-    if MOST_SUFFIXES < limit {
-        return Judged::Refused(Refusal::BadField);
-    }
-    if capacity < 1 {
-        return Judged::Refused(Refusal::BadField);
-    }
-    if MOST_CAPACITY < capacity {
-        return Judged::Refused(Refusal::BadField);
+    if !(1..=MOST_CAPACITY).contains(&capacity) {
+        return Err(Refusal::BadField);
     }
     let n = cut(old, new, k, limit, row);
-    if number < 1 {
-        return Judged::Refused(Refusal::BadField);
-    }
-    if n < number {
-        return Judged::Refused(Refusal::BadField);
+    if !(1..=n).contains(&number) {
+        return Err(Refusal::BadField);
     }
     if is_crowded(old, new, k, capacity, row, n) {
-        return Judged::Refused(Refusal::Crowded);
+        return Err(Refusal::Crowded);
     }
-    Judged::Row(n)
+    Ok(n)
 }

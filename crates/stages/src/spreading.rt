@@ -17,12 +17,7 @@ fn cover(holder: &mut [u16], places: &[u16], k: usize, len: usize, value: usize,
 {
     let size: usize = 1 << (k - len);
     let at = ((places[value] as usize) >> (MOST_BITS - len)) * size;
-    let b = backend as u16;
-    let mut i = 0;
-    while i != size {
-        holder[at + i] = b;
-        i += 1;
-    }
+    holder[at..at + size].fill(backend as u16);
 }
 
 // The backend of each k-bit suffix by first match over the lines of a service, by its tree place, into a lent listing in
@@ -39,10 +34,8 @@ pub fn spread(
     requires holder_value { holder.old ≡ replicate most_suffixes nobody }
     ensures { Spread k (own_rules service (lines_in table.now n)) holder.new }
 {
-    let mut left = n;
-    while 0 < left {
-        left -= 1;
-        let c = 4 * left;
+    for i in (0..n).rev() {
+        let c = 4 * i;
         if table[c] == service {
             cover(holder, places, k, table[c + 1], table[c + 2], table[c + 3]);
         }

@@ -20,8 +20,7 @@ use vectors::{header, print, record, walk};
 fn answer(rt: &impl Print, vector: &[u8]) {
     let h = header::read(vector);
     let text = header::payload(vector);
-    let layer = h.layer;
-    match layer {
+    match h.layer {
         b'n' => of_numerals::answer(rt, h, text),
         b'e' => of_expansion::answer(rt, h, text),
         b'p' => of_packing::answer(rt, h, text),

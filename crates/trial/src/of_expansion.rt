@@ -1,6 +1,6 @@
 // The answers to vectors of the expansion.
 use crate::writes;
-use expansion::{Ended, Expanded, Record};
+use expansion::{Ended, Record};
 use vectors::header::Header;
 use vectors::{print, walk};
 
@@ -13,35 +13,23 @@ fn ending(rt: &impl Print, list: &Record) {
     print::field(rt, list.rules as u64);
 }
 
-// Rule i, and the stair after it.
-fn show_rule(
-    rt: &impl Print,
-    i: usize,
-    lens: &[usize; numerals::MOST_RULES],
-    values: &[usize; numerals::MOST_RULES],
-    backends: &[usize; numerals::MOST_RULES],
-    stairs: &[u64; numerals::MOST_RULES],
-) {
-    if i < numerals::MOST_RULES {
-        print::bytes(rt, b" ");
-        print::suffix(rt, lens[i], values[i]);
-        print::bytes(rt, b">");
-        print::number(rt, backends[i] as u64);
-        print::bytes(rt, b":");
-        print::number(rt, stairs[i]);
-    }
-}
-
+// The first n rules, each with the stair after it.
 fn show_rules(
     rt: &impl Print,
     n: usize,
-    lens: &[usize; numerals::MOST_RULES],
-    values: &[usize; numerals::MOST_RULES],
-    backends: &[usize; numerals::MOST_RULES],
-    stairs: &[u64; numerals::MOST_RULES],
+    lens: &[usize],
+    values: &[usize],
+    backends: &[usize],
+    stairs: &[u64],
 ) {
-    for i in 0..n {
-        show_rule(rt, i, lens, values, backends, stairs);
+    let suffixes = lens.iter().zip(values);
+    for ((suffix, backend), stair) in suffixes.zip(backends).zip(stairs).take(n) {
+        print::bytes(rt, b" ");
+        print::suffix(rt, *suffix.0, *suffix.1);
+        print::bytes(rt, b">");
+        print::number(rt, *backend as u64);
+        print::bytes(rt, b":");
+        print::number(rt, *stair);
     }
 }
 
@@ -54,11 +42,6 @@ fn expand(rt: &impl Print, h: Header, text: &[u8]) {
     let n = walk::fields(first);
     writes::read_cells(first, n, &mut ids);
     let m = walk::numbers(second, &mut weights);
-    expand_backends(rt, h, &ids, n, walk::first_numbers(&weights, m));
-}
-
-// So many of the ids, and the weights.
-fn expand_backends(rt: &impl Print, h: Header, ids: &[usize; 8200], n: usize, weights: &[u64]) {
     let mut lens = [0usize; numerals::MOST_RULES];
     let mut values = [0usize; numerals::MOST_RULES];
     let mut backends = [0usize; numerals::MOST_RULES];
@@ -67,8 +50,8 @@ fn expand_backends(rt: &impl Print, h: Header, ids: &[usize; 8200], n: usize, we
         h.first as usize,
         h.second,
         h.third as usize,
-        walk::first_places(ids, n),
-        weights,
+        walk::start(&ids, n),
+        walk::start(&weights, m),
         0,
         &mut lens,
         &mut values,
@@ -76,17 +59,16 @@ fn expand_backends(rt: &impl Print, h: Header, ids: &[usize; 8200], n: usize, we
         &mut stairs,
     );
     match made {
-        Expanded::Made(list) => {
+        Ok(list) => {
             ending(rt, &list);
             show_rules(rt, list.rules, &lens, &values, &backends, &stairs);
         }
-        Expanded::Refused(why) => print::refused(rt, why),
+        Err(why) => print::refused(rt, why),
     }
 }
 
 pub fn answer(rt: &impl Print, h: Header, text: &[u8]) {
-    let kind = h.kind;
-    match kind {
+    match h.kind {
         b'E' => expand(rt, h, text),
         _ => print::bytes(rt, b"unknown vector"),
     }

@@ -1,6 +1,6 @@
 // The answers to vectors of the gauges: one reading of a backend, and the record of both.
 use crate::shown;
-use gauges::{Gauge, Gauges, GaugesAnswer, Reading, ReadingAnswer};
+use gauges::{Gauge, Gauges, Reading};
 use vectors::header::Header;
 use vectors::print;
 
@@ -29,15 +29,14 @@ fn show_reading(rt: &impl Print, r: Reading) {
 
 fn read(rt: &impl Print, h: Header, text: &[u8], gauge: Gauge) {
     match gauges::gauge_reading(text, h.first as usize, h.second, h.third as usize, gauge) {
-        ReadingAnswer::Read(r) => show_reading(rt, r),
-        ReadingAnswer::Refused(r) => shown::refused(rt, r),
+        Ok(r) => show_reading(rt, r),
+        Err(r) => shown::refused(rt, r),
     }
 }
 
 // One gauge: 1 is the share, 2 the load.
 fn reading(rt: &impl Print, h: Header, text: &[u8]) {
-    let which = h.fourth;
-    match which {
+    match h.fourth {
         1 => read(rt, h, text, Gauge::Share),
         2 => read(rt, h, text, Gauge::Load),
         _ => print::bytes(rt, b"unknown vector"),
@@ -52,14 +51,13 @@ fn show_gauges(rt: &impl Print, g: Gauges) {
 
 fn record(rt: &impl Print, h: Header, text: &[u8]) {
     match gauges::gauge_record(text, h.first as usize, h.second, h.third as usize) {
-        GaugesAnswer::Made(g) => show_gauges(rt, g),
-        GaugesAnswer::Refused(r) => shown::refused(rt, r),
+        Ok(g) => show_gauges(rt, g),
+        Err(r) => shown::refused(rt, r),
     }
 }
 
 pub fn answer(rt: &impl Print, h: Header, text: &[u8]) {
-    let kind = h.kind;
-    match kind {
+    match h.kind {
         b'R' => reading(rt, h, text),
         b'G' => record(rt, h, text),
         _ => print::bytes(rt, b"unknown vector"),

@@ -1,15 +1,15 @@
 // The answers to vectors of numbers, percentages, suffixes, places, lines and fields.
-use numerals::{Number, Refusal, SuffixRead, Written};
+use numerals::{Refusal, Suffix};
 use vectors::header::Header;
 use vectors::{print, walk};
 
-fn value(rt: &impl Print, read: Number) {
+fn value(rt: &impl Print, read: Option<u64>) {
     match read {
-        Number::Value(v) => {
+        Some(v) => {
             print::bytes(rt, b"value");
             print::field(rt, v);
         }
-        Number::Bad => print::bytes(rt, b"bad"),
+        None => print::bytes(rt, b"bad"),
     }
 }
 
@@ -23,13 +23,13 @@ fn refused(rt: &impl Print, why: Refusal) {
 }
 
 // What a writer answered, and the buffer afterwards.
-fn written(rt: &impl Print, answer: Written, buffer: &[u8]) {
+fn written(rt: &impl Print, answer: Result<usize, Refusal>, buffer: &[u8]) {
     match answer {
-        Written::End(end) => {
+        Ok(end) => {
             print::bytes(rt, b"end");
             print::field(rt, end as u64);
         }
-        Written::Refused(why) => refused(rt, why),
+        Err(why) => refused(rt, why),
     }
     print::bytes(rt, b" ");
     print::bytes(rt, buffer);
@@ -62,25 +62,25 @@ fn write_suffix(rt: &impl Print, h: Header) {
 
 fn read_suffix(rt: &impl Print, text: &[u8], k: usize) {
     match numerals::read_suffix(text, 0, text.len(), k) {
-        SuffixRead::Suffix { len, value } => {
+        Some(Suffix { len, value }) => {
             print::bytes(rt, b"suffix");
             print::field(rt, len as u64);
             print::field(rt, value as u64);
-            if let Number::Value(place) = numerals::suffix_place(len, value) {
+            if let Some(place) = numerals::suffix_place(len, value) {
                 print::field(rt, place);
             }
         }
-        SuffixRead::Bad => print::bytes(rt, b"bad"),
+        None => print::bytes(rt, b"bad"),
     }
 }
 
 fn place(rt: &impl Print, h: Header) {
     match numerals::suffix_place(h.first as usize, h.second as usize) {
-        Number::Value(place) => {
+        Some(place) => {
             print::bytes(rt, b"place");
             print::field(rt, place);
         }
-        Number::Bad => print::bytes(rt, b"bad"),
+        None => print::bytes(rt, b"bad"),
     }
 }
 
@@ -94,18 +94,14 @@ fn next_line_feed(rt: &impl Print, payload: &[u8], from: usize) {
     }
 }
 
-// Prints where a field starts and ends, and says where the next one starts.
-fn show_field(rt: &impl Print, line: &[u8], from: usize) -> usize {
-    print::field(rt, from as u64);
-    print::bytes(rt, b"-");
-    print::number(rt, numerals::find(line, from, line.len(), 32) as u64);
-    walk::after(line, from, 32)
-}
-
+// Where each field starts and ends.
 fn show_fields(rt: &impl Print, line: &[u8], count: usize) {
     let mut from = 0;
     for _ in 0..count {
-        from = show_field(rt, line, from);
+        print::field(rt, from as u64);
+        print::bytes(rt, b"-");
+        print::number(rt, numerals::find(line, from, line.len(), 32) as u64);
+        from = walk::after(line, from, 32);
     }
 }
 
@@ -117,8 +113,7 @@ fn fields(rt: &impl Print, line: &[u8]) {
 }
 
 pub fn answer(rt: &impl Print, h: Header, text: &[u8]) {
-    let kind = h.kind;
-    match kind {
+    match h.kind {
         b'N' => value(
             rt,
             numerals::read_number(text, 0, text.len(), h.first, h.second),

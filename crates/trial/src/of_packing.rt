@@ -1,39 +1,29 @@
 // The answers to vectors of the packing.
 use crate::{shown, writes};
 use numerals::Refusal;
-use packing::{Packed, Packing};
+use packing::{NotPacked, Packed};
 use vectors::header::Header;
 use vectors::{print, walk};
 
-fn show_grant(rt: &impl Print, i: usize, figures: &[usize; 240]) {
-    if i < 80 {
-        print::field(rt, figures[3 * i] as u64);
+// The grants of the first n services, each the first of three figures.
+fn show_grants(rt: &impl Print, n: usize, figures: &[usize]) {
+    for grant in figures.iter().step_by(3).take(n) {
+        print::field(rt, *grant as u64);
     }
 }
 
-fn show_grants(rt: &impl Print, n: usize, figures: &[usize; 240]) {
-    for i in 0..n {
-        show_grant(rt, i, figures);
-    }
-}
-
-// Line i of the table, `service suffix backend`, behind a comma but the first.
-fn show_line(rt: &impl Print, i: usize, table: &[usize; crate::shown::CELLS]) {
-    if 0 < i {
-        print::bytes(rt, b",");
-    }
-    if i < numerals::MOST_CAPACITY {
-        print::number(rt, table[4 * i] as u64);
+// The first n lines of the table, `service suffix backend`, each behind a comma but the first.
+fn show_lines(rt: &impl Print, n: usize, table: &[usize]) {
+    let (lines, _) = table.as_chunks::<4>();
+    for (i, line) in lines.iter().take(n).enumerate() {
+        if 0 < i {
+            print::bytes(rt, b",");
+        }
+        print::number(rt, line[0] as u64);
         print::bytes(rt, b" ");
-        print::suffix(rt, table[4 * i + 1], table[4 * i + 2]);
+        print::suffix(rt, line[1], line[2]);
         print::bytes(rt, b" ");
-        print::number(rt, table[4 * i + 3] as u64);
-    }
-}
-
-fn show_lines(rt: &impl Print, n: usize, table: &[usize; crate::shown::CELLS]) {
-    for i in 0..n {
-        show_line(rt, i, table);
+        print::number(rt, line[3] as u64);
     }
 }
 
@@ -84,16 +74,16 @@ fn pack_services(
         &mut table,
     );
     match packed {
-        Packing::Made(made) => show(rt, made, volumes.len(), &figures, &table),
-        Packing::Refused(why, buffer) => show_refusal(rt, why, buffer),
+        Ok(made) => show(rt, made, volumes.len(), &figures, &table),
+        Err(NotPacked { why, buffer }) => show_refusal(rt, why, buffer),
     }
 }
 
 fn read_sizes(line: &[u8], sizes: &mut [usize; 80]) -> usize {
     let mut row = [0u64; 80];
     let n = walk::numbers(line, &mut row);
-    for i in 0..80 {
-        sizes[i] = row[i] as usize;
+    for (size, number) in sizes.iter_mut().zip(&row) {
+        *size = *number as usize;
     }
     n
 }
@@ -106,41 +96,16 @@ fn pack_rows(rt: &impl Print, h: Header, text: &[u8]) {
     let third = walk::after(text, second, 10);
     let n = walk::numbers(walk::part(text, 0, 10), &mut volumes);
     let m = read_sizes(walk::part(text, second, 10), &mut sizes);
-    pack_sized(
+    pack_backends(
         rt,
         h,
-        walk::first_numbers(&volumes, n),
-        &sizes,
-        m,
+        walk::start(&volumes, n),
+        walk::start(&sizes, m),
         walk::rest(text, third),
     );
 }
 
-// So many of the sizes, and the last two of the rows.
-fn pack_sized(
-    rt: &impl Print,
-    h: Header,
-    volumes: &[u64],
-    sizes: &[usize; 80],
-    m: usize,
-    text: &[u8],
-) {
-    pack_backends(rt, h, volumes, walk::first_places(sizes, m), text);
-}
-
-// So many of the ids, and the weights.
-fn pack_named(
-    rt: &impl Print,
-    h: Header,
-    volumes: &[u64],
-    sizes: &[usize],
-    ids: &[usize; 8200],
-    n: usize,
-    weights: &[u64],
-) {
-    pack_services(rt, h, volumes, sizes, walk::first_places(ids, n), weights);
-}
-
+// The last two of the rows.
 fn pack_backends(rt: &impl Print, h: Header, volumes: &[u64], sizes: &[usize], text: &[u8]) {
     let mut ids = [0usize; 8200];
     let mut weights = [0u64; 4096];
@@ -149,20 +114,18 @@ fn pack_backends(rt: &impl Print, h: Header, volumes: &[u64], sizes: &[usize], t
     let n = walk::fields(first);
     writes::read_cells(first, n, &mut ids);
     let m = walk::numbers(second, &mut weights);
-    pack_named(
+    pack_services(
         rt,
         h,
         volumes,
         sizes,
-        &ids,
-        n,
-        walk::first_numbers(&weights, m),
+        walk::start(&ids, n),
+        walk::start(&weights, m),
     );
 }
 
 pub fn answer(rt: &impl Print, h: Header, text: &[u8]) {
-    let kind = h.kind;
-    match kind {
+    match h.kind {
         b'Q' => pack_rows(rt, h, text),
         _ => print::bytes(rt, b"unknown vector"),
     }

@@ -1,13 +1,13 @@
 // The answers to vectors of the sheets: the call that prints, the table of a rule sheet, lookup, churn and shares.
 use crate::{counts, plans, shown, writes};
-use sheets::{Answer, TableRead, TableRecord};
+use sheets::TableRecord;
 use vectors::header::Header;
 use vectors::{print, walk};
 
 fn split_into(rt: &impl Print, text: &[u8], out: &mut [u8]) {
     match sheets::split_sheet(text, out) {
-        Answer::Value(n) => shown::sheet(rt, walk::start(out, n)),
-        Answer::Refused(r) => shown::refused(rt, r),
+        Ok(n) => shown::sheet(rt, walk::start(out, n)),
+        Err(r) => shown::refused(rt, r),
     }
 }
 
@@ -17,30 +17,6 @@ fn split(rt: &impl Print, text: &[u8], room: usize) {
     if room <= numerals::TEXT_LIMIT {
         split_into(rt, text, &mut array[0..room]);
     }
-}
-
-fn same_at(a: &[u8], b: &[u8], i: usize) -> bool {
-    if a.len() <= i {
-        return false;
-    }
-    if b.len() <= i {
-        return false;
-    }
-    a[i] == b[i]
-}
-
-// Whether two texts are the same.
-fn same(a: &[u8], b: &[u8]) -> bool {
-    let n = a.len();
-    if n != b.len() {
-        return false;
-    }
-    for i in 0..n {
-        if !same_at(a, b, i) {
-            return false;
-        }
-    }
-    true
 }
 
 fn written(rt: &impl Print, back: bool) {
@@ -65,18 +41,18 @@ fn write_back(
         written(rt, false);
         return;
     }
-    let cells = walk::first_places(table, 4 * n);
+    let cells = walk::start(table, 4 * n);
     match sheets::write_table(read.k, read.total, cells, space) {
-        Answer::Value(end) => written(rt, same(walk::start(space, end), text)),
-        Answer::Refused(_) => written(rt, false),
+        Ok(end) => written(rt, walk::start(space, end) == text),
+        Err(_) => written(rt, false),
     }
 }
 
 fn read(rt: &impl Print, text: &[u8]) {
     let mut table = [0usize; crate::shown::CELLS];
     match sheets::read_table(text, &mut table) {
-        TableRead::Made(made) => write_back(rt, text, made, &table),
-        TableRead::Refused(r) => shown::refused(rt, r),
+        Ok(made) => write_back(rt, text, made, &table),
+        Err(r) => shown::refused(rt, r),
     }
 }
 
@@ -86,11 +62,11 @@ fn lookup(rt: &impl Print, h: Header, text: &[u8]) {
         return;
     }
     match sheets::lookup(text, h.first as usize, address as u32) {
-        Answer::Value(b) => {
+        Ok(b) => {
             print::bytes(rt, b"backend");
             print::field(rt, b as u64);
         }
-        Answer::Refused(r) => shown::refused(rt, r),
+        Err(r) => shown::refused(rt, r),
     }
 }
 
@@ -101,11 +77,11 @@ fn churn(rt: &impl Print, h: Header, text: &[u8]) {
         walk::rest(text, cut),
         h.first as usize,
     ) {
-        Answer::Value(n) => {
+        Ok(n) => {
             print::bytes(rt, b"churn");
             print::field(rt, n as u64);
         }
-        Answer::Refused(r) => {
+        Err(r) => {
             shown::refused(rt, r);
             print::field(rt, r.of as u64);
         }
@@ -113,8 +89,7 @@ fn churn(rt: &impl Print, h: Header, text: &[u8]) {
 }
 
 pub fn answer(rt: &impl Print, h: Header, text: &[u8]) {
-    let kind = h.kind;
-    match kind {
+    match h.kind {
         b'R' => split(rt, text, numerals::TEXT_LIMIT),
         b'B' => split(rt, text, h.first as usize),
         b'U' => read(rt, text),

@@ -1,6 +1,6 @@
 // The answers to vectors of a change in stages, with the whole lent buffer afterwards.
 use crate::shown;
-use sheets::Answer;
+use sheets::Refused;
 use vectors::header::Header;
 use vectors::{print, walk};
 
@@ -9,13 +9,13 @@ const SHOWN: usize = 60;
 
 const SHOWN_TEXT: usize = 300;
 
-fn show_answer(rt: &impl Print, answer: Answer) {
+fn show_answer(rt: &impl Print, answer: Result<usize, Refused>) {
     match answer {
-        Answer::Value(n) => {
+        Ok(n) => {
             print::bytes(rt, b"made");
             print::field(rt, n as u64);
         }
-        Answer::Refused(r) => {
+        Err(r) => {
             shown::refused(rt, r);
             print::field(rt, r.of as u64);
         }
@@ -29,75 +29,37 @@ struct Sums {
     total: u64,
 }
 
-fn add(sums: Sums, number: u64) -> Sums {
-    let tail = std::num::wrapping_add_u64(sums.tail, number);
-    Sums {
-        tail,
-        total: std::num::wrapping_add_u64(sums.total, tail),
-    }
-}
-
-fn add_place(sums: Sums, row: &[usize], i: usize) -> Sums {
-    if i < row.len() {
-        return add(sums, row[i] as u64);
-    }
-    sums
-}
-
 // The last number first.
-fn row_sum(row: &[usize]) -> u64 {
-    let n = row.len();
+fn sum<T, F: Fn(&T) -> u64>(row: &[T], number: F) -> u64
+    requires { F.IsAlwaysCallable number }
+{
     let mut sums = Sums { tail: 0, total: 0 };
-    for i in 0..n {
-        sums = add_place(
-            sums,
-            row,
-            std::num::wrapping_sub_usize(n, std::num::wrapping_add_usize(i, 1)),
-        );
-    }
-    sums.total
-}
-
-fn add_byte(sums: Sums, text: &[u8], i: usize) -> Sums {
-    if i < text.len() {
-        return add(sums, text[i] as u64);
-    }
-    sums
-}
-
-// The same of a text's bytes.
-fn text_sum(text: &[u8]) -> u64 {
-    let n = text.len();
-    let mut sums = Sums { tail: 0, total: 0 };
-    for i in 0..n {
-        sums = add_byte(
-            sums,
-            text,
-            std::num::wrapping_sub_usize(n, std::num::wrapping_add_usize(i, 1)),
-        );
+    for x in row.iter().rev() {
+        sums.tail = sums.tail.wrapping_add(number(x));
+        sums.total = sums.total.wrapping_add(sums.tail);
     }
     sums.total
 }
 
 fn show_row(rt: &impl Print, row: &[usize; 4100], room: usize) {
-    let lent = walk::first_places(row, std::num::wrapping_add_usize(room, 4));
+    let lent = walk::start(row, room.wrapping_add(4));
     if room <= SHOWN {
         print::bytes(rt, b" row");
         shown::places(rt, lent);
     } else {
         print::bytes(rt, b" sum");
-        print::field(rt, row_sum(lent));
+        print::field(rt, sum(lent, |place| *place as u64));
     }
 }
 
 fn show_text(rt: &impl Print, out: &[u8; 65540], room: usize) {
-    let lent = walk::start(out, std::num::wrapping_add_usize(room, 4));
+    let lent = walk::start(out, room.wrapping_add(4));
     if room <= SHOWN_TEXT {
         print::bytes(rt, b" ");
         shown::sheet(rt, lent);
     } else {
         print::bytes(rt, b" sum");
-        print::field(rt, text_sum(lent));
+        print::field(rt, sum(lent, |byte| *byte as u64));
     }
 }
 
@@ -156,8 +118,7 @@ fn lend_text(rt: &impl Print, h: Header, numbers: &[u8], text: &[u8]) {
 pub fn answer(rt: &impl Print, h: Header, text: &[u8]) {
     let numbers = walk::part(text, 0, 10);
     let sheets = walk::rest(text, walk::after(text, 0, 10));
-    let kind = h.kind;
-    match kind {
+    match h.kind {
         b'P' => lend_row(rt, h, numbers, sheets),
         b'L' => lend_text(rt, h, numbers, sheets),
         _ => print::bytes(rt, b"unknown vector"),

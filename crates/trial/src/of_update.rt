@@ -1,6 +1,6 @@
 // The answers to vectors of new weights on a loaded table, with the whole lent buffer afterwards.
 use crate::{shown, writes};
-use update::{SheetUpdated, Update, Updated};
+use update::Update;
 use vectors::header::Header;
 use vectors::{print, walk};
 
@@ -13,7 +13,7 @@ fn show_update(rt: &impl Print, u: Update) {
 
 fn show_buffer(rt: &impl Print, rules: &[usize; 104], n: usize) {
     print::bytes(rt, b" rules");
-    shown::places(rt, walk::first_places(rules, n));
+    shown::places(rt, walk::start(rules, n));
 }
 
 fn update_list(
@@ -25,31 +25,23 @@ fn update_list(
     rules: &mut [usize],
 ) {
     match update::update(h.first as usize, h.second, old, ids, weights, rules) {
-        Updated::Made(u) => {
+        Ok(u) => {
             print::bytes(rt, b"made");
             show_update(rt, u);
         }
-        Updated::Refused(why) => print::refused(rt, why),
+        Err(why) => print::refused(rt, why),
     }
 }
 
 // Lends a buffer of so many places, filled with a number that nothing in the list of a vector is. Four places behind it
 // are not lent, and shown too.
-fn lend_list(
-    rt: &impl Print,
-    h: Header,
-    old: &[usize],
-    ids: &[usize; 8200],
-    n: usize,
-    weights: &[u64],
-) {
+fn lend_list(rt: &impl Print, h: Header, old: &[usize], ids: &[usize], weights: &[u64]) {
     let mut rules = [77777usize; 104];
     let room = h.third as usize;
     if 100 < room {
         return;
     }
-    let named = walk::first_places(ids, n);
-    update_list(rt, h, old, named, weights, &mut rules[0..room]);
+    update_list(rt, h, old, ids, weights, &mut rules[0..room]);
     show_buffer(rt, &rules, room + 4);
 }
 
@@ -59,14 +51,11 @@ fn update_rows(rt: &impl Print, h: Header, text: &[u8]) {
     let first = walk::part(text, 0, 10);
     let n = walk::fields(first);
     writes::read_cells(first, n, &mut cells);
-    update_listed(rt, h, &cells, n, walk::rest(text, walk::after(text, 0, 10)));
+    let text = walk::rest(text, walk::after(text, 0, 10));
+    update_backends(rt, h, walk::start(&cells, n), text);
 }
 
-// So many numbers of the old list, and the last two of the rows.
-fn update_listed(rt: &impl Print, h: Header, old: &[usize; 8200], n: usize, text: &[u8]) {
-    update_backends(rt, h, walk::first_places(old, n), text);
-}
-
+// The last two of the rows.
 fn update_backends(rt: &impl Print, h: Header, old: &[usize], text: &[u8]) {
     let mut ids = [0usize; 8200];
     let mut weights = [0u64; 64];
@@ -75,7 +64,7 @@ fn update_backends(rt: &impl Print, h: Header, old: &[usize], text: &[u8]) {
     let n = walk::fields(first);
     writes::read_cells(first, n, &mut ids);
     let m = walk::numbers(second, &mut weights);
-    lend_list(rt, h, old, &ids, n, walk::first_numbers(&weights, m));
+    lend_list(rt, h, old, walk::start(&ids, n), walk::start(&weights, m));
 }
 
 fn update_sheets(rt: &impl Print, h: Header, text: &[u8], rules: &mut [usize]) {
@@ -83,12 +72,12 @@ fn update_sheets(rt: &impl Print, h: Header, text: &[u8], rules: &mut [usize]) {
     let old = walk::start(text, cut);
     let sheet = walk::rest(text, cut);
     match update::update_sheets(old, sheet, h.first as usize, rules) {
-        SheetUpdated::Made(u) => {
+        Ok(u) => {
             print::bytes(rt, b"made");
             print::field(rt, u.k as u64);
             show_update(rt, u);
         }
-        SheetUpdated::Refused(r) => {
+        Err(r) => {
             shown::refused(rt, r);
             print::field(rt, r.of as u64);
         }
@@ -107,8 +96,7 @@ fn update_texts(rt: &impl Print, h: Header, text: &[u8]) {
 }
 
 pub fn answer(rt: &impl Print, h: Header, text: &[u8]) {
-    let kind = h.kind;
-    match kind {
+    match h.kind {
         b'L' => update_rows(rt, h, text),
         b'T' => update_texts(rt, h, text),
         _ => print::bytes(rt, b"unknown vector"),

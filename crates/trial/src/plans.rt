@@ -1,6 +1,6 @@
 // The answers to vectors of the one call, with the whole of both lent buffers afterwards.
 use crate::shown;
-use sheets::{Plan, Planned, Refused};
+use sheets::{Plan, Refused};
 use vectors::header::Header;
 use vectors::{print, walk};
 
@@ -25,8 +25,8 @@ fn show_refusal(rt: &impl Print, r: Refused) {
 
 fn plan_into(rt: &impl Print, text: &[u8], figures: &mut [usize], table: &mut [usize]) {
     match sheets::plan(text, figures, table) {
-        Planned::Made(p) => made(rt, p),
-        Planned::Refused(r) => show_refusal(rt, r),
+        Ok(p) => made(rt, p),
+        Err(r) => show_refusal(rt, r),
     }
 }
 
@@ -38,9 +38,9 @@ fn show_buffers(
     m: usize,
 ) {
     print::bytes(rt, b" figures");
-    shown::places(rt, walk::first_places(figures, n));
+    shown::places(rt, walk::start(figures, n));
     print::bytes(rt, b" table");
-    shown::places(rt, walk::first_places(table, m));
+    shown::places(rt, walk::start(table, m));
 }
 
 // Lends buffers of so many places, filled with a number that no figure and no cell can be. Four places behind each are

@@ -8,15 +8,14 @@ pub const CELLS: usize = 4 * numerals::MOST_CAPACITY;
 
 // The refusal of a sheet: its number and its line.
 pub fn refused(rt: &impl Print, r: Refused) {
-    let why = r.why;
     print::bytes(rt, b"REFUSED");
-    print::field(rt, numerals::refusal_number(why));
+    print::field(rt, u64::from(r.why));
     print::field(rt, r.line as u64);
 }
 
 // A refusal that names a lent buffer, as only 7 does.
 pub fn short(rt: &impl Print, why: Refusal, buffer: &[u8]) {
-    if numerals::refusal_number(why) == 7 {
+    if why == Refusal::ShortLoan {
         print::bytes(rt, b"short ");
         print::bytes(rt, buffer);
     } else {
@@ -40,16 +39,9 @@ pub fn sheet(rt: &impl Print, text: &[u8]) {
     print::bytes(rt, walk::rest(text, from));
 }
 
-fn place(rt: &impl Print, row: &[usize], i: usize) {
-    if i < row.len() {
-        print::field(rt, row[i] as u64);
-    }
-}
-
 // Each place of a row, behind a space.
 pub fn places(rt: &impl Print, row: &[usize]) {
-    let n = row.len();
-    for i in 0..n {
-        place(rt, row, i);
+    for place in row {
+        print::field(rt, *place as u64);
     }
 }

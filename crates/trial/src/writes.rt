@@ -1,32 +1,24 @@
 // The answers to vectors of tables that are handed in numbers, with the whole lent buffer afterwards.
 use crate::shown;
-use sheets::Answer;
 use vectors::header::Header;
 use vectors::{print, walk};
-
-// Stores the number in the field that starts at a position, and says where the next field starts.
-fn read_cell(text: &[u8], from: usize, cells: &mut [usize; 8200], i: usize) -> usize {
-    if i < 8200 {
-        cells[i] = walk::number(text, from) as usize;
-    }
-    walk::after(text, from, 32)
-}
 
 // The numbers in the n fields of a text.
 pub fn read_cells(text: &[u8], n: usize, cells: &mut [usize; 8200]) {
     let mut from = 0;
-    for i in 0..n {
-        from = read_cell(text, from, cells, i);
+    for cell in cells.iter_mut().take(n) {
+        *cell = walk::number(text, from) as usize;
+        from = walk::after(text, from, 32);
     }
 }
 
 fn write_into(rt: &impl Print, k: usize, total: u64, cells: &[usize], out: &mut [u8]) {
     match sheets::write_table(k, total, cells, out) {
-        Answer::Value(end) => {
+        Ok(end) => {
             print::bytes(rt, b"end");
             print::field(rt, end as u64);
         }
-        Answer::Refused(r) => shown::refused(rt, r),
+        Err(r) => shown::refused(rt, r),
     }
 }
 
@@ -42,7 +34,7 @@ fn write_cells(rt: &impl Print, h: Header, cells: &[usize; 8200], n: usize) {
     if numerals::TEXT_LIMIT < room {
         return;
     }
-    let numbers = walk::first_places(cells, n);
+    let numbers = walk::start(cells, n);
     write_into(rt, h.first as usize, h.second, numbers, &mut out[0..room]);
     show_buffer(rt, &out, room + 4);
 }

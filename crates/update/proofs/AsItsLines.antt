@@ -1,4 +1,5 @@
 -- A list of rules in numbers is refused with the number with which its lines would be, as lines of one service behind no others.
+use Rattle.std.specs.Prelude.{Err, Ok, Result}
 use Prim.Native.Nat.{ℕ, suc, ◌≤◌, ◌<◌}
 use mathlib.Core.Bool.{Bool, true, false, true≢false}
 use mathlib.Core.List.{List, [], ◌∷◌}
@@ -14,18 +15,17 @@ use Rattle.numerals.proofs.Searches.{true-both}
 use Rattle.expansion.specs.Answer.{and_then, or_else}
 use Rattle.expansion.specs.OldList.{rules_from, is_proper, check_rules, check_list}
 use Rattle.expansion.specs.declared.rule.Rule.{Rule}
-use Rattle.expansion.specs.declared.call.Checked.{Checked}
-use Rattle.expansion.specs.declared.call.Checked.TheVariants.{Sound as Passed, Refused as Failed}
 use Rattle.packing.specs.Count.{Line, own_rules}
 use Rattle.sheets.specs.Reading.{Reading, got, refused, then, unless}
 use Rattle.sheets.specs.RuleSheet.{count_of, in_order, placed, closed, is_line, check_lines, check_end}
 use Rattle.sheets.proofs.Following.{count_same}
 use Rattle.sheets.proofs.TableChecks.{is_within_lem, formed}
+use Rattle.numerals.specs.declared.refusal.Refusal.{Refusal}
 
 -- the answer of a check as that of a reading
-abbrev pub reading : Checked → Reading (Unit {0})
-reading Passed = got tt
-reading (Failed why) = refused why 0
+abbrev pub reading : Result (Unit {0}) Refusal → Reading (Unit {0})
+reading (Ok tt) = got tt
+reading (Err why) = refused why 0
 
 -- each rule as a line of service s
 unfoldable pub lines_as : ℕ → List Rule → List Line
@@ -50,7 +50,7 @@ count_none s = refl
 
 -- the three tests of a line and of a rule; the order is looked at only where the form passed
 tests :
-    (form few sorted order : Bool) (ls : Reading (List Line)) (end : List Line → Reading (Unit {0})) (rest : Checked)
+    (form few sorted order : Bool) (ls : Reading (List Line)) (end : List Line → Reading (Unit {0})) (rest : (Result (Unit {0}) Refusal))
     → (form ≡ true → sorted ≡ order) → then ls end ≡ reading rest
     → then (unless form no2 0 (unless few no4 0 (unless sorted no9 0 ls))) end
     ≡ reading (and_then (or_else form no2) (and_then (or_else few no4) (and_then (or_else order no9) rest)))

@@ -1,4 +1,5 @@
 -- The two sheets of an update, read: the ways in which that may go, in the order of the refusals, and what each call answers then.
+use Rattle.std.specs.Prelude.{Err, Ok, Result}
 use Prim.Native.Nat.{ℕ, ◌-◌, ◌*◌, ◌≤◌}
 use mathlib.Core.Bool.{Bool, true, false}
 use mathlib.Core.List.{List}
@@ -22,35 +23,22 @@ use Rattle.sheets.specs.Calls.{has_service, values_of, afterwards}
 use Rattle.sheets.specs.Update as reads
 use Rattle.sheets.specs.declared.answer.Refused.{Refused as Why}
 use Rattle.sheets.specs.declared.answer.UpdateRecord.{UpdateRecord}
-use Rattle.sheets.specs.declared.answer.UpdateRead.TheVariants as read
 use Rattle.sheets.proofs.OneCall.{take-sets}
 use Rattle.sheets.proofs.Readings.{got_same}
 use Rattle.sheets.proofs.UpdateLimits.{old-few, ids-few, weights-few}
 use Rattle.sheets.proofs.SheetLimits.{Row, limits}
+use Rattle.numerals.proofs.Exits.{same_ok, same_err, not_both}
 use Rattle.update.specs.Update.{update_answer, is_made}
 use Rattle.update.specs.Promise.{PromisedFor}
 use Rattle.update.specs.Sheets.{of_updated, sheets_in, sheets_answer, sheets_numbers, PromisedBoth}
 use Rattle.update.specs.Sheets.{is_made as is_made_text}
 use Rattle.update.specs.declared.answer.Update as update
-use Rattle.update.specs.declared.answer.Updated.{Updated}
-use Rattle.update.specs.declared.answer.Updated.TheVariants as updated
-use Rattle.update.specs.declared.answer.SheetUpdated.{SheetUpdated}
-use Rattle.update.specs.declared.answer.SheetUpdated.TheVariants.{Made, Refused}
-
--- no answer is of two cases
-not-read : {m : UpdateRecord} {r : Why} {P : Type 0} → read.Made m ≡ read.Refused r → P
-not-read e = absurd (let z : ◌≡◌ {A = ℕ} 0 1 = cc in omega arith)
-
-same-refusal : {a b : Why} → read.Refused a ≡ read.Refused b → a ≡ b
-same-refusal e = cc
-
-same-record : {a b : UpdateRecord} → read.Made a ≡ read.Made b → a ≡ b
-same-record e = cc
+use Rattle.update.specs.declared.answer.Update.{Update}
 
 -- a list was made in the one as in the other
-made_alike : (u : Updated) → is_made u ≡ is_made_text (of_updated u)
-made_alike (updated.Made x) = refl
-made_alike (updated.Refused why) = refl
+made_alike : (u : (Result Update Refusal)) → is_made u ≡ is_made_text (of_updated u)
+made_alike (Ok x) = refl
+made_alike (Err why) = refl
 
 -- the ids and the weights of a service of a sheet that was read
 pub new_row : (text : List ℕ) (S : Sheet) (n : ℕ) → read_sheet text ≡ got S → reads.has_weights S n ≡ true → Row (reads.new_ids S n) (reads.new_weights S n)
@@ -112,7 +100,7 @@ module _ (old new : List ℕ) (n : ℕ) where
   found t S =
       record { k = t.k; tolerance = S.tolerance; rules = length (reads.old_rules t n); backends = length (reads.new_weights S n) }
 
-  met-read : (t : Table) (S : Sheet) → Both t S → reads.update_read_answer old new n list_room most_backends most_backends ≡ read.Made (found t S)
+  met-read : (t : Table) (S : Sheet) → Both t S → reads.update_read_answer old new n list_room most_backends most_backends ≡ Ok (found t S)
   unfolding reads.update_read_answer reads.update_in
   met-read t S B =
       simp (
@@ -127,25 +115,25 @@ module _ (old new : List ℕ) (n : ℕ) where
       )
 
   -- a refusal of what is read is the answer itself
-  pub both-refused : (room : ℕ) (r : Why) → reads.update_read_answer old new n list_room most_backends most_backends ≡ read.Refused r
-      → sheets_answer old new n room ≡ Refused r
+  pub both-refused : (room : ℕ) (r : Why) → reads.update_read_answer old new n list_room most_backends most_backends ≡ Err r
+      → sheets_answer old new n room ≡ Err r
   unfolding reads.update_read_answer reads.update_in sheets_answer sheets_in
   both-refused room r e = go way
     where
-      go : Way → sheets_answer old new n room ≡ Refused r
-      go (first why line a) = rw a (ap Refused (same-refusal (rw a at e)))
-      go (second t why line a b) = rw (a, b) (ap Refused (same-refusal (rw (a, b) at e)))
-      go (no_lines t S a b h) = rw (a, b, h) (ap Refused (same-refusal (rw (a, b, h) at e)))
-      go (no-weights t S a b h w) = rw (a, b, h, w) (ap Refused (same-refusal (rw (a, b, h, w) at e)))
-      go (unlike t S a b h w d) = rw (a, b, h, w, d) (ap Refused (same-refusal (rw (a, b, h, w, d) at e)))
-      go (met t S B) = not-read (sym (met-read t S B) ∙ e)
+      go : Way → sheets_answer old new n room ≡ Err r
+      go (first why line a) = rw a (ap Err (same_err (rw a at e)))
+      go (second t why line a b) = rw (a, b) (ap Err (same_err (rw (a, b) at e)))
+      go (no_lines t S a b h) = rw (a, b, h) (ap Err (same_err (rw (a, b, h) at e)))
+      go (no-weights t S a b h w) = rw (a, b, h, w) (ap Err (same_err (rw (a, b, h, w) at e)))
+      go (unlike t S a b h w d) = rw (a, b, h, w, d) (ap Err (same_err (rw (a, b, h, w, d) at e)))
+      go (met t S B) = not_both (sym (met-read t S B) ∙ e)
 
   -- then there is nothing to promise
-  pub none-promised : (r : Why) (u : SheetUpdated) (numbers : List ℕ) → reads.update_read_answer old new n list_room most_backends most_backends ≡
-      read.Refused r
+  pub none-promised : (r : Why) (u : (Result Update Why)) (numbers : List ℕ) → reads.update_read_answer old new n list_room most_backends most_backends ≡
+      Err r
       → PromisedBoth old new n u numbers
   none-promised r u numbers e t S a b h w d =
-      not-read (sym (met-read t S (record { table = a; sheet = b; service = h; weights = w; depth = d })) ∙ e)
+      not_both (sym (met-read t S (record { table = a; sheet = b; service = h; weights = w; depth = d })) ∙ e)
 
   -- what was read is from both
   pub record Met (m : UpdateRecord) : Type 0 where
@@ -154,17 +142,17 @@ module _ (old new : List ℕ) (n : ℕ) where
     pub both : Both table sheet
     pub is : m ≡ found table sheet
 
-  pub both-made : (m : UpdateRecord) → reads.update_read_answer old new n list_room most_backends most_backends ≡ read.Made m → Met m
+  pub both-made : (m : UpdateRecord) → reads.update_read_answer old new n list_room most_backends most_backends ≡ Ok m → Met m
   unfolding reads.update_read_answer reads.update_in
   both-made m e = go way
     where
       go : Way → Met m
-      go (first why line a) = not-read (sym (rw a at e))
-      go (second t why line a b) = not-read (sym (rw (a, b) at e))
-      go (no_lines t S a b h) = not-read (sym (rw (a, b, h) at e))
-      go (no-weights t S a b h w) = not-read (sym (rw (a, b, h, w) at e))
-      go (unlike t S a b h w d) = not-read (sym (rw (a, b, h, w, d) at e))
-      go (met t S B) = record { table = t; sheet = S; both = B; is = same-record (sym e ∙ met-read t S B) }
+      go (first why line a) = not_both (sym (rw a at e))
+      go (second t why line a b) = not_both (sym (rw (a, b) at e))
+      go (no_lines t S a b h) = not_both (sym (rw (a, b, h) at e))
+      go (no-weights t S a b h w) = not_both (sym (rw (a, b, h, w) at e))
+      go (unlike t S a b h w d) = not_both (sym (rw (a, b, h, w, d) at e))
+      go (met t S B) = record { table = t; sheet = S; both = B; is = same_ok (sym e ∙ met-read t S B) }
 
   -- an update that was made is of both
   pub record SheetsMade : Type 0 where
@@ -172,11 +160,11 @@ module _ (old new : List ℕ) (n : ℕ) where
     pub sheet : Sheet
     pub both : Both table sheet
 
-  pub sheets-made : (room : ℕ) (u : update.Update) → sheets_answer old new n room ≡ Made u → SheetsMade
+  pub sheets-made : (room : ℕ) (u : update.Update) → sheets_answer old new n room ≡ Ok u → SheetsMade
   unfolding sheets_answer sheets_in
   sheets-made room u e = go way
     where
-      none : {r : Why} {P : Type 0} → Refused r ≡ Made u → P
+      none : {r : Why} {P : Type 0} → Err r ≡ Ok u → P
       none q = absurd (let z : ◌≡◌ {A = ℕ} 0 1 = cc in omega arith)
 
       go : Way → SheetsMade
@@ -225,7 +213,7 @@ module _ (old new : List ℕ) (n : ℕ) where
     weights-read row row' long e =
         ap (take (length ws)) (rw B.sheet at e) ∙ take-sets row ws (omega (arith, weights-few new S n B.sheet))
 
-    pub promised-both : (u : Updated) (numbers : List ℕ) → PromisedFor t.k S.tolerance ids ws cs u numbers → PromisedBoth old new n (of_updated u) numbers
+    pub promised-both : (u : (Result Update Refusal)) (numbers : List ℕ) → PromisedFor t.k S.tolerance ids ws cs u numbers → PromisedBoth old new n (of_updated u) numbers
     promised-both u numbers P t' S' a b h w d =
         let T = got_same (sym B.table ∙ a) in
         let U = got_same (sym B.sheet ∙ b) in (
@@ -279,9 +267,9 @@ module _ (old new : List ℕ) (n : ℕ) where
     pub few-backends : m.backends ≤ most_backends
     few-backends = omega (arith, ap (λ (x : UpdateRecord). x.backends) X.is, weights-few new S n X.both.sheet)
 
-    module _ (room : ℕ) (u : Updated)
+    module _ (room : ℕ) (u : (Result Update Refusal))
         (answer : u ≡ update_answer m.k m.tolerance (take m.backends names') (take m.backends row') (take (3 * m.rules) list') room)
-        (v : SheetUpdated) (as-text : v ≡ of_updated u) where
+        (v : (Result Update Why)) (as-text : v ≡ of_updated u) where
       pub text-answer : v ≡ sheets_answer old new n room
       text-answer =
           as-text
@@ -301,5 +289,5 @@ module _ (old new : List ℕ) (n : ℕ) where
           → PromisedFor m.k m.tolerance (take m.backends names') (take m.backends row') (take (3 * m.rules) list') u numbers
           → PromisedBoth old new n v numbers
       text-promised numbers P =
-          subst (λ (x : SheetUpdated). PromisedBoth old new n x numbers) (sym as-text)
+          subst (λ (x : (Result Update Why)). PromisedBoth old new n x numbers) (sym as-text)
           (promised-both t S X.both u numbers (carried (λ k w ids ws cs. PromisedFor k w ids ws cs u numbers) P))

@@ -7,7 +7,8 @@ use Rattle.numerals.specs.Sums.{list_to, sum_to, count_to, all_to, first_to, lar
 use Rattle.expansion.specs.FirstMatch.{is_rule, matches, first_match, gives, share, differing, churn}
 use Rattle.expansion.specs.Imbalance.{backends, label, weight, has, wants, excess, shortfall, imbalance, giver, receiver}
 use Rattle.expansion.specs.Imbalance.{largest_excess, largest_shortfall}
-use Rattle.expansion.specs.Steps.{is_within, reduction, reduction_at, term, is_no_gain, is_whole, term_length, lowest_place, new_rule, step, after, list_of, oldest}
+use Rattle.expansion.specs.Steps.{is_within, reduction, reduction_at, term, is_no_gain, is_whole, term_length, lowest_place, new_rule, step, after}
+use Rattle.expansion.specs.Steps.{list_of, oldest}
 use Rattle.expansion.specs.Answer.{in_limits, id_before, is_backend, check_weights}
 use Rattle.expansion.specs.Known.{include, known_ids, weight_of, targets_known}
 use Rattle.expansion.specs.OldList.{rules_from, numbers_of, is_proper, check_rules, check_list}

@@ -1,4 +1,5 @@
 -- The list of an update that was made on two texts, in numbers: whole rules, no more than a service may have, each of a suffix's form.
+use Rattle.std.specs.Prelude.{Err, Ok, Result}
 use Prim.Native.Nat.{ℕ, ◌*◌, ◌≤◌, ◌<◌}
 use mathlib.Core.Bool.{true}
 use mathlib.Core.List.{List}
@@ -23,23 +24,22 @@ use Rattle.sheets.specs.Update.{new_ids, new_weights, old_rules}
 use Rattle.update.specs.Update.{update_answer}
 use Rattle.update.specs.Sheets.{of_updated, sheets_answer, sheets_numbers}
 use Rattle.update.specs.declared.answer.Update as update
-use Rattle.update.specs.declared.answer.Updated.{Updated}
-use Rattle.update.specs.declared.answer.Updated.TheVariants as updated
-use Rattle.update.specs.declared.answer.SheetUpdated.TheVariants.{Made}
 use Rattle.update.proofs.BothSheets.{sheets-made, answer-is, numbers-are}
 use Rattle.update.proofs.UpdateForm.{Making, making}
+use Rattle.update.specs.declared.answer.Update.{Update}
+use Rattle.numerals.specs.declared.refusal.Refusal.{Refusal}
 
 pub record Listed (cs : List ℕ) (n : ℕ) : Type 0 where
   pub long : length cs ≡ 3 * n
   pub few : n ≤ most_rules
   pub each : (i : ℕ) → i < n → is_rule most_bits (rule_at cs i) ≡ true
 
-made_of : (x : Updated) (u : update.Update) → of_updated x ≡ Made u → x ≡ updated.Made u
-made_of (updated.Made v) u e = ap updated.Made cc
-made_of (updated.Refused why) u e = absurd (let z : ◌≡◌ {A = ℕ} 0 1 = cc in omega arith)
+made_of : (x : (Result Update Refusal)) (u : update.Update) → of_updated x ≡ Ok u → x ≡ Ok u
+made_of (Ok v) u e = ap Ok cc
+made_of (Err why) u e = absurd (let z : ◌≡◌ {A = ℕ} 0 1 = cc in omega arith)
 
 -- of the call without a text
-module _ (k tolerance : ℕ) (ids ws cs : List ℕ) (room : ℕ) (u : update.Update) (made : update_answer k tolerance ids ws cs room ≡ updated.Made u) where
+module _ (k tolerance : ℕ) (ids ws cs : List ℕ) (room : ℕ) (u : update.Update) (made : update_answer k tolerance ids ws cs room ≡ Ok u) where
   abbrev R : List Rule
   R = rules_from cs
 
@@ -87,7 +87,7 @@ module _ (k tolerance : ℕ) (ids ws cs : List ℕ) (room : ℕ) (u : update.Upd
       }
 
 -- on two texts
-pub made-listed : (old sheet : List ℕ) (n room : ℕ) (u : update.Update) → sheets_answer old sheet n room ≡ Made u
+pub made-listed : (old sheet : List ℕ) (n room : ℕ) (u : update.Update) → sheets_answer old sheet n room ≡ Ok u
     → Listed (sheets_numbers old sheet n) u.rules
 unfolding numbers_resumed
 made-listed old sheet n room u e =

@@ -1,5 +1,6 @@
 -- What the requests ask of an answer follows from its definition: of the r that end within it has the lowest churn and is the largest at equal churn, and
 -- where none does, no r does. Their words leave one r and one list.
+use Rattle.std.specs.Prelude.{Err, Ok, Result}
 use Prim.Native.Nat.{ℕ, zero, suc, ◌≤◌, ◌<◌}
 use mathlib.Core.Bool.{Bool, true, false}
 use mathlib.Core.List.{List}
@@ -20,19 +21,14 @@ use Rattle.expansion.specs.Known.{targets_known}
 use Rattle.expansion.specs.OldList.{rules_from, numbers_of}
 use Rattle.expansion.specs.Resume.{frame_kept, list_kept, ends_within, churn_kept, kept_of, list_resumed, check_old, numbers_resumed}
 use Rattle.expansion.specs.declared.rule.Rule.{Rule}
-use Rattle.expansion.specs.declared.call.Checked.{Checked}
-use Rattle.expansion.specs.declared.call.Checked.TheVariants.{Sound as Passed, Refused as Failed}
 use Rattle.expansion.proofs.KeptLists.{ended-within, within-ended, ended-other, early, kept-few}
 use Rattle.expansion.proofs.Lowest.{LowestAbove, lowest-found}
 use Rattle.sheets.proofs.OneCall.{take-sets}
+use Rattle.numerals.proofs.Exits.{same_ok, same_err, not_both}
 use Rattle.update.specs.Update.{update_answer, is_made}
 use Rattle.update.specs.Promise.{Ends, Least, Kept, Stuck, PromisedFor}
-use Rattle.update.specs.declared.answer.Updated.{Updated}
-use Rattle.update.specs.declared.answer.Updated.TheVariants.{Made, Refused}
-use Rattle.update.proofs.UpdateForm.{not-both, same-made, record_updated, update-failed, update-stuck, update_found}
-
-why-same : {a b : Refusal} → Refused a ≡ Refused b → a ≡ b
-why-same e = cc
+use Rattle.update.proofs.UpdateForm.{record_updated, update-failed, update-stuck, update_found}
+use Rattle.update.specs.declared.answer.Update.{Update}
 
 seven-thirteen : {P : Type 0} → no7 ≡ no13 → P
 seven-thirteen e = absurd (let z : ◌≡◌ {A = ℕ} 0 1 = cc in omega arith)
@@ -100,7 +96,7 @@ module _ (k tolerance : ℕ) (ids ws cs out : List ℕ) where
       let E = ends_found l in
       absurd (S.none kept E.some E.inside (ap (end_of (frame_kept T tolerance R kept)) (sym E.list) ∙ E.within))
 
-  kept-found : check_old k tolerance cs ids ws ≡ Passed → 0 < kept → Kept T tolerance R new (record_updated T tolerance R)
+  kept-found : check_old k tolerance cs ids ws ≡ Ok tt → 0 < kept → Kept T tolerance R new (record_updated T tolerance R)
   unfolding list_resumed churn_kept
   kept-found passed l =
       let least = least-found l in
@@ -112,91 +108,91 @@ module _ (k tolerance : ℕ) (ids ws cs out : List ℕ) where
         counted = refl;
       }
 
-  module _ (r : Updated) (out' : List ℕ) (answer : r ≡ update_answer k tolerance ids ws cs (length out))
+  module _ (r : (Result Update Refusal)) (out' : List ℕ) (answer : r ≡ update_answer k tolerance ids ws cs (length out))
       (buffer : out' ≡ filled (is_made r) out 0 (numbers_resumed k tolerance ids ws cs)) where
-    at-found : check_old k tolerance cs ids ws ≡ Passed → 0 < kept
-        → r ≡ pick (leb (length (numbers_of new)) (length out)) (Made (record_updated T tolerance R)) (Refused no7)
+    at-found : check_old k tolerance cs ids ws ≡ Ok tt → 0 < kept
+        → r ≡ pick (leb (length (numbers_of new)) (length out)) (Ok (record_updated T tolerance R)) (Err no7)
     at-found passed some = answer ∙ update_found k tolerance ids ws cs (length out) passed some
 
-    when-refused : (why : Refusal) → check_old k tolerance cs ids ws ≡ Failed why → PromisedFor k tolerance ids ws cs r out'
+    when-refused : (why : Refusal) → check_old k tolerance cs ids ws ≡ Err why → PromisedFor k tolerance ids ws cs r out'
     when-refused why e =
-        let is : r ≡ Refused why = answer ∙ update-failed k tolerance ids ws cs (length out) why e in
+        let is : r ≡ Err why = answer ∙ update-failed k tolerance ids ws cs (length out) why e in
         let late = early k tolerance cs ids ws why e in
         record {
-          made = λ u q. not-both (sym is ∙ q);
-          stuck = λ q. absurd (late.1 (why-same (sym is ∙ q)));
+          made = λ u q. not_both (sym q ∙ is);
+          stuck = λ q. absurd (late.1 (same_err (sym is ∙ q)));
           only = λ passed S. absurd (let z : ◌≡◌ {A = ℕ} 0 1 = clash-checks (sym passed ∙ e) in omega arith);
-          short = λ q. absurd (late.0 (why-same (sym is ∙ q)));
+          short = λ q. absurd (late.0 (same_err (sym is ∙ q)));
           other = λ passed w q d. absurd (let z : ◌≡◌ {A = ℕ} 0 1 = clash-checks (sym passed ∙ e) in omega arith);
         }
       where
-        clash-checks : {w : Refusal} → Passed ≡ Failed w → ◌≡◌ {A = ℕ} 0 1
+        clash-checks : {w : Refusal} → ◌≡◌ {A = Result (Unit {0}) Refusal} (Ok tt) (Err w) → ◌≡◌ {A = ℕ} 0 1
         clash-checks q = cc
 
-    when-stuck : check_old k tolerance cs ids ws ≡ Passed → kept ≡ 0 → PromisedFor k tolerance ids ws cs r out'
+    when-stuck : check_old k tolerance cs ids ws ≡ Ok tt → kept ≡ 0 → PromisedFor k tolerance ids ws cs r out'
     when-stuck passed none =
-        let is : r ≡ Refused no13 = answer ∙ update-stuck k tolerance ids ws cs (length out) passed none in
+        let is : r ≡ Err no13 = answer ∙ update-stuck k tolerance ids ws cs (length out) passed none in
         record {
-          made = λ u q. not-both (sym is ∙ q);
+          made = λ u q. not_both (sym q ∙ is);
           stuck = λ q. (passed, stuck-all none);
           only = λ p S. is;
-          short = λ q. seven-thirteen (sym (why-same (sym is ∙ q)));
-          other = λ p w q d. absurd (d (why-same (sym q ∙ is)));
+          short = λ q. seven-thirteen (sym (same_err (sym is ∙ q)));
+          other = λ p w q d. absurd (d (same_err (sym q ∙ is)));
         }
 
-    when-short : check_old k tolerance cs ids ws ≡ Passed → 0 < kept → leb (length (numbers_of new)) (length out) ≡ false
+    when-short : check_old k tolerance cs ids ws ≡ Ok tt → 0 < kept → leb (length (numbers_of new)) (length out) ≡ false
         → PromisedFor k tolerance ids ws cs r out'
     when-short passed some no_room =
-        let is : r ≡ Refused no7 =
-        at-found passed some ∙ ap (λ (t : Bool). pick t (Made (record_updated T tolerance R)) (Refused no7)) no_room in
-        let same : out' ≡ out = buffer ∙ ap (λ (x : Updated). filled (is_made x) out 0 (numbers_resumed k tolerance ids ws cs)) is in
+        let is : r ≡ Err no7 =
+        at-found passed some ∙ ap (λ (t : Bool). pick t (Ok (record_updated T tolerance R)) (Err no7)) no_room in
+        let same : out' ≡ out = buffer ∙ ap (λ (x : (Result Update Refusal)). filled (is_made x) out 0 (numbers_resumed k tolerance ids ws cs)) is in
         record {
-          made = λ u q. not-both (sym is ∙ q);
-          stuck = λ q. seven-thirteen (why-same (sym is ∙ q));
+          made = λ u q. not_both (sym q ∙ is);
+          stuck = λ q. seven-thirteen (same_err (sym is ∙ q));
           only = λ p S. not_stuck some S;
           short = λ q.
               (passed, (kept, new, least-found some, omega (arith, ap length same, leb-false (length (numbers_of new)) (length out) no_room)));
-          other = λ p w q d. why-same (sym q ∙ is);
+          other = λ p w q d. same_err (sym q ∙ is);
         }
 
-    when-made : check_old k tolerance cs ids ws ≡ Passed → 0 < kept → leb (length (numbers_of new)) (length out) ≡ true
+    when-made : check_old k tolerance cs ids ws ≡ Ok tt → 0 < kept → leb (length (numbers_of new)) (length out) ≡ true
         → PromisedFor k tolerance ids ws cs r out'
     unfolding numbers_resumed
     when-made passed some room =
-        let is : r ≡ Made (record_updated T tolerance R) =
-        at-found passed some ∙ ap (λ (t : Bool). pick t (Made (record_updated T tolerance R)) (Refused no7)) room in
+        let is : r ≡ Ok (record_updated T tolerance R) =
+        at-found passed some ∙ ap (λ (t : Bool). pick t (Ok (record_updated T tolerance R)) (Err no7)) room in
         let written : out' ≡ sets out 0 (numbers_of new) =
-        buffer ∙ ap (λ (x : Updated). filled (is_made x) out 0 (numbers_resumed k tolerance ids ws cs)) is in
+        buffer ∙ ap (λ (x : (Result Update Refusal)). filled (is_made x) out 0 (numbers_resumed k tolerance ids ws cs)) is in
         record {
           made = λ u q. (
             passed,
             (
               new,
-              subst (Kept T tolerance R new) (same-made (sym is ∙ q)) (kept-found passed some),
+              subst (Kept T tolerance R new) (same_ok (sym is ∙ q)) (kept-found passed some),
               ap (take (length (numbers_of new))) written ∙ take-sets out (numbers_of new) (leb-true (length (numbers_of new)) (length out) room),
             ),
           );
-          stuck = λ q. not-both (sym q ∙ is);
+          stuck = λ q. not_both (sym is ∙ q);
           only = λ p S. not_stuck some S;
-          short = λ q. not-both (sym q ∙ is);
-          other = λ p w q d. not-both (sym q ∙ is);
+          short = λ q. not_both (sym is ∙ q);
+          other = λ p w q d. not_both (sym is ∙ q);
         }
 
     pub promised : PromisedFor k tolerance ids ws cs r out'
     promised = by-checks (check_old k tolerance cs ids ws) refl
       where
-        by-room : check_old k tolerance cs ids ws ≡ Passed → 0 < kept → (t : Bool) → leb (length (numbers_of new)) (length out) ≡ t
+        by-room : check_old k tolerance cs ids ws ≡ Ok tt → 0 < kept → (t : Bool) → leb (length (numbers_of new)) (length out) ≡ t
             → PromisedFor k tolerance ids ws cs r out'
         by-room passed some true e = when-made passed some e
         by-room passed some false e = when-short passed some e
 
-        by-kept : check_old k tolerance cs ids ws ≡ Passed → (n : ℕ) → kept ≡ n → PromisedFor k tolerance ids ws cs r out'
+        by-kept : check_old k tolerance cs ids ws ≡ Ok tt → (n : ℕ) → kept ≡ n → PromisedFor k tolerance ids ws cs r out'
         by-kept passed zero e = when-stuck passed e
         by-kept passed (suc n) e = by-room passed (omega arith) (leb (length (numbers_of new)) (length out)) refl
 
-        by-checks : (c : Checked) → check_old k tolerance cs ids ws ≡ c → PromisedFor k tolerance ids ws cs r out'
-        by-checks Passed e = by-kept e kept refl
-        by-checks (Failed why) e = when-refused why e
+        by-checks : (c : (Result (Unit {0}) Refusal)) → check_old k tolerance cs ids ws ≡ c → PromisedFor k tolerance ids ws cs r out'
+        by-checks (Ok tt) e = by-kept e kept refl
+        by-checks (Err why) e = when-refused why e
 
 -- two that have the least disturbance are one: two operators load the same table
 pub one-least : (T : Targets) (tolerance : ℕ) (old : List Rule) (r s : ℕ) (new other : List Rule) → Least T tolerance old r new

@@ -1,5 +1,6 @@
 -- What two accepted sheets hand to the update passes its checks: the lines of a service as an old list, and its ids and weights. Nothing is left to refuse
 -- but that no r ends within.
+use Rattle.std.specs.Prelude.{Ok}
 use Prim.Native.Nat.{ℕ, suc, ◌≤◌, ◌<◌}
 use mathlib.Core.Bool.{true}
 use mathlib.Core.List.{List, [], ◌∷◌, reverse_aux}
@@ -16,7 +17,6 @@ use Rattle.expansion.specs.Answer.{in_limits, check_weights}
 use Rattle.expansion.specs.OldList.{numbers_of, is_proper, check_rules, check_list}
 use Rattle.expansion.specs.Resume.{check_old}
 use Rattle.expansion.specs.declared.rule.Rule.{Rule}
-use Rattle.expansion.specs.declared.call.Checked.TheVariants.{Sound as Passed}
 use Rattle.expansion.proofs.OldNumbers.{numbers-count}
 use Rattle.packing.specs.Count.{Line, own_rules}
 use Rattle.sheets.specs.Reading.{got}
@@ -84,13 +84,13 @@ one_passes k m last r rs a b c =
     simp (fields, b, c)
 
 -- and the end, behind a `*`
-end-passes : (k m last : ℕ) (rs : List Rule) → rs ≡ [] → eqb last 0 ≡ true → check_rules k m last (numbers_of rs) ≡ Passed
+end-passes : (k m last : ℕ) (rs : List Rule) → rs ≡ [] → eqb last 0 ≡ true → check_rules k m last (numbers_of rs) ≡ Ok tt
 unfolding check_rules numbers_of
 end-passes k m last rs e z = rw (e, z)
 
 -- the lines of service n behind p, which is its line number m
 rules-behind : (k n m : ℕ) (p : Line) (before ls : List Line) → p.service ≡ n → count_of n (p ∷ before) ≡ m → InOrder k (p ∷ before) ls
-    → closed (reverse_aux ls (p ∷ before)) ≡ true → check_rules k m p.rule.len (numbers_of (own_rules n ls)) ≡ Passed
+    → closed (reverse_aux ls (p ∷ before)) ≡ true → check_rules k m p.rule.len (numbers_of (own_rules n ls)) ≡ Ok tt
 unfolding InOrder closed
 rules-behind k n m p before [] own count h end = end-passes k m p.rule.len (own_rules n []) (own-none n) end
 rules-behind k n m p before (l ∷ ls) own count h end =
@@ -110,7 +110,7 @@ rules-behind k n m p before (l ∷ ls) own count h end =
 
 -- the lines of service n behind lines of others
 rules-from : (k n : ℕ) (before ls : List Line) → 1 ≤ k → count_of n before ≡ 0 → InOrder k before ls → closed (reverse_aux ls before) ≡ true
-    → 0 < count_of n ls → check_rules k 0 k (numbers_of (own_rules n ls)) ≡ Passed
+    → 0 < count_of n ls → check_rules k 0 k (numbers_of (own_rules n ls)) ≡ Ok tt
 unfolding InOrder
 rules-from k n before [] some none h end c = absurd (omega (arith, count_none n))
 rules-from k n before (l ∷ ls) some none h end c =
@@ -126,7 +126,7 @@ rules-from k n before (l ∷ ls) some none h end c =
     ∙ rules-from k n (l ∷ before) ls some (count-other n l before d ∙ none) h.1 end (omega (arith, count-other n l ls d)))
 
 pub rules-pass : (text : List ℕ) (t : Table) (n : ℕ) → read_table text ≡ got t → has_service t n ≡ true
-    → check_list t.k (numbers_of (old_rules t n)) ≡ Passed
+    → check_list t.k (numbers_of (old_rules t n)) ≡ Ok tt
 unfolding check_list has_service old_rules
 rules-pass text t n e h =
     let P = read-proper text t e in
@@ -135,12 +135,12 @@ rules-pass text t n e h =
     (rules-from t.k n [] t.lines P.bits (count_none n) P.sorted P.ends some)
 
 pub weights-pass : (text : List ℕ) (S : Sheet) (n : ℕ) → read_sheet text ≡ got S → has_weights S n ≡ true
-    → check_weights (new_ids S n) (new_weights S n) ≡ Passed
+    → check_weights (new_ids S n) (new_weights S n) ≡ Ok tt
 weights-pass text S n e h = row-passes (new_row text S n e h)
 
 -- of two sheets that have the service under one k nothing is refused: no rule is held against the weights
 pub both-pass : (old sheet : List ℕ) (n : ℕ) (t : Table) (S : Sheet) → Both old sheet n t S
-    → check_old t.k S.tolerance (numbers_of (old_rules t n)) (new_ids S n) (new_weights S n) ≡ Passed
+    → check_old t.k S.tolerance (numbers_of (old_rules t n)) (new_ids S n) (new_weights S n) ≡ Ok tt
 unfolding check_old
 both-pass old sheet n t S B =
     let P = read-proper old t B.table in

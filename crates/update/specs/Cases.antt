@@ -1,6 +1,6 @@
 -- Worked cases of the update (document 02, Req 03 to 05): P1's list of document 01 ("Figures to try"), in numbers, under other weights; a list that is
 -- stuck; a tie between a backend that is missing from the new weights and one that isn't; and lists on which several r end within.
-use Rattle.std.specs.Prelude.{ℕ, suc, List, [], ◌∷◌, ◌≡◌, length}
+use Rattle.std.specs.Prelude.{ℕ, suc, List, [], ◌∷◌, ◌≡◌, length, Err, Ok}
 use Rattle.numerals.specs.Pick.{pick}
 use Rattle.numerals.specs.Refusals.{no7, no13}
 use Rattle.numerals.specs.Sums.{list_to}
@@ -9,7 +9,6 @@ use Rattle.expansion.specs.OldList.{rules_from}
 use Rattle.expansion.specs.Resume.{ends_within, churn_kept, numbers_resumed}
 use Rattle.update.specs.Update.{update_answer}
 use Rattle.update.specs.declared.answer.Update as update
-use Rattle.update.specs.declared.answer.Updated.TheVariants.{Made, Refused}
 
 -- `*00100` and `*000` to 1, `*0` to 2, `*` to 3
 abbrev pub thirds : List ℕ
@@ -24,7 +23,7 @@ pub record Case : Type 0 where
   pub new : List ℕ
 
 pub record Shows (c : Case) : Type 0 where
-  pub answer : update_answer 5 c.tolerance c.ids c.weights thirds 12 ≡ Made c.update
+  pub answer : update_answer 5 c.tolerance c.ids c.weights thirds 12 ≡ Ok c.update
   pub new : numbers_resumed 5 c.tolerance c.ids c.weights thirds ≡ c.new
 
 abbrev three : List ℕ
@@ -98,7 +97,7 @@ replaced =
 
 -- `*` alone to 1, k 1, new weights 1:50 2:50: one rule can't halve the tree
 abbrev pub Halted : Type 0
-Halted = update_answer 1 0 (1 ∷ 2 ∷ []) (50000000 ∷ 50000000 ∷ []) (0 ∷ 0 ∷ 1 ∷ []) 3 ≡ Refused no13
+Halted = update_answer 1 0 (1 ∷ 2 ∷ []) (50000000 ∷ 50000000 ∷ []) (0 ∷ 0 ∷ 1 ∷ []) 3 ≡ Err no13
 
 -- k 2, `*11` twice and `*1` to 1, `*` to 3
 abbrev pub tied_old : List ℕ
@@ -106,7 +105,7 @@ tied_old = 2 ∷ 3 ∷ 1 ∷ 2 ∷ 3 ∷ 1 ∷ 1 ∷ 1 ∷ 1 ∷ 0 ∷ 0 ∷ 3 �
 
 -- new weights 2:100 3:0: after two kept rules 1, which is missing, and 3 have the same excess, and the lower id gives first
 pub record Tied : Type 0 where
-  pub answer : update_answer 2 0 (2 ∷ 3 ∷ []) (100000000 ∷ 0 ∷ []) tied_old 12 ≡ Made (record { k = 2; kept = 2; rules = 4; churn = 4 })
+  pub answer : update_answer 2 0 (2 ∷ 3 ∷ []) (100000000 ∷ 0 ∷ []) tied_old 12 ≡ Ok (record { k = 2; kept = 2; rules = 4; churn = 4 })
   pub new :
       numbers_resumed 2 0 (2 ∷ 3 ∷ []) (100000000 ∷ 0 ∷ []) tied_old
       ≡ 1 ∷ 0 ∷ 2 ∷ 1 ∷ 1 ∷ 2 ∷ 1 ∷ 1 ∷ 1 ∷ 0 ∷ 0 ∷ 3 ∷ []
@@ -129,7 +128,7 @@ pub record Chooses (c : Choice) : Type 0 where
   pub churns :
       let R = rules_from c.old in
       list_to (length R) (λ i. churn_kept (targets_known 2 R c.ids c.weights) c.tolerance R (suc i)) ≡ c.churns
-  pub answer : update_answer 2 c.tolerance c.ids c.weights c.old 12 ≡ Made c.update
+  pub answer : update_answer 2 c.tolerance c.ids c.weights c.old 12 ≡ Ok c.update
   pub new : numbers_resumed 2 c.tolerance c.ids c.weights c.old ≡ c.new
 
 -- `*00` to 3, `*0` to 2, `*` to 1; new weights 20 30 50, tolerance 25: two rules would do, but `*` alone moves less
@@ -190,4 +189,4 @@ longer_list =
 
 -- where it doesn't fit, the answer is 7, though the list of one kept rule needs only 6 numbers
 abbrev pub TooLong : Type 0
-TooLong = update_answer 2 0 longer_list.ids longer_list.weights longer_list.old 11 ≡ Refused no7
+TooLong = update_answer 2 0 longer_list.ids longer_list.weights longer_list.old 11 ≡ Err no7

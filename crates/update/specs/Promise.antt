@@ -1,5 +1,5 @@
 -- What Req 03 and 05 of document 02 ask of an answer, in their words.
-use Rattle.std.specs.Prelude.{ℕ, ◌≤◌, ◌<◌, ◌≡◌, List, ◌≢◌, length, take}
+use Rattle.std.specs.Prelude.{ℕ, ◌≤◌, ◌<◌, ◌≡◌, List, ◌≢◌, length, take, Err, Ok, Result}
 use Rattle.numerals.specs.Refusals.{no7, no13}
 use Rattle.numerals.specs.declared.refusal.Refusal.{Refusal}
 use Rattle.expansion.specs.FirstMatch.{churn}
@@ -10,10 +10,8 @@ use Rattle.expansion.specs.Known.{targets_known}
 use Rattle.expansion.specs.Resume.{frame_kept, list_kept, check_old}
 use Rattle.expansion.specs.declared.rule.Rule.{Rule}
 use Rattle.expansion.specs.declared.rule.Ended.TheVariants.{Within}
-use Rattle.expansion.specs.declared.call.Checked.TheVariants.{Sound}
 use Rattle.update.specs.declared.answer.Update as update
-use Rattle.update.specs.declared.answer.Updated.{Updated}
-use Rattle.update.specs.declared.answer.Updated.TheVariants.{Made, Refused}
+use Rattle.update.specs.declared.answer.Update.{Update}
 
 -- r is from 1 to all and ends within tolerance, and this is the list that it comes to
 pub record Ends (T : Targets) (tolerance : ℕ) (old : List Rule) (r : ℕ) (new : List Rule) : Type 0 where
@@ -42,18 +40,18 @@ pub record Stuck (T : Targets) (tolerance : ℕ) (old : List Rule) : Type 0 wher
 
 -- The answer r keeps to it, `numbers` being the lent buffer afterwards. Where the checks passed, and only there: what was made is such an update, its list at
 -- the buffer's start; 13 is answered if and only if no r ends within; 7 only where the list of that r doesn't fit; and nothing else.
-pub record Promised (T : Targets) (tolerance : ℕ) (old : List Rule) (passed : Type 0) (r : Updated) (numbers : List ℕ) : Type 0 where
+pub record Promised (T : Targets) (tolerance : ℕ) (old : List Rule) (passed : Type 0) (r : Result Update Refusal) (numbers : List ℕ) : Type 0 where
   pub made :
-      (u : update.Update) → r ≡ Made u
+      (u : update.Update) → r ≡ Ok u
       → passed × ((new : List Rule) × Kept T tolerance old new u × (take (length (numbers_of new)) numbers ≡ numbers_of new))
-  pub stuck : r ≡ Refused no13 → passed × Stuck T tolerance old
-  pub only : passed → Stuck T tolerance old → r ≡ Refused no13
+  pub stuck : r ≡ Err no13 → passed × Stuck T tolerance old
+  pub only : passed → Stuck T tolerance old → r ≡ Err no13
   pub short :
-      r ≡ Refused no7
+      r ≡ Err no7
       → passed × ((kept : ℕ) × (new : List Rule) × Least T tolerance old kept new × (length numbers < length (numbers_of new)))
-  pub other : passed → (why : Refusal) → r ≡ Refused why → why ≢ no13 → why ≡ no7
+  pub other : passed → (why : Refusal) → r ≡ Err why → why ≢ no13 → why ≡ no7
 
 -- of the call without a text
-abbrev pub PromisedFor : ℕ → ℕ → List ℕ → List ℕ → List ℕ → Updated → List ℕ → Type 0
+abbrev pub PromisedFor : ℕ → ℕ → List ℕ → List ℕ → List ℕ → Result Update Refusal → List ℕ → Type 0
 PromisedFor k tolerance ids ws old r numbers =
-    Promised (targets_known k (rules_from old) ids ws) tolerance (rules_from old) (check_old k tolerance old ids ws ≡ Sound) r numbers
+    Promised (targets_known k (rules_from old) ids ws) tolerance (rules_from old) (check_old k tolerance old ids ws ≡ Ok tt) r numbers

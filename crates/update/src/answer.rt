@@ -1,6 +1,4 @@
 // What the calls answer.
-use numerals::Refusal;
-use sheets::Refused;
 
 // An update: k, how many of the oldest rules were kept, how many rules the new list has, and how many of the 2^k suffixes
 // have another backend than before.
@@ -10,16 +8,4 @@ pub struct Update {
     pub kept: usize,
     pub rules: usize,
     pub churn: usize,
-}
-
-#[derive(Drop)]
-pub enum Updated {
-    Made(Update),
-    Refused(Refusal),
-}
-
-#[derive(Drop)]
-pub enum SheetUpdated {
-    Made(Update),
-    Refused(Refused),
 }

@@ -5,6 +5,6 @@ mod answer;
 mod texts;
 mod updating;
 
-pub use answer::{SheetUpdated, Update, Updated};
+pub use answer::Update;
 pub use texts::update_sheets;
 pub use updating::update;

@@ -1,4 +1,5 @@
 -- The numbers in the fields of a text, stored one after the other.
+use Rattle.std.specs.Prelude.{Option, unwrap_or}
 use Prim.Native.Nat.{ℕ, zero, suc, ◌+◌, min, ◌≤◌, ◌<◌}
 use native.Mathlib.Nat.{zero-add}
 use native.Mathlib.Numerals.{add-one}
@@ -9,9 +10,8 @@ use lib.ListN.{length, get_or, set, length-map, get_or-map}
 use lib.Seq.{slice, take-length, paste, paste-zero, paste-suc, length-paste}
 use Rattle.numerals.specs.Text.{split}
 use Rattle.numerals.specs.Decimal.{no_leading_zero, is_numeral, number}
-use Rattle.numerals.specs.declared.digits.Number.{Number}
 use Rattle.vectors.specs.Parts.{behind, part, fields}
-use Rattle.vectors.specs.Numbers.{or_zero, numeral, numbers}
+use Rattle.vectors.specs.Numbers.{numeral, numbers}
 use Rattle.vectors.proofs.Parts.{Walked, walked_none, walked_next, walked-part}
 
 pub fields-none : (s : List ℕ) → length s ≡ 0 → length (fields s) ≡ 0
@@ -36,12 +36,12 @@ unfolding numbers
 count-numbers s = length-map (fields s) numeral
 
 -- a field that is read whole
-pub number_read : (f g : List ℕ) (r : Number) → f ≡ g → r ≡ number 0 18446744073709551615 (slice 0 (length f) f) → or_zero r ≡ numeral g
+pub number_read : (f g : List ℕ) (r : Option ℕ) → f ≡ g → r ≡ number 0 18446744073709551615 (slice 0 (length f) f) → unwrap_or r 0 ≡ numeral g
 unfolding numeral
 number_read f g r same is = rw (is, take-length f, same)
 
 number-here : (s : List ℕ) (i from : ℕ) → Walked 32 s i from → numeral (part 32 from s) ≡ get_or (numbers s) i 0
-unfolding numbers numeral or_zero number is_numeral no_leading_zero
+unfolding numbers numeral number is_numeral no_leading_zero
 number-here s i from w =
     ap numeral (walked-part 32 s i from w ∙ sym (field_at s i)) ∙ sym (get_or-map numeral (fields s) i [])
 

@@ -1,6 +1,6 @@
 // Parts of an answer, on standard output. A piece that can't be written is left out, and the answers are then not those awaited.
 use crate::walk;
-use numerals::{Refusal, Written};
+use numerals::Refusal;
 
 pub fn bytes(rt: &impl Print, s: &[u8]) {
     let _ = rt.write_all(s);
@@ -16,17 +16,10 @@ pub fn field(rt: &impl Print, n: u64) {
     number(rt, n);
 }
 
-fn element(rt: &impl Print, row: &[u64], i: usize) {
-    if i < row.len() {
-        field(rt, row[i]);
-    }
-}
-
 // Each number of a row, behind a space.
 pub fn fields(rt: &impl Print, row: &[u64]) {
-    let n = row.len();
-    for i in 0..n {
-        element(rt, row, i);
+    for n in row {
+        field(rt, *n);
     }
 }
 
@@ -35,13 +28,13 @@ pub fn suffix(rt: &impl Print, len: usize, value: usize) {
     let mut array = [0u8; 13];
     let text: &mut [u8] = &mut array;
     match numerals::write_suffix(text, 0, len, value) {
-        Written::End(end) => bytes(rt, walk::start(text, end)),
-        Written::Refused(why) => refused(rt, why),
+        Ok(end) => bytes(rt, walk::start(text, end)),
+        Err(why) => refused(rt, why),
     }
 }
 
 // The answer to numbers that are refused.
 pub fn refused(rt: &impl Print, why: Refusal) {
     bytes(rt, b"refused");
-    field(rt, numerals::refusal_number(why));
+    field(rt, u64::from(why));
 }

@@ -2,18 +2,15 @@
 // header line of fields, and a payload.
 ghost use Rattle.std.specs.Prelude.{◌≤◌, length};
 
-use numerals::Number;
 use std::io::Read;
 
 // The number that eight digits are. They are read behind a 1, since no number has leading zeros.
-fn body_length(head: &[u8; 8]) -> Number {
+fn body_length(head: &[u8; 8]) -> Option<u64> {
     let digits = [
         b'1', head[0], head[1], head[2], head[3], head[4], head[5], head[6], head[7],
     ];
-    match numerals::read_number(&digits, 0, 9, 0, u64::MAX) {
-        Number::Value(v) => Number::Value(v % 100000000),
-        Number::Bad => Number::Bad,
-    }
+    let v = numerals::read_number(&digits, 0, 9, 0, u64::MAX)?;
+    Some(v % 100000000)
 }
 
 // Fills a buffer, and says how many bytes it has, or 0 where the input ends before.
@@ -35,7 +32,7 @@ pub fn next(input: &mut impl Read, space: &mut [u8]) -> usize
     if input.read_exact(&mut head).is_err() {
         return 0;
     }
-    let Number::Value(length) = body_length(&head) else {
+    let Some(length) = body_length(&head) else {
         return 0;
     };
     let len = length as usize;

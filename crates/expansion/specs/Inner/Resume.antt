@@ -1,5 +1,5 @@
 -- What the search for a number of kept rules has found.
-use Rattle.std.specs.Prelude.{ℕ, ◌≤◌, ◌<◌, Bool, true, false, ◌≡◌, List}
+use Rattle.std.specs.Prelude.{ℕ, ◌≤◌, ◌<◌, Bool, true, false, ◌≡◌, List, Option, None, Some, IfSome, MatchOption, ltb}
 use Rattle.numerals.specs.Limits.{most_rules}
 use Rattle.expansion.specs.Imbalance.{Targets}
 use Rattle.expansion.specs.Steps.{Frame, is_within, list_of}
@@ -9,27 +9,36 @@ use Rattle.expansion.specs.Inner.Lists.{newest_first}
 use Rattle.expansion.specs.declared.rule.Rule.{Rule}
 use Rattle.expansion.specs.declared.resuming.Attempt.{Attempt}
 
--- an attempt is what its number of kept rules comes to, if that isn't 0: the list and the churn
+-- an attempt is what its number of kept rules, from 1 on, comes to: the list and the churn
 pub record Comes (T : Targets) (tolerance : ℕ) (old : List Rule) (a : Attempt) : Type 0 where
+  pub some : 0 < a.kept
   pub few : a.list.count ≤ most_rules
-  pub rules : 0 < a.kept → newest_first a.list.rules a.list.count ≡ list_kept T tolerance old a.kept
-  pub moved : 0 < a.kept → a.churn ≡ churn_kept T tolerance old a.kept
+  pub rules : newest_first a.list.rules a.list.count ≡ list_kept T tolerance old a.kept
+  pub moved : a.churn ≡ churn_kept T tolerance old a.kept
 
--- the attempt that is answered; 0 where no number of kept rules ends within
-pub record Found (T : Targets) (tolerance : ℕ) (old : List Rule) (best : Attempt) : Type 0 where
-  pub kept : best.kept ≡ kept_of T tolerance old
-  pub comes : Comes T tolerance old best
+-- the number of kept rules of an attempt, or 0 where there is none
+abbrev pub kept_in : Option Attempt → ℕ
+kept_in None = 0
+kept_in (Some a) = a.kept
 
--- the expansion from so many kept rules was tried: its number, its list and its churn from the old list where that ends within, and otherwise 0
-pub record Tried (F : Frame) (budget kept : ℕ) (old : List Rule) (tried : Attempt) : Type 0 where
-  pub few : tried.list.count ≤ most_rules
-  pub number : is_within F (list_of F budget) ≡ true → tried.kept ≡ kept
-  pub rules : is_within F (list_of F budget) ≡ true → newest_first tried.list.rules tried.list.count ≡ list_of F budget
-  pub moved : is_within F (list_of F budget) ≡ true → tried.churn ≡ churn F.targets.k old (list_of F budget)
-  pub other : is_within F (list_of F budget) ≡ false → tried.kept ≡ 0
+-- the attempt that is answered; none where no number of kept rules ends within
+pub record Found (T : Targets) (tolerance : ℕ) (old : List Rule) (best : Option Attempt) : Type 0 where
+  pub kept : kept_in best ≡ kept_of T tolerance old
+  pub comes : IfSome best (Comes T tolerance old)
 
--- whether so many kept rules with such a churn are better than the best of those that keep more: they end within, and none of these does or its churn
--- is higher
-pub record Judged (kept moved best lowest : ℕ) (better : Bool) : Type 0 where
-  pub yes : better ≡ true → (0 < kept) × (0 < best → moved < lowest)
-  pub no : better ≡ false → 0 < kept → (0 < best) × (lowest ≤ moved)
+-- the expansion from so many kept rules ended within: its number, its list and its churn from the old list
+pub record Ended (F : Frame) (budget kept : ℕ) (old : List Rule) (a : Attempt) : Type 0 where
+  pub within : is_within F (list_of F budget) ≡ true
+  pub few : a.list.count ≤ most_rules
+  pub number : a.kept ≡ kept
+  pub rules : newest_first a.list.rules a.list.count ≡ list_of F budget
+  pub moved : a.churn ≡ churn F.targets.k old (list_of F budget)
+
+-- the expansion from so many kept rules was tried: there is an attempt where it ends within
+abbrev pub Tried : Frame → ℕ → ℕ → List Rule → Option Attempt → Type 0
+Tried F budget kept old tried = MatchOption tried (is_within F (list_of F budget) ≡ false) (Ended F budget kept old)
+
+-- whether an attempt with such a churn is better than the best of those that keep more: there is none of these or its churn is higher
+abbrev pub is_lower : ℕ → Option Attempt → Bool
+is_lower churn None = true
+is_lower churn (Some best) = ltb churn best.churn

@@ -9,6 +9,6 @@ returns c =
     let made = c.gauge_record in
     let is = made.ensures.answer in
     record {
-      answer = c.of_record.ensures ∙ ap of_record is;
-      exact = record-called made.result _ _ _ _ _ c.of_record.ensures is;
+      answer = c.into.ensures ∙ ap of_record is;
+      exact = record-called made.result _ _ _ _ _ c.into.ensures is;
     }

@@ -4,4 +4,4 @@ use Rattle.gulmorzon.specs.Answers.{of_answer}
 use Rattle.gulmorzon.proofs.gulmorzon_lookup.Goals as goal
 
 pub returns : goal.returns
-returns c = c.of_answer.ensures ∙ ap of_answer c.lookup.ensures
+returns c = c.into.ensures ∙ ap of_answer c.lookup.ensures

@@ -9,7 +9,7 @@ pub returns : goal.returns
 returns c =
     let e = c.plan.ensures in
     record {
-      answer = c.of_planned.ensures ∙ ap of_planned e.answer;
+      answer = c.into.ensures ∙ ap of_planned e.answer;
       figures = lent _ _ (ap is_plan e.answer) e.figures;
       table = lent _ _ (ap is_plan e.answer) e.table;
     }

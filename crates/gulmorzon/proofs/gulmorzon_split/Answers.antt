@@ -10,8 +10,8 @@ pub returns : goal.returns
 returns c =
     let e = c.split_sheet.ensures in
     record {
-      answer = c.of_answer.ensures ∙ ap of_answer e.answer;
+      answer = c.into.ensures ∙ ap of_answer e.answer;
       buffer = lent _ _ (ap is_value e.answer) e.buffer;
-      demand = promised c.split_sheet.result _ _ _ c.of_answer.ensures e.demand;
+      demand = promised c.split_sheet.result _ _ _ c.into.ensures e.demand;
       four_places = rw (← e.answer) e.four_places;
     }

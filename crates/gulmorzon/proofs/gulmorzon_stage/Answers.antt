@@ -10,7 +10,7 @@ pub returns : goal.returns
 returns c =
     let e = c.stage_lines.ensures in
     record {
-      answer = c.of_answer.ensures ∙ ap of_answer e.answer;
+      answer = c.into.ensures ∙ ap of_answer e.answer;
       buffer = lent _ _ (ap is_value e.answer) e.buffer;
-      promise = promised-stage c.stage_lines.result _ _ _ _ _ _ _ c.of_answer.ensures e.promise;
+      promise = promised-stage c.stage_lines.result _ _ _ _ _ _ _ c.into.ensures e.promise;
     }

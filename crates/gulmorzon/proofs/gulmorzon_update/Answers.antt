@@ -10,7 +10,7 @@ pub returns : goal.returns
 returns c =
     let e = c.update_sheets.ensures in
     record {
-      answer = c.of_update.ensures ∙ ap of_update e.answer;
+      answer = c.into.ensures ∙ ap of_update e.answer;
       rules = lent-filled _ _ _ (ap is_made e.answer) e.rules;
       promise = promised-both _ _ _ _ e.answer e.promise;
     }

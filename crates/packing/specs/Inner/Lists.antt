@@ -1,9 +1,8 @@
 -- The lists of all services as the program stores them, and how that stands to the definitions. Service s has the places from stride * s on: the
 -- first is for no rule, the c-th after it for the c-th oldest rule.
-use Rattle.std.specs.Prelude.{ℕ, zero, suc, ◌+◌, ◌*◌, ◌≤◌, ◌<◌, min, ◌≡◌, List, [], ◌∷◌, reverse, length, get_or, take, drop}
+use Rattle.std.specs.Prelude.{ℕ, zero, suc, ◌+◌, ◌*◌, ◌≤◌, ◌<◌, min, ◌≡◌, List, [], ◌∷◌, reverse, length, get_or, take, drop, Ok}
 use Rattle.numerals.specs.Limits.{most_services, most_rules}
 use Rattle.expansion.specs.Answer.{check_call}
-use Rattle.expansion.specs.declared.call.Checked.TheVariants.{Sound as Passed}
 use Rattle.expansion.specs.Inner.Lists.{no_rule}
 use Rattle.expansion.specs.Steps.{Frame, end_of, stair}
 use Rattle.packing.specs.Grants.{Grants}
@@ -63,7 +62,7 @@ part sizes row s = take (get_or sizes s 0) (drop (start sizes s) row)
 pub record Sized (k tolerance : ℕ) (sizes ids ws : List ℕ) : Type 0 where
   pub few : length sizes ≤ most_services
   pub inside : (s : ℕ) → s < length sizes → start sizes s + get_or sizes s 0 ≤ min (length ids) (length ws)
-  pub sound : (s : ℕ) → s < length sizes → check_call k tolerance rule_budget (part sizes ids s) (part sizes ws s) ≡ Passed
+  pub sound : (s : ℕ) → s < length sizes → check_call k tolerance rule_budget (part sizes ids s) (part sizes ws s) ≡ Ok tt
 
 -- the grants of n services kept in a listing
 pub record Granted (n : ℕ) (g : Grants) (grants : List ℕ) : Type 0 where

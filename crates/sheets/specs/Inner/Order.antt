@@ -1,13 +1,12 @@
 -- What the program keeps of the lines of a rule sheet that it has passed, the last of them first: how that stands to the lines, and to a line behind them.
-use Rattle.std.specs.Prelude.{ℕ, suc, ◌+◌, ◌≤◌, ◌≡◌, List, [], ◌∷◌, length, get_or}
+use Rattle.std.specs.Prelude.{ℕ, suc, ◌+◌, ◌≤◌, ◌≡◌, List, [], ◌∷◌, length, get_or, Err, Ok, Result}
 use Rattle.numerals.specs.Limits.{most_services}
 use Rattle.packing.specs.Count.{Line}
 use Rattle.sheets.specs.Reading.{Reading, got, refused}
 use Rattle.sheets.specs.RuleSheet.{count_of, placed}
 use Rattle.sheets.specs.Inner.TableNumbers.{line}
 use Rattle.sheets.specs.declared.order.Last.{Last}
-use Rattle.sheets.specs.declared.order.Placed.{Placed}
-use Rattle.sheets.specs.declared.order.Placed.TheVariants.{Next, Refused}
+use Rattle.numerals.specs.declared.refusal.Refusal.{Refusal}
 
 -- how many lines there are, and the service and the suffix's length of the last
 unfoldable pub last_of : List Line → Last
@@ -25,10 +24,10 @@ unfoldable pub placing : List Line → Line → Reading (Unit {0})
 placing before l = placed before l 0 (got tt)
 
 -- what placing a line answers, and leaves
-abbrev pub PlacedAs : List Line → Line → Placed → List ℕ → Type 0
-PlacedAs before l (Next last) tally = (placing before l ≡ got tt) × Behind (l ∷ before) last tally
-PlacedAs before l (Refused why) tally = placing before l ≡ refused why 0
+abbrev pub PlacedAs : List Line → Line → Result Last Refusal → List ℕ → Type 0
+PlacedAs before l (Ok last) tally = (placing before l ≡ got tt) × Behind (l ∷ before) last tally
+PlacedAs before l (Err why) tally = placing before l ≡ refused why 0
 
 -- a line of this service and suffix length, behind any lines
-abbrev pub Placing : Last → ℕ → ℕ → List ℕ → Placed → List ℕ → Type 0
+abbrev pub Placing : Last → ℕ → ℕ → List ℕ → Result Last Refusal → List ℕ → Type 0
 Placing last s l tally r tally' = (before : List Line) (v b : ℕ) → Behind before last tally → PlacedAs before (line s l v b) r tally'

@@ -1,6 +1,6 @@
 -- What the reader of the percentage sheet answers and leaves in memory, by cases of its answers: a backend, the backends of a line, a line of a
 -- service, the whole sheet.
-use Rattle.std.specs.Prelude.{ℕ, ◌+◌, ◌*◌, ◌≤◌, ◌<◌, ◌≡◌, List, [], ◌∷◌, ◌++◌, leb, ltb, eqb, length, take, drop}
+use Rattle.std.specs.Prelude.{ℕ, ◌+◌, ◌*◌, ◌≤◌, ◌<◌, ◌≡◌, List, [], ◌∷◌, ◌++◌, leb, ltb, eqb, length, take, drop, Err, None, Ok, Option, Result, Some}
 use Rattle.numerals.specs.Pick.{pick}
 use Rattle.numerals.specs.Limits.{most_backends, most_id, most_services, unit, decimals}
 use Rattle.numerals.specs.Refusals.{no2, no3, no5, no6}
@@ -10,18 +10,12 @@ use Rattle.sheets.specs.Calls.{refused_at}
 use Rattle.sheets.specs.Inner.Fields.{lines_at}
 use Rattle.sheets.specs.Inner.FirstLine.{RefusedAs}
 use Rattle.sheets.specs.declared.percentage_sheet.Head.{Head}
-use Rattle.sheets.specs.declared.percentage_sheet.BackendRead as backend-read
-use Rattle.sheets.specs.declared.percentage_sheet.BackendRead.TheVariants as backend-variants
-use Rattle.sheets.specs.declared.percentage_sheet.WeightsRead as weights-read
-use Rattle.sheets.specs.declared.percentage_sheet.WeightsRead.TheVariants as weights-variants
-use Rattle.sheets.specs.declared.percentage_sheet.VolumeRead as volume-read
-use Rattle.sheets.specs.declared.percentage_sheet.VolumeRead.TheVariants as volume-variants
-use Rattle.sheets.specs.declared.percentage_sheet.ServiceRead as service-read
-use Rattle.sheets.specs.declared.percentage_sheet.ServiceRead.TheVariants as service-variants
-use Rattle.sheets.specs.declared.percentage_sheet.LineRead as Line-read
-use Rattle.sheets.specs.declared.percentage_sheet.LineRead.TheVariants as line-variants
-use Rattle.sheets.specs.declared.percentage_sheet.SheetRead as sheet_read
-use Rattle.sheets.specs.declared.percentage_sheet.SheetRead.TheVariants as sheet-variants
+use Rattle.sheets.specs.declared.percentage_sheet.Backend.{Backend}
+use Rattle.sheets.specs.declared.percentage_sheet.LineWeights.{LineWeights}
+use Rattle.numerals.specs.declared.refusal.Refusal.{Refusal}
+use Rattle.sheets.specs.declared.percentage_sheet.ServiceLine.{ServiceLine}
+use Rattle.sheets.specs.declared.percentage_sheet.SheetInMemory.{SheetInMemory}
+use Rattle.sheets.specs.declared.answer.Refused.{Refused}
 
 -- a field that is a backend, behind one with the id `before`: what it leaves to be read
 pub record Named (before : ℕ) (f : List ℕ) (id w : ℕ) : Type 0 where
@@ -31,9 +25,9 @@ pub record Named (before : ℕ) (f : List ℕ) (id w : ℕ) : Type 0 where
       (line : ℕ) (fs : List (List ℕ)) → weight_fields decimals line before (f ∷ fs)
       ≡ then (weight_fields decimals line id fs) (λ ws. got (backend_before id w ws))
 
-abbrev pub BackendOf : backend-read.BackendRead → ℕ → List ℕ → Type 0
-BackendOf (backend-variants.Backend id w) before f = Named before f id w
-BackendOf backend-variants.Bad before f = (line : ℕ) (fs : List (List ℕ)) → weight_fields decimals line before (f ∷ fs) ≡ refused no2 line
+abbrev pub BackendOf : Option Backend → ℕ → List ℕ → Type 0
+BackendOf (Some b) before f = Named before f b.id b.weight
+BackendOf None before f = (line : ℕ) (fs : List (List ℕ)) → weight_fields decimals line before (f ∷ fs) ≡ refused no2 line
 
 -- the backends of a line, read behind the first `at` places of both rows
 pub record Weighed (ids ids' ws ws' : List ℕ) (at : ℕ) (fs : List (List ℕ)) (count amount : ℕ) : Type 0 where
@@ -46,9 +40,9 @@ pub record Weighed (ids ids' ws ws' : List ℕ) (at : ℕ) (fs : List (List ℕ)
   pub ids_row : take (at + count) ids' ≡ take at ids ++ found.ids
   pub row : take (at + count) ws' ≡ take at ws ++ found.weights
 
-abbrev pub WeightsOf : weights-read.WeightsRead → List ℕ → List ℕ → List ℕ → List ℕ → ℕ → List (List ℕ) → Type 0
-WeightsOf (weights-variants.Weights count amount) ids ids' ws ws' at fs = Weighed ids ids' ws ws' at fs count amount
-WeightsOf (weights-variants.Refused why) ids ids' ws ws' at fs = (line : ℕ) → weight_fields decimals line 0 fs ≡ refused why line
+abbrev pub WeightsOf : Result LineWeights Refusal → List ℕ → List ℕ → List ℕ → List ℕ → ℕ → List (List ℕ) → Type 0
+WeightsOf (Ok w) ids ids' ws ws' at fs = Weighed ids ids' ws ws' at fs w.count w.sum
+WeightsOf (Err why) ids ids' ws ws' at fs = (line : ℕ) → weight_fields decimals line 0 fs ≡ refused why line
 
 -- the line of service i up to its weights: its word, the number of its fields and its volume were found right
 pub record Opened (i : ℕ) (fs : List (List ℕ)) (v : ℕ) : Type 0 where
@@ -60,9 +54,9 @@ pub record Opened (i : ℕ) (fs : List (List ℕ)) (v : ℕ) : Type 0 where
       ≡ then (weight_fields decimals (i + 2) 0 (drop 2 fs)) (λ ws.
       unless (eqb (sum ws.weights) unit) no3 (i + 2) (got (record { volume = v; ids = ws.ids; weights = ws.weights })))
 
-abbrev pub VolumeOf : volume-read.VolumeRead → ℕ → List (List ℕ) → Type 0
-VolumeOf (volume-variants.Volume v) i fs = Opened i fs v
-VolumeOf (volume-variants.Refused why) i fs = service_fields decimals unit i fs ≡ refused why (i + 2)
+abbrev pub VolumeOf : Result ℕ Refusal → ℕ → List (List ℕ) → Type 0
+VolumeOf (Ok v) i fs = Opened i fs v
+VolumeOf (Err why) i fs = service_fields decimals unit i fs ≡ refused why (i + 2)
 
 -- service i, with n backends, stands behind the first i volumes and the first `at` places of both rows
 pub record Stored (service : Service) (vs vs' ids ids' ws ws' : List ℕ) (at i n : ℕ) : Type 0 where
@@ -80,9 +74,9 @@ pub record Served (vs vs' ids ids' ws ws' : List ℕ) (at i : ℕ) (fs : List (L
   pub read : service_fields decimals unit i fs ≡ got service
   pub stored : Stored service vs vs' ids ids' ws ws' at i n
 
-abbrev pub ServiceOf : service-read.ServiceRead → List ℕ → List ℕ → List ℕ → List ℕ → List ℕ → List ℕ → ℕ → ℕ → List (List ℕ) → Type 0
-ServiceOf (service-variants.Weights n) vs vs' ids ids' ws ws' at i fs = Served vs vs' ids ids' ws ws' at i fs n
-ServiceOf (service-variants.Refused why) vs vs' ids ids' ws ws' at i fs = service_fields decimals unit i fs ≡ refused why (i + 2)
+abbrev pub ServiceOf : Result ℕ Refusal → List ℕ → List ℕ → List ℕ → List ℕ → List ℕ → List ℕ → ℕ → ℕ → List (List ℕ) → Type 0
+ServiceOf (Ok n) vs vs' ids ids' ws ws' at i fs = Served vs vs' ids ids' ws ws' at i fs n
+ServiceOf (Err why) vs vs' ids ids' ws ws' at i fs = service_fields decimals unit i fs ≡ refused why (i + 2)
 
 -- the line of service i, the one at position `start`, was read and stored; the next one begins at `next`
 pub record Followed (text vs vs' ids ids' ws ws' : List ℕ) (at i start count next : ℕ) : Type 0 where
@@ -94,9 +88,9 @@ pub record Followed (text vs vs' ids ids' ws ws' : List ℕ) (at i start count n
   pub within : next ≤ length text
   pub stored : Stored service vs vs' ids ids' ws ws' at i count
 
-abbrev pub LineOf : Line-read.LineRead → List ℕ → List ℕ → List ℕ → List ℕ → List ℕ → List ℕ → List ℕ → ℕ → ℕ → ℕ → Type 0
-LineOf (line-variants.Service count next) text vs vs' ids ids' ws ws' at i start = Followed text vs vs' ids ids' ws ws' at i start count next
-LineOf (line-variants.Refused why) text vs vs' ids ids' ws ws' at i start = service_lines decimals unit i (lines_at text start) ≡ refused why (i + 2)
+abbrev pub LineOf : Result ServiceLine Refusal → List ℕ → List ℕ → List ℕ → List ℕ → List ℕ → List ℕ → List ℕ → ℕ → ℕ → ℕ → Type 0
+LineOf (Ok l) text vs vs' ids ids' ws ws' at i start = Followed text vs vs' ids ids' ws ws' at i start l.count l.next
+LineOf (Err why) text vs vs' ids ids' ws ws' at i start = service_lines decimals unit i (lines_at text start) ≡ refused why (i + 2)
 
 -- how many numbers each service has, and all of them in one row
 unfoldable pub sizes_of : List (List ℕ) → List ℕ
@@ -127,9 +121,9 @@ pub record SheetHeld (reading : Reading Sheet) (vs zs is ws : List ℕ) (head : 
   pub capacity : sheet.capacity ≡ head.capacity
   pub holds : Holds sheet.volumes sheet.ids sheet.weights vs zs is ws n row
 
-abbrev pub SheetOf : sheet_read.SheetRead → Reading Sheet → List ℕ → List ℕ → List ℕ → List ℕ → Type 0
-SheetOf (sheet-variants.Sheet head n row) reading vs zs is ws = SheetHeld reading vs zs is ws head n row
-SheetOf (sheet-variants.Refused r) reading vs zs is ws = RefusedAs r reading
+abbrev pub SheetOf : Result SheetInMemory Refused → Reading Sheet → List ℕ → List ℕ → List ℕ → List ℕ → Type 0
+SheetOf (Ok s) reading vs zs is ws = SheetHeld reading vs zs is ws s.head s.services s.row
+SheetOf (Err r) reading vs zs is ws = RefusedAs r reading
 
 -- what line 1 and all services come to
 abbrev pub sheet_of : Head → List Service → Reading Sheet
@@ -140,8 +134,8 @@ unfoldable pub sheet_from : Head → List (List ℕ) → Reading Sheet
 sheet_from head ls = then (service_lines decimals unit 0 ls) (sheet_of head)
 
 -- what is answered after the lines: no service, then a capacity below their number
-unfoldable pub finished : Head → ℕ → ℕ → sheet_read.SheetRead
+unfoldable pub finished : Head → ℕ → ℕ → Result SheetInMemory Refused
 finished head n row =
     pick (ltb 0 n)
-    (pick (leb n head.capacity) (sheet-variants.Sheet head n row) (sheet-variants.Refused (refused_at no6 1)))
-    (sheet-variants.Refused (refused_at no5 1))
+    (pick (leb n head.capacity) (Ok (record { head = head; services = n; row = row })) (Err (refused_at no6 1)))
+    (Err (refused_at no5 1))

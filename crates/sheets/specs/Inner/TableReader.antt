@@ -1,5 +1,5 @@
 -- What the reader of the rule sheet answers and keeps: the table in numbers, four of each line, and the lines so far.
-use Rattle.std.specs.Prelude.{ℕ, ◌+◌, ◌*◌, ◌≡◌, true, List, [], ◌∷◌, reverse, ltb, length, take}
+use Rattle.std.specs.Prelude.{ℕ, ◌+◌, ◌*◌, ◌≡◌, true, List, [], ◌∷◌, reverse, ltb, length, take, Err, Ok, Result}
 use Rattle.numerals.specs.Limits.{most_capacity}
 use Rattle.expansion.specs.FirstMatch.{first_match}
 use Rattle.packing.specs.Count.{Line as RuleOf, own_rules}
@@ -10,19 +10,15 @@ use Rattle.sheets.specs.Calls.{refused_at}
 use Rattle.sheets.specs.Inner.TableNumbers.{line, table_in}
 use Rattle.sheets.specs.Inner.Order.{Behind}
 use Rattle.sheets.specs.declared.order.Last.{Last}
-use Rattle.sheets.specs.declared.order.Placed.{Placed}
-use Rattle.sheets.specs.declared.order.Placed.TheVariants.{Next, Refused as NotPlaced}
 use Rattle.sheets.specs.declared.rule_sheet.TableHead.{TableHead}
 use Rattle.sheets.specs.declared.rule_sheet.RuleLine.{RuleLine}
-use Rattle.sheets.specs.declared.rule_sheet.LineRead.{LineRead}
-use Rattle.sheets.specs.declared.rule_sheet.LineRead.TheVariants.{Line, Refused as NoLine}
-use Rattle.sheets.specs.declared.rule_sheet.SheetLines.{SheetLines}
-use Rattle.sheets.specs.declared.rule_sheet.SheetLines.TheVariants.{Table as Read, Refused}
+use Rattle.numerals.specs.declared.refusal.Refusal.{Refusal}
+use Rattle.sheets.specs.declared.answer.Refused.{Refused}
 
 -- what reading a rule sheet answers
-unfoldable pub sheet_answer : Reading Table → SheetLines
-sheet_answer (got t) = Read (record { k = t.k; n = length t.lines; total = t.total })
-sheet_answer (refused why line) = Refused (refused_at why line)
+unfoldable pub sheet_answer : Reading Table → Result TableHead Refused
+sheet_answer (got t) = Ok (record { k = t.k; n = length t.lines; total = t.total })
+sheet_answer (refused why line) = Err (refused_at why line)
 
 -- and leaves from the start of a buffer on
 abbrev pub Filled : Reading Table → List ℕ → Type 0
@@ -41,10 +37,10 @@ table_from h before ms = then (rule_lines h.k before ms) (whole_of h)
 abbrev pub line_of : RuleLine → RuleOf
 line_of l = line l.service l.len l.value l.backend
 
-abbrev pub LineAs : LineRead → ℕ → List (List ℕ) → Type 0
-LineAs (Line l) k fs =
+abbrev pub LineAs : Result RuleLine Refusal → ℕ → List (List ℕ) → Type 0
+LineAs (Ok l) k fs =
     (is_line k (line_of l) ≡ true) × ((before : List RuleOf) (at : ℕ) → rule_fields k before at fs ≡ placed before (line_of l) at (got (line_of l)))
-LineAs (NoLine why) k fs = (before : List RuleOf) (at : ℕ) → rule_fields k before at fs ≡ refused why at
+LineAs (Err why) k fs = (before : List RuleOf) (at : ℕ) → rule_fields k before at fs ≡ refused why at
 
 -- the lines so far, the last first: they passed, and are kept
 pub record Passed (k : ℕ) (before : List RuleOf) (last : Last) (tally table : List ℕ) : Type 0 where
@@ -54,13 +50,13 @@ pub record Passed (k : ℕ) (before : List RuleOf) (last : Last) (tally table : 
   pub stored : take (4 * length before) table ≡ cells (reverse before)
 
 -- one line more
-abbrev pub TakenAs : ℕ → List RuleOf → List (List ℕ) → Placed → List ℕ → List ℕ → Type 0
-TakenAs k before fs (Next last) tally table =
+abbrev pub TakenAs : ℕ → List RuleOf → List (List ℕ) → Result Last Refusal → List ℕ → List ℕ → Type 0
+TakenAs k before fs (Ok last) tally table =
     (l : RuleOf) × ((rule_fields k before (length before + 2) fs ≡ got l) × Passed k (l ∷ before) last tally table)
-TakenAs k before fs (NotPlaced why) tally table = rule_fields k before (length before + 2) fs ≡ refused why (length before + 2)
+TakenAs k before fs (Err why) tally table = rule_fields k before (length before + 2) fs ≡ refused why (length before + 2)
 
 -- the line of these fields, behind any lines that passed
-abbrev pub Taking : ℕ → Last → List (List ℕ) → List ℕ → List ℕ → Placed → List ℕ → List ℕ → Type 0
+abbrev pub Taking : ℕ → Last → List (List ℕ) → List ℕ → List ℕ → Result Last Refusal → List ℕ → List ℕ → Type 0
 Taking k last fs tally table r tally' table' = (before : List RuleOf) → Passed k before last tally table → TakenAs k before fs r tally' table'
 
 -- the table that was read into memory, by what line 1 says

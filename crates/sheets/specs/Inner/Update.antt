@@ -1,5 +1,5 @@
 -- What an update answers, by the numbers that are found: the measures of what would be read, and what it is judged by.
-use Rattle.std.specs.Prelude.{ℕ, ◌*◌, List, [], leb, ltb, eqb}
+use Rattle.std.specs.Prelude.{ℕ, ◌*◌, List, [], leb, ltb, eqb, Err, Ok, Result}
 use Rattle.numerals.specs.Pick.{pick, both}
 use Rattle.numerals.specs.Refusals.{no7, no8, no12}
 use Rattle.expansion.specs.Answer.{in_limits}
@@ -8,20 +8,19 @@ use Rattle.sheets.specs.PercentageSheet.{Sheet}
 use Rattle.sheets.specs.Calls.{about, refused_at}
 use Rattle.sheets.specs.declared.percentage_sheet.Head.{Head}
 use Rattle.sheets.specs.declared.answer.UpdateRecord.{UpdateRecord}
-use Rattle.sheets.specs.declared.answer.UpdateRead.{UpdateRead}
-use Rattle.sheets.specs.declared.answer.UpdateRead.TheVariants.{Made, Refused}
+use Rattle.sheets.specs.declared.answer.Refused.{Refused}
 
 -- measures m of service n, against the second sheet's k and services and the lent places
-unfoldable pub judged : UpdateRecord → ℕ → ℕ → ℕ → ℕ → ℕ → ℕ → UpdateRead
+unfoldable pub judged : UpdateRecord → ℕ → ℕ → ℕ → ℕ → ℕ → ℕ → Result UpdateRecord Refused
 judged m k services n rules_room ids_room weights_room =
     pick (ltb 0 m.rules)
     (pick (in_limits 1 services n)
     (pick (eqb m.k k)
-    (pick (both (leb (3 * m.rules) rules_room) (both (leb m.backends ids_room) (leb m.backends weights_room))) (Made m)
-    (Refused (refused_at no7 0)))
-    (Refused (refused_at no12 0)))
-    (Refused (about 2 no8 0)))
-    (Refused (about 1 no8 0))
+    (pick (both (leb (3 * m.rules) rules_room) (both (leb m.backends ids_room) (leb m.backends weights_room))) (Ok m)
+    (Err (refused_at no7 0)))
+    (Err (refused_at no12 0)))
+    (Err (about 2 no8 0)))
+    (Err (about 1 no8 0))
 
 -- the percentage sheet in memory, by its sizes, its row of ids and its row of weights; the volumes are none of an update's
 abbrev pub sheet_in : Head → List ℕ → List ℕ → List ℕ → Sheet

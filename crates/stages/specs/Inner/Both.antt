@@ -1,20 +1,17 @@
 -- What reading both sheets answers: the change that their tables are, spread over listings, or the refusal of every call on them.
-use Rattle.std.specs.Prelude.{ℕ, ◌≡◌, true, List, ltb, eqb}
+use Rattle.std.specs.Prelude.{ℕ, ◌≡◌, true, List, ltb, eqb, Err, Ok, Result}
 use Rattle.packing.specs.Count.{own_rules}
 use Rattle.sheets.specs.Calls.{of_service, has_service}
 use Rattle.sheets.specs.Reading.{got}
 use Rattle.sheets.specs.RuleSheet.{Table, read_table}
-use Rattle.sheets.specs.declared.answer.Answer.{Answer}
-use Rattle.sheets.specs.declared.answer.Answer.TheVariants as answer
 use Rattle.stages.specs.Stages.{Change as Stages}
 use Rattle.stages.specs.Calls.{of_sheets}
 use Rattle.stages.specs.Inner.Spread.{Spread}
-use Rattle.stages.specs.declared.answer.Both.{Both}
-use Rattle.stages.specs.declared.answer.Both.TheVariants.{Change, Refused}
+use Rattle.sheets.specs.declared.answer.Refused.{Refused}
 
 -- by who has the suffix at place 0 in each table, where 0 is nobody, and by the two k
-abbrev pub compared : ℕ → ℕ → ℕ → ℕ → Both
-compared first second k m = of_service Refused (ltb 0 first) (ltb 0 second) (eqb k m) (Change k)
+abbrev pub compared : ℕ → ℕ → ℕ → ℕ → Result ℕ Refused
+compared first second k m = of_service Err (ltb 0 first) (ltb 0 second) (eqb k m) (Ok k)
 
 -- two tables of k bits that both have service n, spread
 pub record BothRead (old new : List ℕ) (n k : ℕ) (before after : List ℕ) : Type 0 where
@@ -29,6 +26,6 @@ pub record BothRead (old new : List ℕ) (n k : ℕ) (before after : List ℕ) :
   pub spread_first : Spread k (own_rules n t.lines) before
   pub spread_second : Spread k (own_rules n u.lines) after
 
-abbrev pub BothAs : List ℕ → List ℕ → ℕ → Both → List ℕ → List ℕ → Type 0
-BothAs old new n (Change k) before after = BothRead old new n k before after
-BothAs old new n (Refused r) before after = (f : Stages → Answer) → of_sheets old new n f ≡ answer.Refused r
+abbrev pub BothAs : List ℕ → List ℕ → ℕ → Result ℕ Refused → List ℕ → List ℕ → Type 0
+BothAs old new n (Ok k) before after = BothRead old new n k before after
+BothAs old new n (Err r) before after = (f : Stages → (Result ℕ Refused)) → of_sheets old new n f ≡ Err r

@@ -1,19 +1,17 @@
 -- What is handed out of a change that was judged.
-use Rattle.std.specs.Prelude.{ℕ, ◌*◌, ◌^◌, List}
+use Rattle.std.specs.Prelude.{ℕ, ◌*◌, ◌^◌, List, Err, Ok, Result}
 use Rattle.numerals.specs.Limits.{most_capacity}
 use Rattle.packing.specs.Table.{lines_of}
 use Rattle.sheets.specs.Calls.{refused_at, print_text}
 use Rattle.sheets.specs.RuleSheet.{lines_text}
-use Rattle.sheets.specs.declared.answer.Answer.{Answer}
-use Rattle.sheets.specs.declared.answer.Answer.TheVariants as answer
 use Rattle.stages.specs.Inner.Nodes.{cut_at, starts_to}
-use Rattle.stages.specs.declared.answer.Judged.{Judged}
-use Rattle.stages.specs.declared.answer.Judged.TheVariants.{Row, Refused}
+use Rattle.sheets.specs.declared.answer.Refused.{Refused}
+use Rattle.numerals.specs.declared.refusal.Refusal.{Refusal}
 
 -- the values, into a lent buffer of `room` places, or the refusal
-abbrev pub handed : Judged → List ℕ → ℕ → Answer
-handed (Row n) values room = print_text values room
-handed (Refused why) values room = answer.Refused (refused_at why 0)
+abbrev pub handed : Result ℕ Refusal → List ℕ → ℕ → Result ℕ Refused
+handed (Ok n) values room = print_text values room
+handed (Err why) values room = Err (refused_at why 0)
 
 -- the text of the stage at place p
 abbrev pub text_at : ℕ → (ℕ → ℕ) → (ℕ → ℕ) → ℕ → ℕ → List ℕ

@@ -1,12 +1,12 @@
 -- The row of places as one walk over the places finds it, and the crowded test over it.
+use Rattle.std.specs.Prelude.{Err, Ok, Result}
 use Rattle.std.specs.Prelude.{ℕ, zero, suc, ◌+◌, ◌^◌, ◌≤◌, ◌<◌, ◌≡◌, Bool, true, false, not, List, [], ◌∷◌, ◌++◌, ltb, eqb, length, take, get_or}
 use Rattle.numerals.specs.Limits.{most_suffixes, most_capacity, most_services, most_id}
 use Rattle.numerals.specs.Pick.{pick, both}
 use Rattle.numerals.specs.Refusals.{no2, no14}
 use Rattle.expansion.specs.Answer.{in_limits}
 use Rattle.stages.specs.Inner.Nodes.{cut_at, lines_at}
-use Rattle.stages.specs.declared.answer.Judged.{Judged}
-use Rattle.stages.specs.declared.answer.Judged.TheVariants.{Row, Refused}
+use Rattle.numerals.specs.declared.refusal.Refusal.{Refusal}
 
 -- the backends of a place differ
 abbrev pub unlike : (ℕ → ℕ) → (ℕ → ℕ) → ℕ → Bool
@@ -32,16 +32,16 @@ crowded_at k old new capacity [] = false
 crowded_at k old new capacity (p ∷ ps) = pick (ltb capacity (lines_at (cut_at p old new) k 0)) true (crowded_at k old new capacity ps)
 
 -- limit, capacity and the number of a stage, then the crowded test: how many stages there are
-unfoldable pub judged : ℕ → (ℕ → ℕ) → (ℕ → ℕ) → ℕ → ℕ → ℕ → Judged
+unfoldable pub judged : ℕ → (ℕ → ℕ) → (ℕ → ℕ) → ℕ → ℕ → ℕ → Result ℕ Refusal
 judged k old new limit capacity number =
     pick (both (in_limits 1 most_suffixes limit) (both (in_limits 1 most_capacity capacity) (in_limits 1 (length (row_of k old new limit)) number)))
-    (pick (crowded_at k old new capacity (row_of k old new limit)) (Refused no14) (Row (length (row_of k old new limit))))
-    (Refused no2)
+    (pick (crowded_at k old new capacity (row_of k old new limit)) (Err no14) (Ok (length (row_of k old new limit))))
+    (Err no2)
 
 -- where a row was judged to be one, it stands in the listing
-abbrev pub RowIn : ℕ → (ℕ → ℕ) → (ℕ → ℕ) → ℕ → Judged → List ℕ → Type 0
-RowIn k old new limit (Row n) listing = take n listing ≡ row_of k old new limit
-RowIn k old new limit (Refused why) listing = length listing ≡ most_suffixes
+abbrev pub RowIn : ℕ → (ℕ → ℕ) → (ℕ → ℕ) → ℕ → Result ℕ Refusal → List ℕ → Type 0
+RowIn k old new limit (Ok n) listing = take n listing ≡ row_of k old new limit
+RowIn k old new limit (Err why) listing = length listing ≡ most_suffixes
 
 -- the holders of the places of a service's suffixes have ids
 pub record Served (k service : ℕ) (holder : List ℕ) : Type 0 where

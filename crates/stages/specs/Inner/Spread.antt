@@ -1,5 +1,5 @@
 -- The lines of a service spread over the suffixes, in the order of tree places: the backend of each.
-use Rattle.std.specs.Prelude.{ℕ, ◌*◌, ◌^◌, ◌≤◌, ◌<◌, ◌≡◌, true, List, length, get_or}
+use Rattle.std.specs.Prelude.{ℕ, ◌*◌, ◌^◌, ◌≤◌, ◌<◌, ◌≡◌, true, List, length, get_or, Err, Ok, Result}
 use Rattle.numerals.specs.Limits.{most_suffixes}
 use Rattle.numerals.specs.Pick.{pick}
 use Rattle.numerals.specs.Suffix.{place}
@@ -9,8 +9,7 @@ use Rattle.sheets.specs.Reading.{got, refused}
 use Rattle.sheets.specs.RuleSheet.{Table, is_line, read_table}
 use Rattle.packing.specs.Count.{own_rules}
 use Rattle.sheets.specs.Inner.TableNumbers.{line_at}
-use Rattle.stages.specs.declared.answer.Loaded.{Loaded}
-use Rattle.stages.specs.declared.answer.Loaded.TheVariants.{Table as Read, Refused}
+use Rattle.sheets.specs.declared.answer.Refused.{Refused}
 
 -- n lines in numbers, four of each, in the limits of a rule line of k bits
 pub record LinesOf (k : ℕ) (table : List ℕ) (n : ℕ) : Type 0 where
@@ -28,6 +27,6 @@ pub record Spread (k : ℕ) (rs : List Rule) (holder : List ℕ) : Type 0 where
   pub at : (p : ℕ) → p < 2 ^ k → get_or holder p 0 ≡ first_match rs (place k p)
 
 -- what was loaded from a sheet's text
-abbrev pub LoadedAs : List ℕ → ℕ → Loaded → List ℕ → Type 0
-LoadedAs text n (Read k) holder = (t : Table) × (read_table text ≡ got t) × (t.k ≡ k) × Spread k (own_rules n t.lines) holder
-LoadedAs text n (Refused r) holder = (read_table text ≡ refused r.why r.line) × (length holder ≡ most_suffixes)
+abbrev pub LoadedAs : List ℕ → ℕ → Result ℕ Refused → List ℕ → Type 0
+LoadedAs text n (Ok k) holder = (t : Table) × (read_table text ≡ got t) × (t.k ≡ k) × Spread k (own_rules n t.lines) holder
+LoadedAs text n (Err r) holder = (read_table text ≡ refused r.why r.line) × (length holder ≡ most_suffixes)

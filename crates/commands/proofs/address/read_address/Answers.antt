@@ -5,12 +5,11 @@ use Rattle.commands.proofs.Numerals.{first, second}
 use Rattle.commands.proofs.Limit.{quad-capped}
 use Rattle.commands.proofs.address.read_address.Goals as goal
 
-pub returns-in-Value : goal.returns-in-Value
+pub returns-in-Some : goal.returns-in-Some
 unfolding address_of
-returns-in-Value c = sym (first _ _ _ _ (sym c.read_numeral-read.ensures ∙ c.in-Value.is))
+returns-in-Some c = sym (first _ _ _ _ (sym c.in-Some.ensures))
 
-pub returns-in-Bad : goal.returns-in-Bad
+pub returns-in-None : goal.returns-in-None
 unfolding address_of
-returns-in-Bad c =
-    c.read_quad.ensures
-    ∙ sym (second _ _ _ (sym c.read_numeral-read.ensures ∙ c.in-Bad.is) ∙ quad-capped _)
+returns-in-None c =
+    c.read_quad.ensures ∙ sym (second _ _ _ (sym c.in-None.ensures) ∙ quad-capped _)

@@ -9,7 +9,7 @@ use Rattle.numerals.proofs.Fields.{cut-le}
 use Rattle.commands.specs.Address.{byte}
 use Rattle.commands.proofs.Quads.{quad-other, ReadTo, read_below, read_none, read_all, read-bad, read_next}
 use Rattle.commands.proofs.address.read_quad.Goals as goal
-use Rattle.commands.proofs.address.read_quad.Goals.{In-Value}
+use Rattle.commands.proofs.address.read_quad.Goals.{In_ok-b}
 
 pub returns-then-count_fields-ne4 : goal.returns-then-count_fields-ne4
 returns-then-count_fields-ne4 c =
@@ -19,22 +19,21 @@ returns-then-count_fields-ne4 c =
 pub loop-at-init : goal.loop-at-init
 loop-at-init c = read_none c.args.s.now (sym c.count_fields.ensures ∙ c.if-count_fields-ne4.false)
 
-pub returns-in_default : goal.returns-in_default
+pub returns-in_err-b : goal.returns-in_err-b
 unfolding byte
-returns-in_default c =
-    sym
-    (read-bad c.loop-at.invariant (omega arith) c.find-dot.result c.find-dot.ensures
-    (sym c.read_number-read.ensures ∙ c.in_default.is))
+returns-in_err-b c =
+    c.from_residual.ensures
+    ∙ sym (read-bad c.loop-at.invariant (omega arith) c.find-dot.result c.find-dot.ensures (sym c.read_number.ensures ∙ c.in_err-b.was))
 
 -- one byte more
 next :
-    (c : In-Value)
-    → ReadTo c.args.s.now (c.loop-at.v * 256 + c.in-Value.b)
+    (c : In_ok-b)
+    → ReadTo c.args.s.now (c.loop-at.v * 256 + c.in_ok-b.b)
     (c.find-dot.result + 1)
 unfolding byte
 next c =
-    read_next c.loop-at.invariant (omega arith) c.find-dot.result c.find-dot.ensures c.in-Value.b
-    (sym c.read_number-read.ensures ∙ c.in-Value.is)
+    read_next c.loop-at.invariant (omega arith) c.find-dot.result c.find-dot.ensures c.in_ok-b.b
+    (sym c.read_number.ensures ∙ c.in_ok-b.was)
 
 pub overflow_mul-v : goal.overflow_mul-v
 overflow_mul-v c = omega (arith, read_below (next c))

@@ -6,30 +6,30 @@ use Rattle.commands.specs.Inner.Gauge.{IsGauge}
 use Rattle.commands.specs.Gauge.{gauges_text}
 use Rattle.commands.proofs.GaugeTexts.{made-gauges}
 use Rattle.commands.proofs.gauging.measure.Goals as goal
-use Rattle.commands.proofs.gauging.measure.Goals.{In-Made}
+use Rattle.commands.proofs.gauging.measure.Goals.{In-Ok}
 
 -- both floats are gauges
-both : (c : In-Made) → let g = c.in-Made.g in IsGauge g.share × IsGauge g.load
+both : (c : In-Ok) → let g = c.in-Ok.g in IsGauge g.share × IsGauge g.load
 both c =
     let a = c.args in
-    made-gauges a.table.now a.service a.volume a.backend _ (sym c.in-Made.is ∙ c.gauge_record-made.ensures.answer)
+    made-gauges a.table.now a.service a.volume a.backend _ (sym c.in-Ok.is ∙ c.gauge_record.ensures.answer)
 
 pub put_gauge-at-requires : goal.put_gauge-at-requires
-put_gauge-at-requires c = ((both (goal.at.put_gauge-at-requires c).In-Made).0, omega (arith, c.requires))
+put_gauge-at-requires c = ((both (goal.at.put_gauge-at-requires c).In-Ok).0, omega (arith, c.requires))
 
 pub put_gauge-requires : goal.put_gauge-requires
 put_gauge-requires c =
     let first = c.put_gauge-at.ensures in
-    ((both (goal.at.put_gauge-requires c).In-Made).1, omega (arith, c.requires, first.end, length-kept first.text))
+    ((both (goal.at.put_gauge-requires c).In-Ok).1, omega (arith, c.requires, first.end, length-kept first.text))
 
-pub returns-in-Made : goal.returns-in-Made
+pub returns-in-Ok : goal.returns-in-Ok
 unfolding gauges_text
-returns-in-Made c =
-    let told = sym c.in-Made.is ∙ c.gauge_record-made.ensures.answer in
+returns-in-Ok c =
+    let told = sym c.in-Ok.is ∙ c.gauge_record.ensures.answer in
     rw (← told) (chain c.put_gauge-at.ensures.text c.put_gauge.ensures.text)
 
-pub returns-in-Refused : goal.returns-in-Refused
+pub returns-in-Err : goal.returns-in-Err
 unfolding gauges_text
-returns-in-Refused c =
-    let told = sym c.in-Refused.is ∙ c.gauge_record-made.ensures.answer in
+returns-in-Err c =
+    let told = sym c.in-Err.is ∙ c.gauge_record.ensures.answer in
     rw (← told) c.put_refused.ensures

@@ -9,23 +9,23 @@ use Rattle.sheets.specs.Calls.{print_read, sheet_text}
 use Rattle.commands.proofs.Texts.{whole}
 use Rattle.commands.proofs.Sheets.{ended, not-printed, printed-four}
 use Rattle.commands.proofs.splitting.split.Goals as goal
-use Rattle.commands.proofs.splitting.split.Goals.{After-split_sheet-printed}
+use Rattle.commands.proofs.splitting.split.Goals.{After-split_sheet}
 
 -- what was answered, at the buffer's length
 answered :
-    (c : After-split_sheet-printed)
-    → c.split_sheet-printed.result ≡ print_read (read_sheet c.args.sheet.now) sheet_text text_limit
+    (c : After-split_sheet)
+    → c.split_sheet.result ≡ print_read (read_sheet c.args.sheet.now) sheet_text text_limit
 unfolding text_limit
 answered c =
     let a = c.args in
     let long : length a.out.now ≡ text_limit = search rules in
-    c.split_sheet-printed.ensures.answer ∙ ap (print_read (read_sheet a.sheet.now) sheet_text) long
+    c.split_sheet.ensures.answer ∙ ap (print_read (read_sheet a.sheet.now) sheet_text) long
 
-pub returns-in-Value : goal.returns-in-Value
-returns-in-Value c =
-    let is = c.in-Value.is in
-    let e = c.split_sheet-printed.ensures in
-    let end = ended _ _ (sym is ∙ answered (goal.at.returns-in-Value c).After-split_sheet-printed) in
+pub returns-in-Ok : goal.returns-in-Ok
+returns-in-Ok c =
+    let is = c.in-Ok.is in
+    let e = c.split_sheet.ensures in
+    let end = ended _ _ (sym is ∙ answered (goal.at.returns-in-Ok c).After-split_sheet) in
     let written = (rw is at e.buffer) ∙ ap (sets _ 0) end.1 in
     record {
       answer = end.0;
@@ -34,11 +34,11 @@ returns-in-Value c =
       four_places = printed-four _ end.0 written;
     }
 
-pub returns-in-Refused : goal.returns-in-Refused
-returns-in-Refused c =
-    let is = c.in-Refused.is in
-    let e = c.split_sheet-printed.ensures in
-    let not = not-printed _ _ (sym is ∙ answered (goal.at.returns-in-Refused c).After-split_sheet-printed) in
+pub returns-in-Err : goal.returns-in-Err
+returns-in-Err c =
+    let is = c.in-Err.is in
+    let e = c.split_sheet.ensures in
+    let not = not-printed _ _ (sym is ∙ answered (goal.at.returns-in-Err c).After-split_sheet) in
     let w = whole c.put_refused.ensures in
     record {
       answer = rw not.0 w.0;

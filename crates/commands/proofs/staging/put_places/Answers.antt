@@ -1,34 +1,32 @@
 -- `staging::put_places` meets its contract: once the lines left are written too, all are.
-use mathlib.Core.Path.{refl, ◌∙◌}
+use Prim.Native.Nat.{◌≤◌, ◌<◌}
+use mathlib.Core.Path.{◌∙◌}
 use native.Mathlib.Omega.{arith}
+use lib.ListN.{take, get_or}
+use lib.Seq.{get_or-take, length-take-le}
+use Rattle.numerals.specs.Limits.{most_suffixes}
 use Rattle.sheets.proofs.Writes.{chain, nothing, same_length as length-kept}
 use Rattle.commands.proofs.StageRows.{lines_more, lines_none, place-soon}
 use Rattle.commands.proofs.staging.put_places.Goals as goal
 
-pub loop-i-init : goal.loop-i-init
-loop-i-init c = record { few = omega arith; same = refl; room = omega arith; rest = λ b e h. h }
-
-pub put_number-end-requires : goal.put_number-end-requires
-put_number-end-requires c =
-    let l = c.loop-i in
-    omega (arith, c.requires.0.few, c.requires.1, l.invariant.room, l.invariant.same, c.loop-i-test.true)
-
-pub loop-i-preserved : goal.loop-i-preserved
-loop-i-preserved c =
-    let l = c.loop-i in
-    let h = c.loop-i-test.true in
+pub loop-place-preserved : goal.loop-place-preserved
+loop-place-preserved c =
+    let l = c.loop-place in
+    let i = l.place-index in
     let g = l.invariant in
+    let places = take c.args.n c.args.places.now in
     let w = c.put_number-end.ensures.text in
-    let more = lines_more c.args.places.now c.args.n c.requires.0.room l.i h in
+    let here : i < c.args.n = omega (arith, length-take-le c.args.n c.args.places.now c.requires.0.room) in
+    let small : get_or places i 0 ≤ most_suffixes = rw (get_or-take c.args.n c.args.places.now i 0 here) (c.requires.0.each i here) in
+    let more = lines_more places i (omega arith) in
     record {
-      few = omega arith;
       same = length-kept w ∙ g.same;
-      room = omega (arith, g.room, place-soon w (c.requires.0.each l.i h));
+      room = omega (arith, g.room, place-soon w small);
       rest = λ b e r. g.rest b e (rw more (chain w r));
     }
 
 pub returns : goal.returns
 returns c =
-    let l = c.loop-i in
-    let none = lines_none c.args.places.now c.args.n c.requires.0.room l.i (omega (arith, c.loop-i-test.false)) in
+    let l = c.loop-place in
+    let none = lines_none (take c.args.n c.args.places.now) l.place-index (omega arith) in
     l.invariant.rest l.out l.end (rw none (nothing l.out l.end))

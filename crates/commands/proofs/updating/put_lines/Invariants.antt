@@ -1,5 +1,5 @@
 -- `updating::put_lines` meets its contract: once the lines left are written too, all are.
-use Prim.Native.Nat.{ℕ, ◌+◌, ◌-◌, ◌*◌, ◌≤◌}
+use Prim.Native.Nat.{ℕ, ◌+◌, ◌*◌, ◌≤◌}
 use mathlib.Core.Path.{◌≡◌}
 use mathlib.Core.List.{List}
 use lib.ListN.{length}
@@ -10,7 +10,6 @@ use Rattle.commands.proofs.updating.put_lines.Given as goal
 
 -- at rule i: the buffer is as long as it was, the lines so far took no more than their room, and once those left are written too, all are
 pub record Going (service : ℕ) (rules : List ℕ) (n : ℕ) (out₀ : List ℕ) (at : ℕ) (out : List ℕ) (end i : ℕ) : Type 0 where
-  pub few : i ≤ n
   pub same : length out ≡ length out₀
   pub room : end ≤ at + line_room * i
   pub rest :
@@ -19,6 +18,3 @@ pub record Going (service : ℕ) (rules : List ℕ) (n : ℕ) (out₀ : List ℕ
 
 abbrev pub invariant-loop-i : goal.invariant-loop-i
 invariant-loop-i l = Going l.service l.rules l.n l.initial.out l.at l.out l.end l.i
-
-abbrev pub decreases-loop-i : goal.decreases-loop-i
-decreases-loop-i l = l.n - l.i

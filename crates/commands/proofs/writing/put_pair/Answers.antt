@@ -3,9 +3,6 @@ use native.Mathlib.Omega.{arith}
 use Rattle.sheets.proofs.Writes.{chain, same_length}
 use Rattle.commands.proofs.writing.put_pair.Goals as goal
 
-pub put_number-next-requires : goal.put_number-next-requires
-put_number-next-requires c = omega (arith, c.requires)
-
 pub put_number-requires : goal.put_number-requires
 put_number-requires c =
     let w = c.put_number-next.ensures in

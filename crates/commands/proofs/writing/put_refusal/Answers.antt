@@ -14,7 +14,7 @@ returns c =
     let a = c.args in
     let v = c.put_bytes-at.ensures in
     let w = c.put_pair.ensures in
-    let all = rw c.refusal_number.ensures at (chain v w.text) in
+    let all = rw c.from.ensures at (chain v w.text) in
     record {
       text = rw (← parts a.r a.separator) all;
       end = omega (arith, v.ends, w.end);

@@ -15,22 +15,13 @@ use Rattle.numerals.specs.Limits.{most_id, unit}
 use Rattle.numerals.specs.declared.refusal.Refusal.TheVariants.{Unbalanced}
 use Rattle.numerals.proofs.Sums.{sum-suc}
 use Rattle.numerals.proofs.Searches.{true-both, all-suc}
-use Rattle.expansion.proofs.Checks.{weights-none, weights-many, weights-unpaired, weights-bad, weights-sum, is-backend}
+use Rattle.expansion.proofs.Checks.{weights-bad, weights-sum, is-backend}
 use Rattle.expansion.proofs.call.check_weights.Goals as goal
 use Rattle.expansion.proofs.call.check_weights.Goals.{After-is_backend, After-loop-b, Else-not-is_backend}
 
-pub returns-then-n-eq0 : goal.returns-then-n-eq0
-returns-then-n-eq0 c = sym (weights-none _ _ c.if-n-eq0.true)
-
-pub returns-then-n-gt-MOST_BACKENDS : goal.returns-then-n-gt-MOST_BACKENDS
-returns-then-n-gt-MOST_BACKENDS c = sym (weights-many _ _ (omega arith) c.if-n-gt-MOST_BACKENDS.true)
-
-pub returns-then-ids-n : goal.returns-then-ids-n
-returns-then-ids-n c = sym (weights-unpaired _ _ (omega arith) (omega arith) (ne_eqb _ _ c.if-ids-n.true))
-
 pub loop-b-init : goal.loop-b-init
 unfolding sum_to all_to id_before
-loop-b-init c = (omega arith, omega arith, refl, refl, refl)
+loop-b-init c = (omega arith, refl, refl, refl)
 
 -- the test is the definition's
 tested : (c : After-is_backend)
@@ -40,7 +31,7 @@ tested c =
     let a = c.args in
     let l = c.loop-b in
     c.is_backend.ensures
-    ∙ ap (λ (x : ℕ). both (in_limits (suc x) most_id (get_or a.ids.now l.b 0)) (leb (get_or a.weights.now l.b 0) unit)) l.invariant.3
+    ∙ ap (λ (x : ℕ). both (in_limits (suc x) most_id (get_or a.ids.now l.b 0)) (leb (get_or a.weights.now l.b 0) unit)) l.invariant.2
 
 pub returns-then-not-is_backend : goal.returns-then-not-is_backend
 returns-then-not-is_backend c =
@@ -60,10 +51,6 @@ small c =
     let a = c.args in
     (is-backend a.ids.now a.weights.now c.loop-b.b (passed c)).1.1
 
-pub overflow_add-sum : goal.overflow_add-sum
-unfolding unit
-overflow_add-sum c = omega (arith, small c)
-
 pub loop-b-preserved : goal.loop-b-preserved
 unfolding id_before
 loop-b-preserved c =
@@ -72,11 +59,10 @@ loop-b-preserved c =
     let ws = a.weights.now in
     let l = c.loop-b in
     let all : all_to (l.b + 1) (is_backend ids ws) ≡ true =
-    rw add-one (all-suc l.b (is_backend ids ws) ∙ true-both _ _ l.invariant.4 (passed c)) in
+    rw add-one (all-suc l.b (is_backend ids ws) ∙ true-both _ _ l.invariant.3 (passed c)) in
     let last : get_or ids l.b 0 ≡ id_before ids (l.b + 1) = rw add-one refl in (
-      omega arith,
       omega (arith, small c),
-      rw add-one (sym (sum-suc l.b (λ j. get_or ws j 0) ∙ ap (λ (x : ℕ). x + get_or ws l.b 0) (sym l.invariant.2))),
+      rw add-one (sym (sum-suc l.b (λ j. get_or ws j 0) ∙ ap (λ (x : ℕ). x + get_or ws l.b 0) (sym l.invariant.1))),
       last,
       all,
     )
@@ -90,7 +76,7 @@ ended c =
     let ws = c.args.weights.now in
     let l = c.loop-b in
     let all : l.b ≡ length ws = omega arith in
-    rw (l.invariant.2, all) (weights-sum ids ws (omega arith) (omega arith) (omega arith) (rw (← all) l.invariant.4))
+    rw (l.invariant.1, all) (weights-sum ids ws (omega arith) (omega arith) (omega arith) (rw (← all) l.invariant.3))
 
 pub returns-then-sum-eq-UNIT : goal.returns-then-sum-eq-UNIT
 unfolding unit

@@ -1,4 +1,5 @@
 -- `call::expand` meets its contract: each of its answers is a case of the definition's.
+use Rattle.std.specs.Prelude.{Ok}
 use Prim.Native.Nat.{ℕ, ◌+◌, ◌≤◌, min}
 use mathlib.Core.List.{reverse, map}
 use mathlib.Core.Path.{◌≡◌, refl, sym, ap, ◌∙◌}
@@ -8,36 +9,38 @@ use lib.ListN.{length, take}
 use lib.Seq.{sets}
 use borrow.Author.Tests.{not-true, not-false, leb-true}
 use Rattle.numerals.specs.Limits.{most_rules}
+use Rattle.numerals.proofs.Exits.{handed_on}
 use Rattle.expansion.specs.Answer.{check_call, frame_made, list_made, lens_made, values_made, backends_made}
 use Rattle.expansion.specs.declared.rule.Rule.{Rule}
-use Rattle.expansion.specs.declared.call.Checked.TheVariants.{Sound as Passed}
 use Rattle.expansion.proofs.Checks.{call-passed}
 use Rattle.expansion.proofs.Answers.{answer-refused, answer-short, answer-made, made-column, made-stairs}
 use Rattle.expansion.proofs.call.expand.Goals as goal
-use Rattle.expansion.proofs.call.expand.Goals.{After-has_room, After-make_list-made, Else-not-has_room, In_default, Start}
+use Rattle.expansion.proofs.call.expand.Goals.{After-has_room, After-make_list-made, Else-not-has_room, In_ok-check_call, Start}
 
 -- the places of the shortest buffer
 abbrev room : Start → ℕ
 room s =
     min (min (length s.args.lens.now) (length s.args.values.now)) (min (length s.args.backends.now) (length s.args.stairs.now))
 
-pub returns-in-Refused : goal.returns-in-Refused
-returns-in-Refused c =
+pub returns-in_err-check_call : goal.returns-in_err-check_call
+returns-in_err-check_call c =
     let a = c.args in
+    let e = handed_on _ _ c.from_residual.ensures in
     record {
-      answer = sym
-          (answer-refused a.k a.tolerance a.budget a.ids.now a.weights.now a.at (room (goal.at.returns-in-Refused c).Start)
-          c.in-Refused.why (sym c.check_call-checked.ensures ∙ c.in-Refused.is));
-      lens = refl;
-      values = refl;
-      backends = refl;
-      stairs = refl;
+      answer = e
+          ∙ sym
+          (answer-refused a.k a.tolerance a.budget a.ids.now a.weights.now a.at (room (goal.at.returns-in_err-check_call c).Start)
+          _ (sym c.check_call.ensures ∙ c.in_err-check_call.was));
+      lens = rw e;
+      values = rw e;
+      backends = rw e;
+      stairs = rw e;
     }
 
-passed : (c : In_default)
+passed : (c : In_ok-check_call)
     → let a = c.args in check_call a.k a.tolerance a.budget
-    a.ids.now a.weights.now ≡ Passed
-passed c = sym c.check_call-checked.ensures ∙ c.in_default.is
+    a.ids.now a.weights.now ≡ Ok tt
+passed c = sym c.check_call.ensures ∙ c.in_ok-check_call.was
 
 pub make_list-made-requires : goal.make_list-made-requires
 make_list-made-requires c =
@@ -49,8 +52,7 @@ make_list-made-requires c =
 room-is : (c : After-has_room) → c.has_room.result ≡ leb (c.args.at + c.make_list-made.result.list.count) (room (goal.at.After-has_room c).Start)
 room-is c =
     let n = c.args.at + c.make_list-made.result.list.count in
-    let least : c.smaller.result
-    ≡ room (goal.at.After-has_room c).Start = omega (arith, c.smaller.ensures, c.smaller-ends.ensures, c.smaller-rules.ensures) in
+    let least : c.min.result ≡ room (goal.at.After-has_room c).Start = omega (arith, c.min.ensures, c.min-ends.ensures, c.min-rules.ensures) in
     c.has_room.ensures ∙ ap (leb n) least
 
 pub returns-then-not-has_room : goal.returns-then-not-has_room
@@ -60,7 +62,7 @@ returns-then-not-has_room c =
     record {
       answer = sym
           (answer-short a.k a.tolerance a.budget a.ids.now a.weights.now c.make_list-made.result c.make_list-made.ensures.made
-          a.at (room (goal.at.returns-then-not-has_room c).Start) (passed (goal.at.returns-then-not-has_room c).In_default)
+          a.at (room (goal.at.returns-then-not-has_room c).Start) (passed (goal.at.returns-then-not-has_room c).In_ok-check_call)
           (sym (room-is (goal.at.returns-then-not-has_room c).After-has_room) ∙ not-true _ c.if-not-has_room.true-raw));
       lens = refl;
       values = refl;
@@ -100,7 +102,7 @@ returns c =
     let out = c.copy_out.ensures in
     record {
       answer = sym (answer-made a.k a.tolerance a.budget a.ids.now a.weights.now r M a.at (room (goal.at.returns c).Start)
-          (passed (goal.at.returns c).In_default) (fits (goal.at.returns c).Else-not-has_room));
+          (passed (goal.at.returns c).In_ok-check_call) (fits (goal.at.returns c).Else-not-has_room));
       lens = out.lens ∙ ap (sets a.lens.now a.at) (column (λ (r : Rule). r.len));
       values = out.values ∙ ap (sets a.values.now a.at) (column (λ (r : Rule). r.value));
       backends = out.backends ∙ ap (sets a.backends.now a.at) (column (λ (r : Rule). r.backend));

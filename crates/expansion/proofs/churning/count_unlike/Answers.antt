@@ -33,26 +33,14 @@ inside c = omega (arith, shifted c.args.k c.requires.0)
 below : (c : In-loop-p) → c.loop-p.p < most_suffixes
 below c = omega (arith, inside c, pow-few c.args.k c.requires.0)
 
-pub offset_bounds-before-p : goal.offset_bounds-before-p
-offset_bounds-before-p c = omega (arith, below c)
-
 pub bounds-before-p : goal.bounds-before-p
 bounds-before-p c = omega (arith, below (goal.at.bounds-before-p c).In-loop-p, c.requires.1.0)
-
-pub offset_bounds-after-p : goal.offset_bounds-after-p
-offset_bounds-after-p c = omega (arith, below (goal.at.offset_bounds-after-p c).In-loop-p)
 
 pub bounds-after-p : goal.bounds-after-p
 bounds-after-p c = omega (arith, below (goal.at.bounds-after-p c).In-loop-p, c.requires.1.1)
 
 pub overflow_add-same : goal.overflow_add-same
 overflow_add-same c = omega (arith, below (goal.at.overflow_add-same c).In-loop-p, c.loop-p.invariant.1)
-
-pub overflow_add-p : goal.overflow_add-p
-overflow_add-p c = omega (arith, below (goal.at.overflow_add-p c).In-loop-p)
-
-pub loop-p-smaller : goal.loop-p-smaller
-loop-p-smaller c = omega (arith, inside (goal.at.loop-p-smaller c).In-loop-p)
 
 pub loop-p-preserved : goal.loop-p-preserved
 loop-p-preserved c =

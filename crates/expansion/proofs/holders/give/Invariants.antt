@@ -1,10 +1,8 @@
--- `holders::give` meets its contract. The loop's invariant: the first i places went to the receiver.
-use Prim.Native.Nat.{◌-◌, ◌≤◌}
-use Rattle.expansion.specs.Inner.Holders.{Given}
+-- `holders::give` meets its contract. The loop's invariant: the places passed went to the receiver.
+use Prim.Native.Nat.{ℕ, ◌<◌}
+use mathlib.Core.Path.{◌≡◌}
+use lib.ListN.{get_or}
 use Rattle.expansion.proofs.holders.give.Given as goal
 
-abbrev pub invariant-loop-i : goal.invariant-loop-i
-invariant-loop-i l = (l.i ≤ l.size) × Given l.at l.i l.receiver l.initial.holder l.holder
-
-abbrev pub decreases-loop-i : goal.decreases-loop-i
-decreases-loop-i l = l.size - l.i
+abbrev pub invariant-loop-place : goal.invariant-loop-place
+invariant-loop-place l = (k : ℕ) → k < l.place-index → get_or l.place-items k 0 ≡ l.receiver

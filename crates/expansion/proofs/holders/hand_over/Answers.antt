@@ -1,12 +1,13 @@
 -- `holders::hand_over` meets its contract.
-use Prim.Native.Nat.{ℕ, zero, suc, ◌+◌, ◌-◌, ◌*◌, ◌%◌, ◌^◌, ◌≤◌, ◌<◌}
+use Prim.Native.Nat.{ℕ, zero, suc, ◌+◌, ◌-◌, ◌*◌, ◌/◌, ◌%◌, ◌^◌, ◌≤◌, ◌<◌}
 use mathlib.Core.Path.{◌≡◌, ap, ◌∙◌, subst}
 use native.Mathlib.Nat.{suc-mul, mul-le-mul_right, pow-succ'}
 use native.Mathlib.Omega.{arith}
+use lib.ListN.{get_or}
 use lib.Pow.{pow_pos}
 use Rattle.numerals.specs.Limits.{most_suffixes}
 use Rattle.numerals.specs.Suffix.{place}
-use Rattle.expansion.specs.Inner.Holders.{Given, lowered, node_of}
+use Rattle.expansion.specs.Inner.Holders.{Given, lowered, node_of, lowest_held}
 use Rattle.numerals.proofs.Powers.{pow-few, shifted}
 use Rattle.expansion.proofs.Count.{pow-split}
 use Rattle.expansion.proofs.holders.hand_over.Goals as goal
@@ -32,12 +33,18 @@ fours zero l = absurd (omega arith)
 fours (suc zero) l = absurd (omega arith)
 fours (suc (suc i)) l = omega (arith, pow-succ' 2 (suc i), pow-succ' 2 i)
 
+-- the walk starts at a node, since it finds one
+from-le : (s : Start) → get_or s.args.low.now s.args.m.giver 0 / 2 ^ s.args.m.index ≤ 2 ^ (s.args.k - s.args.m.index)
+unfolding node_of lowest_held
+from-le s = let found = s.requires.low_bound in omega arith
+
 pub lowest_whole-node-requires : goal.lowest_whole-node-requires
 lowest_whole-node-requires c =
     rw (nodes-is (goal.at.lowest_whole-node-requires c).Start) (rw (size_is (goal.at.lowest_whole-node-requires c).Start)
     (record {
       size_nonzero = (pow_pos c.args.m.index, omega (arith, all-is (goal.at.lowest_whole-node-requires c).Start));
       size_value = fours c.args.m.index;
+      from_le_nodes = from-le (goal.at.lowest_whole-node-requires c).Start;
     }))
 
 abbrev node : After-lowest_whole-node → ℕ

@@ -1,22 +1,18 @@
 -- `holders::lowest_whole` meets its contract. The outer loop's invariant: no node passed is the giver's. The inner one's: the giver holds the node's
 -- suffixes from `left` on, and a multiple of four of them is left.
-use Prim.Native.Nat.{ℕ, ◌+◌, ◌-◌, ◌%◌, ◌≤◌, ◌<◌}
+use Prim.Native.Nat.{ℕ, ◌+◌, ◌%◌, ◌≤◌, ◌<◌}
 use mathlib.Core.Bool.{false}
 use mathlib.Core.Path.{◌≡◌}
 use lib.ListN.{get_or}
 use Rattle.expansion.specs.Inner.Holders.{held_by}
 use Rattle.expansion.proofs.holders.lowest_whole.Given as goal
 
+abbrev pub invariant-nodes : goal.invariant-nodes
+invariant-nodes l = (l.lowest ≡ l.nodes) × ((j : ℕ) → j < l.node → l.from ≤ j → held_by l.holder l.size l.giver j ≡ false)
+
 abbrev pub invariant-loop-left : goal.invariant-loop-left
 invariant-loop-left l =
-    (l.node ≡ l.initial.node) × (l.left ≤ l.size) × ((i : ℕ) → l.left ≤ i → i < l.size → get_or l.holder (l.at + i) 0 ≡ l.giver) × (l.left % 4 ≡ 0)
+    (l.left ≤ l.size) × (l.left % 4 ≡ 0) × ((j : ℕ) → l.left ≤ j → j < l.size → get_or l.holder (l.at + j) 0 ≡ l.giver)
 
 abbrev pub decreases-loop-left : goal.decreases-loop-left
 decreases-loop-left l = l.left
-
-abbrev pub invariant-nodes : goal.invariant-nodes
-invariant-nodes l =
-    (l.from ≤ l.node) × (l.node - l.from ≤ l.nodes - l.from) × ((j : ℕ) → l.from ≤ j → j < l.node → held_by l.holder l.size l.giver j ≡ false)
-
-abbrev pub decreases-nodes : goal.decreases-nodes
-decreases-nodes l = l.nodes - l.node

@@ -3,12 +3,11 @@ use Prim.Native.Nat.{ℕ, suc, ◌+◌, ◌*◌, ◌^◌}
 use mathlib.Core.Bool.{Bool, true, false}
 use mathlib.Core.Path.{◌≡◌, refl, ap, sym, ◌∙◌}
 use native.Mathlib.Omega.{arith}
-use lib.Dec.{ltb}
-use lib.ListN.{length, get_or}
+use lib.ListN.{get_or}
 use Rattle.numerals.specs.Limits.{unit}
 use Rattle.numerals.specs.Sums.{sum_to, count_to}
 use Rattle.numerals.proofs.Sums.{bit, count-suc}
-use Rattle.expansion.specs.Inner.Hopeless.{is_apart, beyond_to}
+use Rattle.expansion.specs.Inner.Hopeless.{is_apart}
 use Rattle.expansion.proofs.hopeless.is_hopeless.Goals as goal
 use Rattle.expansion.proofs.hopeless.is_hopeless.Goals.{then-is_beyond, else-is_beyond}
 
@@ -28,26 +27,16 @@ failed t count b r e h y =
     omega (arith, count-suc b t, ap bit (sym h ∙ y), ap (λ (x : ℕ). count_to x t) n)
 
 pub loop-b-init : goal.loop-b-init
-loop-b-init c = (omega arith, (omega arith, none _))
-
-pub is_beyond-requires : goal.is_beyond-requires
-is_beyond-requires c =
-    ((omega arith, omega arith), c.requires.by_index c.loop-b.b (omega arith))
+loop-b-init c = (omega arith, none _)
 
 pub loop-b-preserved : goal.loop-b-preserved
 loop-b-preserved c =
     let a = c.args in
     let r = c.is_beyond.result in
-    let was = c.loop-b.invariant.1.1 in
+    let was = c.loop-b.invariant.1 in
     let is = c.is_beyond.ensures in
     let t : ℕ → Bool = λ b. is_apart (get_or a.shares.now b 0 * unit) (get_or a.weights.now b 0 * 2 ^ a.k) (a.tolerance * 2 ^ a.k) in
     elim c.if-is_beyond.branch [
-      | then-is_beyond w ↦ (omega arith, (omega arith, w.count-is ∙ passed t c.loop-b.count c.loop-b.b r was is w.if-is_beyond.true))
-      | else-is_beyond w ↦ (omega arith, (omega arith, w.count-is ∙ failed t c.loop-b.count c.loop-b.b r was is w.if-is_beyond.false))
+      | then-is_beyond w ↦ (omega arith, w.count-is ∙ passed t c.loop-b.count c.loop-b.b r was is w.if-is_beyond.true)
+      | else-is_beyond w ↦ (omega arith, w.count-is ∙ failed t c.loop-b.count c.loop-b.b r was is w.if-is_beyond.false)
     ]
-
-pub returns : goal.returns
-returns c =
-    let a = c.args in
-    let all : c.loop-b.b ≡ length a.weights.now = omega arith in
-    ap (ltb (2 * a.moves)) (c.loop-b.invariant.1.1 ∙ ap (beyond_to a.k a.tolerance a.weights.now a.shares.now) all)

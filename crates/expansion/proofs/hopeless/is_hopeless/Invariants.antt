@@ -1,12 +1,8 @@
 -- `hopeless::is_hopeless` meets its contract. The loop's invariant: `count` of the first b backends are beyond the tolerance.
-use Prim.Native.Nat.{◌-◌, ◌≤◌}
+use Prim.Native.Nat.{◌≤◌}
 use mathlib.Core.Path.{◌≡◌}
-use lib.ListN.{length}
 use Rattle.expansion.specs.Inner.Hopeless.{beyond_to}
 use Rattle.expansion.proofs.hopeless.is_hopeless.Given as goal
 
 abbrev pub invariant-loop-b : goal.invariant-loop-b
-invariant-loop-b l = (l.b ≤ length l.weights) × ((l.count ≤ l.b) × (l.count ≡ beyond_to l.k l.tolerance l.weights l.shares l.b))
-
-abbrev pub decreases-loop-b : goal.decreases-loop-b
-decreases-loop-b l = length l.weights - l.b
+invariant-loop-b l = (l.count ≤ l.b) × (l.count ≡ beyond_to l.k l.tolerance l.weights l.shares l.b)

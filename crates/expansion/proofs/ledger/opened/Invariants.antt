@@ -1,5 +1,5 @@
 -- `ledger::opened`: the entries passed are those of the weights and the shares.
-use Prim.Native.Nat.{ℕ, ◌-◌, ◌≤◌, ◌<◌}
+use Prim.Native.Nat.{ℕ, ◌<◌}
 use mathlib.Core.Path.{◌≡◌}
 use lib.ListN.{length, get_or}
 use Rattle.numerals.specs.Limits.{most_known, unit}
@@ -8,9 +8,5 @@ use Rattle.expansion.proofs.ledger.opened.Given as goal
 
 abbrev pub invariant-loop-b : goal.invariant-loop-b
 invariant-loop-b l =
-    (l.b ≤ length l.weights)
-    × ((length l.ledger.at ≡ most_known)
-    × ((i : ℕ) → i < l.b → entry_at l.ledger i ≡ entry_of unit l.k (get_or l.weights i 0) (get_or l.shares i 0)))
-
-abbrev pub decreases-loop-b : goal.decreases-loop-b
-decreases-loop-b l = length l.weights - l.b
+    (length l.ledger.at ≡ most_known)
+    × ((i : ℕ) → i < l.b → entry_at l.ledger i ≡ entry_of unit l.k (get_or l.weights i 0) (get_or l.shares i 0))

@@ -8,22 +8,21 @@ use lib.Signed.{mag, lt_z}
 use mir.Syntax.{w64}
 use mir.Val.{to_z, of_z}
 use Rattle.expansion.specs.Inner.Ledger.{over, under, Small, error_at}
-use Rattle.expansion.specs.declared.ledger.Extreme.{Extreme}
 use Rattle.numerals.proofs.Sums.{sum-none, sum-next, sum-most}
 use Rattle.expansion.proofs.Signed.{over-mag, mag-neg, above, below-zero, back, small-read}
 use Rattle.expansion.proofs.Surveys.{top, top-none, top-raised, top-zero, top-largest}
 use Rattle.expansion.proofs.ledger.survey_of.Goals as goal
 use Rattle.expansion.proofs.ledger.survey_of.Goals.{then-e-gt0, else-e-gt0}
-use Rattle.expansion.proofs.ledger.survey_of.Goals.{After-struct_told-1}
+use Rattle.expansion.proofs.ledger.survey_of.Goals.{In-loop-b}
 
 pub loop-b-init : goal.loop-b-init
 loop-b-init c =
     let excess : ℕ → ℕ = λ i. over (error_at c.args.ledger i) in
     let shortfall : ℕ → ℕ = λ i. under (error_at c.args.ledger i) in
-    (omega arith, sym (top-none excess), sym (top-none shortfall), sym (sum-none excess))
+    (sym (top-none excess), sym (top-none shortfall), sym (sum-none excess))
 
 -- the error of this turn, small, and as the machine has it
-module _ (c : After-struct_told-1) where
+module _ (c : In-loop-b) where
   abbrev b : ℕ
   b = c.loop-b.b
 
@@ -57,71 +56,37 @@ module _ (c : After-struct_told-1) where
   negated : to_z w64 (of_z w64 (pos 0 -ℤ to_z w64 (of_z w64 e))) ≡ neg_ℤ e
   negated = rw (read, +ℤ_idl (neg_ℤ e)) (back (neg_ℤ e) neg-few)
 
-pub overflow_cast-imbalance : goal.overflow_cast-imbalance
-overflow_cast-imbalance c =
-    rw (read (goal.at.overflow_cast-imbalance c).After-struct_told-1 ∙ is-above (goal.at.overflow_cast-imbalance c).After-struct_told-1 c.if-e-gt0.true) (
-      tt,
-      record {
-        fits = omega (
-          arith,
-          few (goal.at.overflow_cast-imbalance c).After-struct_told-1
-              (b (goal.at.overflow_cast-imbalance c).After-struct_told-1) (omega arith),
-        );
-      },
-    )
-
 pub overflow_add-imbalance : goal.overflow_add-imbalance
 overflow_add-imbalance c =
-    rw (read (goal.at.overflow_add-imbalance c).After-struct_told-1 ∙ is-above (goal.at.overflow_add-imbalance c).After-struct_told-1 c.if-e-gt0.true)
+    rw (read (goal.at.overflow_add-imbalance c).In-loop-b ∙ is-above (goal.at.overflow_add-imbalance c).In-loop-b c.if-e-gt0.true)
     (record {
       fits = omega (
         arith,
-        few (goal.at.overflow_add-imbalance c).After-struct_told-1 (b (goal.at.overflow_add-imbalance c).After-struct_told-1) (omega arith),
-        sum-most (b (goal.at.overflow_add-imbalance c).After-struct_told-1) (excess (goal.at.overflow_add-imbalance c).After-struct_told-1) (2 ^ 50)
-            (λ i m. few (goal.at.overflow_add-imbalance c).After-struct_told-1 i (omega arith)),
+        few (goal.at.overflow_add-imbalance c).In-loop-b (b (goal.at.overflow_add-imbalance c).In-loop-b) (omega arith),
+        sum-most (b (goal.at.overflow_add-imbalance c).In-loop-b) (excess (goal.at.overflow_add-imbalance c).In-loop-b) (2 ^ 50)
+            (λ i m. few (goal.at.overflow_add-imbalance c).In-loop-b i (omega arith)),
       );
     })
-
--- a size so far is no negative number
-natural : (f : ℕ → ℕ) (n : ℕ) (x : Extreme) → x ≡ top f n → x.size ≡ pos (over x.size)
-natural f n x e = rw e
-
-pub raised-give-requires : goal.raised-give-requires
-raised-give-requires c =
-    natural (excess (goal.at.raised-give-requires c).After-struct_told-1) (b (goal.at.raised-give-requires c).After-struct_told-1) c.loop-b.give
-    c.loop-b.invariant.1
-
-pub overflow_sub-e : goal.overflow_sub-e
-overflow_sub-e c =
-    rw (read (goal.at.overflow_sub-e c).After-struct_told-1, +ℤ_idl (neg_ℤ (e (goal.at.overflow_sub-e c).After-struct_told-1)))
-    (record { sfits = neg-few (goal.at.overflow_sub-e c).After-struct_told-1 })
-
-pub raised-take-requires : goal.raised-take-requires
-raised-take-requires c =
-    natural (shortfall (goal.at.raised-take-requires c).After-struct_told-1) (b (goal.at.raised-take-requires c).After-struct_told-1) c.loop-b.take
-    c.loop-b.invariant.2
 
 pub loop-b-preserved : goal.loop-b-preserved
 loop-b-preserved c =
     let inv = c.loop-b.invariant in
-    let more = sum-next (b (goal.at.loop-b-preserved c).After-struct_told-1) (excess (goal.at.loop-b-preserved c).After-struct_told-1) in
+    let more = sum-next (b (goal.at.loop-b-preserved c).In-loop-b) (excess (goal.at.loop-b-preserved c).In-loop-b) in
     elim c.if-e-gt0.branch [
-      | then-e-gt0 w ↦ let h = is-above (goal.at.loop-b-preserved c).After-struct_told-1 w.if-e-gt0.true in (
-        omega arith,
-        w.give-is ∙ top-raised (excess (goal.at.loop-b-preserved c).After-struct_told-1) (b (goal.at.loop-b-preserved c).After-struct_told-1) c.loop-b.give
-            w.raised-give.result (to_z w64 (of_z w64 (e (goal.at.loop-b-preserved c).After-struct_told-1))) inv.1
-            (read (goal.at.loop-b-preserved c).After-struct_told-1 ∙ h) w.raised-give.ensures,
-        w.take-is ∙ inv.2 ∙ sym (top-zero (shortfall (goal.at.loop-b-preserved c).After-struct_told-1) (b (goal.at.loop-b-preserved c).After-struct_told-1)
+      | then-e-gt0 w ↦ let h = is-above (goal.at.loop-b-preserved c).In-loop-b w.if-e-gt0.true in (
+        w.give-is ∙ top-raised (excess (goal.at.loop-b-preserved c).In-loop-b) (b (goal.at.loop-b-preserved c).In-loop-b) c.loop-b.give
+            w.raised-give.result (to_z w64 (of_z w64 (e (goal.at.loop-b-preserved c).In-loop-b))) inv.0
+            (read (goal.at.loop-b-preserved c).In-loop-b ∙ h) w.raised-give.ensures,
+        w.take-is ∙ inv.1 ∙ sym (top-zero (shortfall (goal.at.loop-b-preserved c).In-loop-b) (b (goal.at.loop-b-preserved c).In-loop-b)
             (ap under h)),
-        omega (arith, w.imbalance-is, inv.3, more, ap nat_abs (read (goal.at.loop-b-preserved c).After-struct_told-1 ∙ h)),
+        omega (arith, w.imbalance-is, inv.2, more, ap nat_abs (read (goal.at.loop-b-preserved c).In-loop-b ∙ h)),
       )
-      | else-e-gt0 w ↦ let h = is_below (goal.at.loop-b-preserved c).After-struct_told-1 w.if-e-gt0.false in (
-        omega arith,
-        w.give-is ∙ inv.1 ∙ sym (top-zero (excess (goal.at.loop-b-preserved c).After-struct_told-1) (b (goal.at.loop-b-preserved c).After-struct_told-1) h.0),
-        w.take-is ∙ top-raised (shortfall (goal.at.loop-b-preserved c).After-struct_told-1) (b (goal.at.loop-b-preserved c).After-struct_told-1) c.loop-b.take
-            w.raised-take.result (to_z w64 (of_z w64 (pos 0 -ℤ to_z w64 (of_z w64 (e (goal.at.loop-b-preserved c).After-struct_told-1))))) inv.2
-            (negated (goal.at.loop-b-preserved c).After-struct_told-1 ∙ h.1) w.raised-take.ensures,
-        omega (arith, w.imbalance-is, inv.3, more, h.0),
+      | else-e-gt0 w ↦ let h = is_below (goal.at.loop-b-preserved c).In-loop-b w.if-e-gt0.false in (
+        w.give-is ∙ inv.0 ∙ sym (top-zero (excess (goal.at.loop-b-preserved c).In-loop-b) (b (goal.at.loop-b-preserved c).In-loop-b) h.0),
+        w.take-is ∙ top-raised (shortfall (goal.at.loop-b-preserved c).In-loop-b) (b (goal.at.loop-b-preserved c).In-loop-b) c.loop-b.take
+            w.raised-take.result (to_z w64 (of_z w64 (pos 0 -ℤ to_z w64 (of_z w64 (e (goal.at.loop-b-preserved c).In-loop-b))))) inv.1
+            (negated (goal.at.loop-b-preserved c).In-loop-b ∙ h.1) w.raised-take.ensures,
+        omega (arith, w.imbalance-is, inv.2, more, h.0),
       )
     ]
 
@@ -132,7 +97,7 @@ returns c =
     let inv = c.loop-b.invariant in
     let e : c.loop-b.b ≡ n = omega arith in
     record {
-      give = inv.1 ∙ ap (top (λ i. over (error_at L i))) e ∙ top-largest L n false c.requires.n_nonzero.0;
-      take = inv.2 ∙ ap (top (λ i. under (error_at L i))) e ∙ top-largest L n true c.requires.n_nonzero.0;
-      imbalance = inv.3 ∙ rw e;
+      give = inv.0 ∙ ap (top (λ i. over (error_at L i))) e ∙ top-largest L n false c.requires.n_nonzero.0;
+      take = inv.1 ∙ ap (top (λ i. under (error_at L i))) e ∙ top-largest L n true c.requires.n_nonzero.0;
+      imbalance = inv.2 ∙ rw e;
     }

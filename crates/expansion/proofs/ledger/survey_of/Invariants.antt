@@ -1,5 +1,4 @@
 -- `ledger::survey_of`: the extremes so far are those of the backends passed, and the sum is that of their excesses, each of them small.
-use Prim.Native.Nat.{◌-◌, ◌≤◌}
 use mathlib.Core.Path.{◌≡◌}
 use Rattle.numerals.specs.Sums.{sum_to}
 use Rattle.expansion.specs.Inner.Ledger.{over, under, error_at}
@@ -8,10 +7,6 @@ use Rattle.expansion.proofs.ledger.survey_of.Given as goal
 
 abbrev pub invariant-loop-b : goal.invariant-loop-b
 invariant-loop-b l =
-    (l.b ≤ l.n)
-    × (l.give ≡ top (λ i. over (error_at l.ledger i)) l.b)
+    (l.give ≡ top (λ i. over (error_at l.ledger i)) l.b)
     × (l.take ≡ top (λ i. under (error_at l.ledger i)) l.b)
     × (l.imbalance ≡ sum_to l.b (λ i. over (error_at l.ledger i)))
-
-abbrev pub decreases-loop-b : goal.decreases-loop-b
-decreases-loop-b l = l.n - l.b

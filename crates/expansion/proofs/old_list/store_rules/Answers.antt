@@ -1,8 +1,7 @@
 -- `old_list::store_rules` meets its contract. The loop's invariant: the stores of all rules are those of the n - i that are left.
 use Prim.Native.Nat.{suc, ◌+◌, ◌-◌, ◌*◌}
-use mathlib.Core.Path.{◌≡◌, refl, sym, ◌∙◌}
+use mathlib.Core.Path.{◌≡◌, sym, ◌∙◌}
 use native.Mathlib.Omega.{arith}
-use lib.ListN.{length-set}
 use Rattle.expansion.specs.OldList.{numbers_of}
 use Rattle.expansion.specs.Inner.Lists.{newest_first}
 use Rattle.expansion.proofs.OldNumbers.{sets-rule}
@@ -12,13 +11,7 @@ pub loop-i-init : goal.loop-i-init
 loop-i-init c =
     let n = c.args.list.count in
     let all : n - 0 ≡ n = omega arith in
-    (omega arith, refl, rw all)
-
-pub bounds-out-at-in-loop-i : goal.bounds-out-at-in-loop-i
-bounds-out-at-in-loop-i c = simp length-set (omega arith)
-
-pub bounds-out-at-in-loop-i-2 : goal.bounds-out-at-in-loop-i-2
-bounds-out-at-in-loop-i-2 c = simp length-set (omega arith)
+    rw all
 
 pub loop-i-preserved : goal.loop-i-preserved
 loop-i-preserved c =
@@ -26,11 +19,8 @@ loop-i-preserved c =
     let t = c.args.list in
     let here : t.count - l.i ≡ suc (t.count - 1 - l.i) = omega arith in
     let next : t.count - (l.i + 1) ≡ t.count - 1 - l.i = omega arith in
-    let at : 3 * (l.i + 1) ≡ 3 * l.i + 3 = omega arith in (
-      omega arith,
-      simp length-set l.invariant.1,
-      rw (next, at) (rw here at l.invariant.2 ∙ sets-rule t.rules (t.count - 1 - l.i) (3 * l.i) l.out),
-    )
+    let at : 3 * (l.i + 1) ≡ 3 * l.i + 3 = omega arith in
+    rw (next, at) (rw here at l.invariant ∙ sets-rule t.rules (t.count - 1 - l.i) (3 * l.i) l.out)
 
 pub returns : goal.returns
 unfolding newest_first numbers_of
@@ -38,4 +28,4 @@ returns c =
     let l = c.loop-i in
     let t = c.args.list in
     let none : t.count - l.i ≡ 0 = omega arith in
-    sym (rw none at l.invariant.2)
+    sym (rw none at l.invariant)

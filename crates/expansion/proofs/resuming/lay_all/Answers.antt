@@ -54,9 +54,6 @@ loop-i-init c =
     c.args.shares.now list.rules _
     (ap (λ (l : RuleList). length l.rules) is ∙ length-replicate most_rules star, length-replicate {A = ℕ} most_rules 0) c.requires.held first
 
-pub overflow_sub-n-in-loop-i : goal.overflow_sub-n-in-loop-i
-overflow_sub-n-in-loop-i c = omega (arith, some (goal.at.overflow_sub-n-in-loop-i c).Start)
-
 -- the next rule
 module _ (q : After-rule_at-rule) where
   abbrev i : ℕ
@@ -101,23 +98,11 @@ lay-requires c =
       );
     }
 
-pub offset_bounds-had-i : goal.offset_bounds-had-i
-offset_bounds-had-i c = omega (arith, few-i (goal.at.offset_bounds-had-i c).After-rule_at-rule)
-
 pub bounds-had-i : goal.bounds-had-i
 bounds-had-i c = omega (arith, few-i (goal.at.bounds-had-i c).After-rule_at-rule, c.loop-i.invariant.long.1)
 
-pub offset_bounds-list-i : goal.offset_bounds-list-i
-offset_bounds-list-i c = omega (arith, few-i (goal.at.offset_bounds-list-i c).After-rule_at-rule)
-
 pub bounds-list-i : goal.bounds-list-i
 bounds-list-i c = omega (arith, few-i (goal.at.bounds-list-i c).After-rule_at-rule, c.loop-i.invariant.long.0)
-
-pub overflow_add-i : goal.overflow_add-i
-overflow_add-i c = omega (arith, few-i (goal.at.overflow_add-i c).After-rule_at-rule)
-
-pub loop-i-smaller : goal.loop-i-smaller
-loop-i-smaller c = omega (arith, c.loop-i-test.true)
 
 pub loop-i-preserved : goal.loop-i-preserved
 loop-i-preserved c =

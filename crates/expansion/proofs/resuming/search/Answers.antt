@@ -1,30 +1,34 @@
 -- `resuming::search` meets its contract. The loop's invariant: of the numbers above that of the rules that are laid, the best is kept.
 use Prim.Native.Nat.{ℕ, suc, ◌-◌, ◌/◌, ◌≤◌, ◌<◌}
+use mathlib.Core.Bool.{true, false}
 use mathlib.Core.List.{List, ◌∷◌}
-use mathlib.Core.Logic.{◌≢◌}
-use mathlib.Core.Path.{◌≡◌, ap, sym, ◌∙◌, subst}
+use mathlib.Core.Path.{◌≡◌, refl, ap, sym, ◌∙◌, subst}
 use native.Mathlib.Omega.{arith}
 use lib.ListN.{length, get_or}
 use lib.Seq.{take-length}
-use Rattle.numerals.specs.Limits.{most_bits, most_known, most_rules}
-use Rattle.numerals.specs.Suffix.{Places}
+use Rattle.numerals.specs.Limits.{most_known}
 use Rattle.numerals.proofs.Powers.{shifted}
+use Rattle.std.specs.Prelude.{Option, None, Some}
+use Rattle.expansion.specs.Imbalance.{Targets}
 use Rattle.expansion.specs.OldList.{rules_from}
+use Rattle.expansion.specs.Resume.{frame_from, frame_kept}
+use Rattle.expansion.specs.Inner.Resume.{Tried, is_lower}
 use Rattle.expansion.specs.Steps.{oldest}
 use Rattle.expansion.specs.Inner.Known.{place_in, Ascending}
-use Rattle.expansion.specs.Inner.Laying.{Placed, Held, Had, LaidTo, Starts}
-use Rattle.expansion.specs.Inner.Lists.{no_rule}
+use Rattle.expansion.specs.Inner.Laying.{Placed, Held, Had, LaidTo}
+use Rattle.expansion.specs.Inner.Lists.{no_rule, newest_first}
 use Rattle.expansion.specs.Inner.OldList.{rule_at, Known, Proper}
 use Rattle.expansion.specs.Inner.Run.{labelled_by, Valid}
 use Rattle.expansion.specs.declared.rule.Rule.{Rule}
 use Rattle.expansion.specs.declared.resuming.Attempt.{Attempt}
-use Rattle.expansion.proofs.KeptBest.{BestAbove, best-taken, best-stays, found_all, found-free}
+use Rattle.expansion.proofs.KeptBest.{BestAbove, best-passes, best-taken, best-stays, found_all, found-free}
 use Rattle.expansion.proofs.KeptSearch.{Searched, held_first, next_known, newest-is, newest-held, laid-less}
 use Rattle.expansion.proofs.KeptSearch.{searched-none, starts-at, tried_here}
 use Rattle.expansion.proofs.LaidRules.{placed}
 use Rattle.expansion.proofs.OldNumbers.{rules-count}
 use Rattle.expansion.proofs.resuming.search.Goals as goal
-use Rattle.expansion.proofs.resuming.search.Goals.{After-place_of-first, After-rule_at-star, At-loop-best, Joined-is_better, Start, then-is_better, else-is_better}
+use Rattle.expansion.proofs.resuming.search.Goals.{After-place_of-first, After-rule_at-star, At-loop-left, Start}
+use Rattle.expansion.proofs.resuming.search.Goals.{in-Some+then-is_better+else-churn-eq0, in-Some+else-is_better, in_default}
 
 module _ (s : Start) where
   abbrev ws : List ℕ
@@ -109,204 +113,148 @@ lay_all-laid-requires c =
           (star-placed (goal.at.lay_all-laid-requires c).After-place_of-first));
     }
 
-pub loop-best-init : goal.loop-best-init
-loop-best-init c =
-    searched-none c.args.k c.args.tolerance (ids (goal.at.loop-best-init c).Start) (ws (goal.at.loop-best-init c).Start) (cs (goal.at.loop-best-init c).Start)
-    (proper (goal.at.loop-best-init c).Start) c.lay_all-laid.new.holder c.lay_all-laid.new.shares c.lay_all-laid.result.list
-    c.lay_all-laid.result.had c.lay_all-laid.ensures.count c.lay_all-laid.ensures.laid c.none_of-best.result c.none_of-best.ensures
+pub loop-left-init : goal.loop-left-init
+loop-left-init c =
+    let s = (goal.at.loop-left-init c).Start in
+    let laid = c.lay_all-laid in (
+      omega (arith, laid.ensures.count, rules-count (cs s)),
+      searched-none c.args.k c.args.tolerance (ids s) (ws s) (cs s) (proper s) laid.new.holder laid.new.shares laid.result.list laid.result.had
+          laid.ensures.count laid.ensures.laid,
+    )
 
 -- where the loop has come to
-module _ (l : At-loop-best) where
+module _ (l : At-loop-left) where
+  abbrev s : Start
+  s = (goal.at.At-loop-left l).Start
+
+  abbrev R : List Rule
+  R = rules_from (cs s)
+
+  abbrev T : Targets
+  T = labelled_by s.args.k (ids s) (ws s)
+
+  abbrev count : ℕ
+  count = l.loop-left.list.count
+
   abbrev had : List ℕ
   had = l.lay_all-laid.result.had
 
-  abbrev whole : List ℕ
-  whole = l.lay_all-laid.new.holder
+  abbrev here : Searched s.args.k s.args.tolerance (ids s) (ws s) (cs s) l.lay_all-laid.new.holder l.loop-left.holder l.loop-left.shares l.loop-left.list had
+      l.loop-left.best
+  here = l.loop-left.invariant.1
 
-  abbrev here :
-      Searched l.args.k l.args.tolerance (ids (goal.at.At-loop-best l).Start) (ws (goal.at.At-loop-best l).Start) (cs (goal.at.At-loop-best l).Start) whole
-      l.loop-best.holder l.loop-best.shares l.loop-best.list had
-      l.loop-best.best
-  here = l.loop-best.invariant
-
-  starting : Starts l.args.k l.args.tolerance (ids (goal.at.At-loop-best l).Start) (ws (goal.at.At-loop-best l).Start) l.loop-best.list l.loop-best.holder
-      l.loop-best.shares (length (cs (goal.at.At-loop-best l).Start) / 3)
-  starting =
-      starts-at l.args.k l.args.tolerance (ids (goal.at.At-loop-best l).Start) (ws (goal.at.At-loop-best l).Start) (cs (goal.at.At-loop-best l).Start)
-      (valid (goal.at.At-loop-best l).Start) (proper (goal.at.At-loop-best l).Start) l.loop-best.holder l.loop-best.shares
-      l.loop-best.list had here.laid
-
-  abbrev places-are : Places most_bits l.all_places-places.result
-  places-are = l.all_places-places.ensures
-
-  few : l.loop-best.list.count ≤ most_rules
-  few = omega (arith, here.laid.inside, (proper (goal.at.At-loop-best l).Start).few)
-
-pub slice_bounds-try_kept-end : goal.slice_bounds-try_kept-end
-slice_bounds-try_kept-end c = sym (here (goal.at.slice_bounds-try_kept-end c).At-loop-best).full.1.wide
-
-pub slice_bounds-try_kept-end-in-loop-best : goal.slice_bounds-try_kept-end-in-loop-best
-slice_bounds-try_kept-end-in-loop-best c = sym (here (goal.at.slice_bounds-try_kept-end-in-loop-best c).At-loop-best).laid.held.long
-
-pub try_kept-tried-requires : goal.try_kept-tried-requires
-try_kept-tried-requires c =
-    record {
-      starts = (starting (goal.at.try_kept-tried-requires c).At-loop-best, places-are (goal.at.try_kept-tried-requires c).At-loop-best);
-      whole_len = (here (goal.at.try_kept-tried-requires c).At-loop-best).full.1.wide;
-    }
-
-pub overflow_sub-left : goal.overflow_sub-left
-overflow_sub-left c = (here (goal.at.overflow_sub-left c).At-loop-best).laid.some
+pub try_kept-tried-requires-clause-starts : goal.try_kept-tried-requires-clause-starts
+try_kept-tried-requires-clause-starts c =
+    let l = (goal.at.try_kept-tried-requires-clause-starts c).At-loop-left in
+    let s = (goal.at.At-loop-left l).Start in (
+      starts-at s.args.k s.args.tolerance (ids s) (ws s) (cs s) (valid s) (proper s) c.loop-left.holder c.loop-left.shares c.loop-left.list (had l)
+          (here l).laid,
+      c.all_places-places.ensures,
+    )
 
 -- the best with the try that was made
-module _ (b : Joined-is_better) where
-  abbrev Next : Attempt → Type 0
-  Next =
-      BestAbove (labelled_by b.args.k (ids (goal.at.Joined-is_better b).Start) (ws (goal.at.Joined-is_better b).Start)) b.args.tolerance
-      (rules_from (cs (goal.at.Joined-is_better b).Start)) (b.loop-best.list.count - 1)
+module _ (l : At-loop-left) where
+  abbrev Told : Option Attempt → Type 0
+  Told tried = (old : List Rule) (held : List ℕ) → Held l.args.k (ids (s l)) old l.lay_all-laid.new.holder held
+      → Tried (frame_from (T l) l.args.tolerance (newest_first l.loop-left.list.rules (count l))) (length (cs (s l)) / 3) (count l) old tried
 
-  best-now : Next b.if-is_better.best
-  best-now =
-      let l = b.loop-best in
-      let T = labelled_by b.args.k (ids (goal.at.Joined-is_better b).Start) (ws (goal.at.Joined-is_better b).Start) in
-      let R = rules_from (cs (goal.at.Joined-is_better b).Start) in
-      let t = b.try_kept-tried in
-      let laid = (here (goal.at.Joined-is_better b).At-loop-best).laid in
-      let M = tried_here b.args.k b.args.tolerance (ids (goal.at.Joined-is_better b).Start) (ws (goal.at.Joined-is_better b).Start)
-      (cs (goal.at.Joined-is_better b).Start) (valid (goal.at.Joined-is_better b).Start) (proper (goal.at.Joined-is_better b).Start) l.holder l.shares
-      l.list (had (goal.at.Joined-is_better b).At-loop-best) laid
-      t.result (t.ensures R (here (goal.at.Joined-is_better b).At-loop-best).full.0 (here (goal.at.Joined-is_better b).At-loop-best).full.1) in
-      let j = b.is_better in
-      elim b.if-is_better.branch [
-        | then-is_better w ↦ subst Next (sym w.best-is)
-            (best-taken T b.args.tolerance R l.list.count laid.some laid.inside l.best t.result (here (goal.at.Joined-is_better b).At-loop-best).above M
-            j.result j.ensures w.if-is_better.true)
-        | else-is_better w ↦ subst Next (sym w.best-is)
-            (best-stays T b.args.tolerance R l.list.count laid.some laid.inside l.best t.result (here (goal.at.Joined-is_better b).At-loop-best).above M
-            j.result j.ensures w.if-is_better.false)
-      ]
+  abbrev Next : Option Attempt → Type 0
+  Next = BestAbove (T l) l.args.tolerance (R l) (count l - 1)
 
-pub returns-then-best-eq0 : goal.returns-then-best-eq0
-returns-then-best-eq0 c =
-    let s = (goal.at.returns-then-best-eq0 c).Start in
-    found-free (labelled_by s.args.k (ids s) (ws s)) s.args.tolerance (rules_from (cs s)) (c.loop-best.list.count - 1) c.if-is_better.best
-    (best-now (goal.at.returns-then-best-eq0 c).Joined-is_better) c.if-best-gt0.true c.if-best-eq0.true
+  told : (tried : Option Attempt) → Told tried → Tried (frame_kept (T l) l.args.tolerance (R l) (count l)) (length (R l)) (count l) (R l) tried
+  told tried M =
+      tried_here l.args.k l.args.tolerance (ids (s l)) (ws (s l)) (cs (s l)) (valid (s l)) (proper (s l)) l.loop-left.holder l.loop-left.shares
+      l.loop-left.list (had l) (here l).laid tried (M (R l) (here l).full.0 (here l).full.1)
+
+  taken : (tried : Attempt) → Told (Some tried) → is_lower tried.churn l.loop-left.best ≡ true → Next (Some tried)
+  taken tried M =
+      best-taken (T l) l.args.tolerance (R l) (count l) (here l).laid.some (here l).laid.inside l.loop-left.best (here l).above tried (told (Some tried) M)
+
+  stays : (tried : Attempt) → Told (Some tried) → is_lower tried.churn l.loop-left.best ≡ false → Next l.loop-left.best
+  stays tried M =
+      best-stays (T l) l.args.tolerance (R l) (count l) (here l).laid.some (here l).laid.inside l.loop-left.best (here l).above tried (told (Some tried) M)
+
+  passes : Told None → Next l.loop-left.best
+  passes M = best-passes (T l) l.args.tolerance (R l) (count l) (here l).laid.some (here l).laid.inside l.loop-left.best (here l).above (told None M)
+
+pub returns-then-churn-eq0 : goal.returns-then-churn-eq0
+returns-then-churn-eq0 c =
+    let l = (goal.at.returns-then-churn-eq0 c).At-loop-left in
+    found-free (T l) c.args.tolerance (R l) (count l - 1) c.in-Some.tried (taken l c.in-Some.tried c.in-Some.ensures (sym c.if-is_better.ensures))
+    c.if-churn-eq0.true
 
 pub returns-then-left-eq0 : goal.returns-then-left-eq0
 returns-then-left-eq0 c =
-    let s = (goal.at.returns-then-left-eq0 c).Start in
-    found_all (labelled_by s.args.k (ids s) (ws s)) s.args.tolerance (rules_from (cs s)) (c.loop-best.list.count - 1) c.if-is_better.best
-    (best-now (goal.at.returns-then-left-eq0 c).Joined-is_better) c.if-left-eq0.true
-
-pub offset_bounds-list-left : goal.offset_bounds-list-left
-offset_bounds-list-left c = omega (arith, few (goal.at.offset_bounds-list-left c).At-loop-best)
-
-pub bounds-list-left : goal.bounds-list-left
-bounds-list-left c = omega (
-  arith,
-  few (goal.at.bounds-list-left c).At-loop-best,
-  (here (goal.at.bounds-list-left c).At-loop-best).laid.some,
-  (here (goal.at.bounds-list-left c).At-loop-best).laid.long.0,
-)
-
-pub slice_bounds-take_back-end : goal.slice_bounds-take_back-end
-slice_bounds-take_back-end c = sym (here (goal.at.slice_bounds-take_back-end c).At-loop-best).laid.held.wide
-
-pub slice_bounds-take_back-end-in-loop-best : goal.slice_bounds-take_back-end-in-loop-best
-slice_bounds-take_back-end-in-loop-best c = sym (here (goal.at.slice_bounds-take_back-end-in-loop-best c).At-loop-best).laid.held.long
-
-pub slice_bounds-take_back-end-in-loop-best-2 : goal.slice_bounds-take_back-end-in-loop-best-2
-slice_bounds-take_back-end-in-loop-best-2 c = sym (places-are (goal.at.slice_bounds-take_back-end-in-loop-best-2 c).At-loop-best).long
-
-pub offset_bounds-had-left : goal.offset_bounds-had-left
-offset_bounds-had-left c = omega (arith, few (goal.at.offset_bounds-had-left c).At-loop-best)
-
-pub bounds-had-left : goal.bounds-had-left
-bounds-had-left c =
-    omega (
-      arith,
-      few (goal.at.bounds-had-left c).At-loop-best,
-      (here (goal.at.bounds-had-left c).At-loop-best).laid.some,
-      (here (goal.at.bounds-had-left c).At-loop-best).laid.long.1,
-    )
+    let l = (goal.at.returns-then-left-eq0 c).At-loop-left in
+    let next : Next l c.match-tried.best =
+    elim c.match-tried.branch [
+      | in-Some+then-is_better+else-churn-eq0 w ↦
+          subst (Next l) (sym w.best-is) (taken l w.in-Some.tried w.in-Some.ensures (sym w.if-is_better.ensures))
+      | in-Some+else-is_better w ↦ subst (Next l) (sym w.best-is) (stays l w.in-Some.tried w.in-Some.ensures (sym w.if-is_better.ensures))
+      | in_default w ↦ subst (Next l) (sym w.best-is) (passes l w.in_default.ensures)
+    ] in
+    found_all (T l) c.args.tolerance (R l) (count l - 1) c.match-tried.best next (omega (arith, c.loop-left.invariant.0, c.if-left-eq0.true))
 
 -- a rule that is taken back, where another is left
-module _ (l : At-loop-best) (more : l.loop-best.list.count - 1 ≢ 0) where
-  abbrev i : ℕ
-  i = l.loop-best.list.count - 1
-
-  abbrev s : Start
-  s = (goal.at.At-loop-best l).Start
-
-  abbrev laid-rules : List Rule
-  laid-rules = l.loop-best.list.rules
+module _ (l : At-loop-left) (i : ℕ) (is-next : count l ≡ suc i) (some : 1 ≤ i) where
+  abbrev newest : Rule
+  newest = get_or l.loop-left.list.rules i no_rule
 
   abbrev rs : List Rule
-  rs = oldest i (rules_from (cs s))
+  rs = oldest i (R l)
 
-  is-next : l.loop-best.list.count ≡ suc i
-  is-next = omega (arith, (here l).laid.some)
+  laid : LaidTo l.args.k (ids (s l)) (R l) (suc i) l.loop-left.holder l.loop-left.shares l.loop-left.list.rules (had l)
+  laid = subst (λ (n : ℕ). LaidTo l.args.k (ids (s l)) (R l) n l.loop-left.holder l.loop-left.shares l.loop-left.list.rules (had l)) is-next (here l).laid
 
-  laid : LaidTo s.args.k (ids s) (rules_from (cs s)) (suc i) l.loop-best.holder l.loop-best.shares laid-rules (had l)
-  laid = subst (λ (n : ℕ). LaidTo s.args.k (ids s) (rules_from (cs s)) n l.loop-best.holder l.loop-best.shares laid-rules (had l)) is-next (here l).laid
-
-  newest-known : Known s.args.k (ids s) (get_or laid-rules i no_rule)
+  newest-known : Known l.args.k (ids (s l)) newest
   newest-known =
-      subst (Known s.args.k (ids s))
-      (sym (newest-is s.args.k (ids s) (cs s) (proper s) i l.loop-best.holder l.loop-best.shares laid-rules (had l) l.loop-best.holder l.loop-best.shares laid))
-      (next_known s.args.k (ids s) (cs s) (proper s) i laid.inside)
+      subst (Known l.args.k (ids (s l)))
+      (sym (newest-is l.args.k (ids (s l)) (cs (s l)) (proper (s l)) i l.loop-left.holder l.loop-left.shares l.loop-left.list.rules (had l)
+      l.loop-left.holder l.loop-left.shares laid))
+      (next_known l.args.k (ids (s l)) (cs (s l)) (proper (s l)) i laid.inside)
 
-  held : Held s.args.k (ids s) (get_or laid-rules i no_rule ∷ rs) l.loop-best.holder l.loop-best.shares
+  held : Held l.args.k (ids (s l)) (newest ∷ rs) l.loop-left.holder l.loop-left.shares
   held =
-      newest-held s.args.k (ids s) (cs s) (proper s) i l.loop-best.holder l.loop-best.shares laid-rules (had l) l.loop-best.holder l.loop-best.shares
-      laid
+      newest-held l.args.k (ids (s l)) (cs (s l)) (proper (s l)) i l.loop-left.holder l.loop-left.shares l.loop-left.list.rules (had l)
+      l.loop-left.holder l.loop-left.shares laid
 
-  some : 1 ≤ i
-  some = omega (arith, more)
-
-  before : Had s.args.k (ids s) rs (get_or laid-rules i no_rule) (get_or (had l) i 0)
+  before : Had l.args.k (ids (s l)) rs newest (get_or (had l) i 0)
   before = laid.before i some (omega arith)
 
 pub take_back-requires : goal.take_back-requires
 take_back-requires c =
-    let more = c.if-left-eq0.false in
+    let l = (goal.at.take_back-requires c).At-loop-left in
+    let i = c.loop-left.left - 1 in
+    let some : 1 ≤ i = omega (arith, c.if-left-eq0.false) in
+    let is-next : count l ≡ suc i = omega (arith, c.loop-left.invariant.0) in
     record {
-      by_index = (
-        ids (goal.at.take_back-requires c).Start,
-        rs (goal.at.take_back-requires c).At-loop-best more,
-        (
-          ascending (goal.at.take_back-requires c).Start,
-          (
-            held (goal.at.take_back-requires c).At-loop-best more,
-            before
-                (goal.at.take_back-requires c).At-loop-best more,
-          ),
-        ),
-      );
-      k_le_most_bits = (
-        (valid (goal.at.take_back-requires c).Start).few_bits,
-        ((newest-known (goal.at.take_back-requires c).At-loop-best more).rule, places-are (goal.at.take_back-requires c).At-loop-best),
-      );
+      by_index = (ids (s l), rs l i is-next some, (ascending (s l), (held l i is-next some, before l i is-next some)));
+      k_le_most_bits = ((valid (s l)).few_bits, ((newest-known l i is-next some).rule, c.all_places-places.ensures));
     }
 
-pub loop-best-smaller : goal.loop-best-smaller
-loop-best-smaller c =
-    omega (arith, (here (goal.at.loop-best-smaller c).At-loop-best).laid.some)
-
-pub loop-best-preserved : goal.loop-best-preserved
-loop-best-preserved c =
-    let more = c.if-left-eq0.false in
-    let o = c.loop-best in
-    let s = (goal.at.loop-best-preserved c).Start in
+pub loop-left-preserved : goal.loop-left-preserved
+loop-left-preserved c =
+    let l = (goal.at.loop-left-preserved c).At-loop-left in
+    let i = c.loop-left.left - 1 in
+    let some : 1 ≤ i = omega (arith, c.if-left-eq0.false) in
+    let is-next : count l ≡ suc i = omega (arith, c.loop-left.invariant.0) in
+    let one-less : count l - 1 ≡ i = omega (arith, is-next) in
+    let next : Next l c.match-tried.best =
+    elim c.match-tried.branch [
+      | in-Some+then-is_better+else-churn-eq0 w ↦
+          subst (Next l) (sym w.best-is) (taken l w.in-Some.tried w.in-Some.ensures (sym w.if-is_better.ensures))
+      | in-Some+else-is_better w ↦ subst (Next l) (sym w.best-is) (stays l w.in-Some.tried w.in-Some.ensures (sym w.if-is_better.ensures))
+      | in_default w ↦ subst (Next l) (sym w.best-is) (passes l w.in_default.ensures)
+    ] in
     let h' = c.take_back.new.holder in
     let s' = c.take_back.new.shares in
-    let less = c.take_back.ensures (ids s) (rs (goal.at.loop-best-preserved c).At-loop-best more) (ascending s)
-    (held (goal.at.loop-best-preserved c).At-loop-best more) (before (goal.at.loop-best-preserved c).At-loop-best more) in
-    record {
-      laid =
-          laid-less s.args.k (ids s) (cs s) (proper s) (o.list.count - 1) o.holder o.shares o.list.rules (had (goal.at.loop-best-preserved c).At-loop-best) h'
-          s' (laid (goal.at.loop-best-preserved c).At-loop-best more)
-          (some (goal.at.loop-best-preserved c).At-loop-best more) less;
-      full = (here (goal.at.loop-best-preserved c).At-loop-best).full;
-      above = best-now (goal.at.loop-best-preserved c).Joined-is_better;
-    }
+    let less = c.take_back.ensures (ids (s l)) (rs l i is-next some) (ascending (s l)) (held l i is-next some) (before l i is-next some) in (
+      refl,
+      record {
+        laid =
+            laid-less l.args.k (ids (s l)) (cs (s l)) (proper (s l)) i l.loop-left.holder l.loop-left.shares l.loop-left.list.rules (had l) h' s'
+            (laid l i is-next some) some less;
+        full = (here l).full;
+        above = subst (λ (n : ℕ). BestAbove (T l) l.args.tolerance (R l) n c.match-tried.best) one-less next;
+      },
+    )

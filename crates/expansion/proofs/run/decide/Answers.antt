@@ -23,7 +23,7 @@ use Rattle.numerals.proofs.Powers.{shifted}
 use Rattle.expansion.proofs.Reduction.{reduction-le}
 use Rattle.expansion.proofs.Signed.{back, plain, wants-few}
 use Rattle.expansion.proofs.run.decide.Goals as goal
-use Rattle.expansion.proofs.run.decide.Goals.{After-best_term-term, Start, then-o-slack+else-u-slack, else-o-slack}
+use Rattle.expansion.proofs.run.decide.Goals.{After-best_term-term, Start, else-o-slack-via-then-o-slack+else-u-slack, else-o-slack-via-else-o-slack}
 
 -- a size as the machine has it
 read : (e : Extreme) → Sized e → to_z w64 (of_z w64 e.size) ≡ pos (over e.size)
@@ -88,11 +88,13 @@ module _ (c : After-best_term-term) where
   not_within : both (leb (o (goal.at.After-best_term-term c).Start) (slack (goal.at.After-best_term-term c).Start))
       (leb (u (goal.at.After-best_term-term c).Start) (slack (goal.at.After-best_term-term c).Start)) ≡ false
   not_within =
-      elim c.if-o-slack.branch [
-        | then-o-slack+else-u-slack w ↦ ap (λ (t : Bool). both (leb (o (goal.at.After-best_term-term c).Start) (slack (goal.at.After-best_term-term c).Start))
+      elim c.else-o-slack.branch [
+        | else-o-slack-via-then-o-slack+else-u-slack w ↦
+            ap (λ (t : Bool). both (leb (o (goal.at.After-best_term-term c).Start) (slack (goal.at.After-best_term-term c).Start))
             t) (sym (u-test (goal.at.After-best_term-term c).Start) ∙ w.if-u-slack.false) ∙ none
             (leb (o (goal.at.After-best_term-term c).Start) (slack (goal.at.After-best_term-term c).Start))
-        | else-o-slack w ↦ ap (λ (t : Bool). both t (leb (u (goal.at.After-best_term-term c).Start) (slack (goal.at.After-best_term-term c).Start)))
+        | else-o-slack-via-else-o-slack w ↦
+            ap (λ (t : Bool). both t (leb (u (goal.at.After-best_term-term c).Start) (slack (goal.at.After-best_term-term c).Start)))
             (sym (o-test (goal.at.After-best_term-term c).Start) ∙ w.if-o-slack.false)
       ]
     where

@@ -3,14 +3,14 @@ use Prim.Native.Nat.{ℕ, ◌+◌, ◌≤◌, ◌<◌}
 use mathlib.Core.Path.{◌≡◌, sym, ap, ◌∙◌}
 use native.Mathlib.Numerals.{add-one}
 use native.Mathlib.Omega.{arith}
-use lib.ListN.{length, get_or}
+use lib.ListN.{get_or}
 use Rattle.numerals.specs.Sums.{argmax}
 use Rattle.numerals.proofs.Searches.{argmax-one, argmax-higher, argmax-kept}
 use Rattle.expansion.proofs.run.heaviest.Goals as goal
 use Rattle.expansion.proofs.run.heaviest.Goals.{then-weights-best, else-weights-best}
 
 pub loop-b-init : goal.loop-b-init
-loop-b-init c = (omega arith, omega arith, omega arith, sym (argmax-one _))
+loop-b-init c = (omega arith, sym (argmax-one _))
 
 -- one weight more
 taken : (f : ℕ → ℕ) (best b : ℕ) → best ≡ argmax f b → f best < f b → b ≡ argmax f (b + 1)
@@ -24,13 +24,6 @@ loop-b-preserved c =
     let l = c.loop-b in
     let at : ℕ → ℕ = λ j. get_or c.args.weights.now j 0 in
     elim c.if-weights-best.branch [
-      | then-weights-best w ↦ (omega arith, omega arith, omega arith, w.best-is ∙ taken at l.best l.b l.invariant.3 w.if-weights-best.true)
-      | else-weights-best w ↦ (omega arith, omega arith, omega arith, w.best-is ∙ kept at l.best l.b l.invariant.3 w.if-weights-best.false)
+      | then-weights-best w ↦ (omega arith, w.best-is ∙ taken at l.best l.b l.invariant.1 w.if-weights-best.true)
+      | else-weights-best w ↦ (omega arith, w.best-is ∙ kept at l.best l.b l.invariant.1 w.if-weights-best.false)
     ]
-
-pub returns : goal.returns
-returns c =
-    let a = c.args in
-    let l = c.loop-b in
-    let all : l.b ≡ length a.weights.now = omega arith in
-    l.invariant.3 ∙ ap (argmax (λ j. get_or a.weights.now j 0)) all

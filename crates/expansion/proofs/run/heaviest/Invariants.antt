@@ -1,13 +1,10 @@
 -- `run::heaviest` meets its contract. The loop's invariant: `best` is the place of the greatest of the first b weights.
-use Prim.Native.Nat.{◌-◌, ◌≤◌, ◌<◌}
+use Prim.Native.Nat.{◌<◌}
 use mathlib.Core.Path.{◌≡◌}
-use lib.ListN.{length, get_or}
+use lib.ListN.{get_or}
 use Rattle.numerals.specs.Sums.{argmax}
 use Rattle.expansion.proofs.run.heaviest.Given as goal
 
 abbrev pub invariant-loop-b : goal.invariant-loop-b
 invariant-loop-b l =
-    (1 ≤ l.b) × (l.b ≤ length l.weights) × (l.best < l.b) × (l.best ≡ argmax (λ j. get_or l.weights j 0) l.b)
-
-abbrev pub decreases-loop-b : goal.decreases-loop-b
-decreases-loop-b l = length l.weights - l.b
+    (l.best < l.b) × (l.best ≡ argmax (λ j. get_or l.weights j 0) l.b)

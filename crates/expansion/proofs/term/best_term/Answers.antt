@@ -11,49 +11,18 @@ use lib.Signed.{le_z}
 use mir.Facts.{to_z-of_z}
 use mir.Syntax.{w64}
 use mir.Val.{to_z, of_z}
-use borrow.Author.Rules.{rules}
 use borrow.Author.Tests.{leb-true, leb-false}
 use Rattle.numerals.specs.Limits.{unit}
 use Rattle.expansion.specs.Steps.{reduction}
 use Rattle.expansion.specs.Inner.Ledger.{over}
 use Rattle.expansion.specs.Inner.Terms.{Best}
-use Rattle.numerals.proofs.Powers.{pow-few, shifted}
+use Rattle.numerals.proofs.Powers.{pow-few}
 use Rattle.expansion.proofs.Reduction.{reduction-term}
-use Rattle.numerals.proofs.Searches.{Led, led-start, led-higher, led-kept, led-end}
+use Rattle.numerals.proofs.Searches.{Led, led-higher, led-kept, led-end}
 use Rattle.expansion.proofs.Signed.{back, parts-few, term-read}
 use Rattle.expansion.proofs.term.best_term.Goals as goal
 use Rattle.expansion.proofs.term.best_term.Invariants.{gain}
 use Rattle.expansion.proofs.term.best_term.Goals.{After-reduction-r, Joined-least-r, Start, then-least-r, else-least-r}
-
-pub loop-left-init : goal.loop-left-init
-loop-left-init c =
-    (omega arith, led-start (gain (to_z w64 (of_z w64 c.args.u)) (to_z w64 (of_z w64 c.args.o))) c.args.cap _ (omega arith), refl)
-
-pub overflow_mul-t : goal.overflow_mul-t
-overflow_mul-t c =
-    let i = c.loop-left.left - 1 in
-    rw (shifted i (omega arith)) (record { fits = omega (arith, pow-few i (omega arith)) })
-
-pub overflow_cast-t : goal.overflow_cast-t
-overflow_cast-t c =
-    let i = c.loop-left.left - 1 in
-    rw (shifted i (omega arith)) (record { sfits = omega (arith, pow-few i (omega arith)) })
-
-pub reduction-r-requires : goal.reduction-r-requires
-unfolding unit
-reduction-r-requires c =
-    let i = c.loop-left.left - 1 in
-    let t = term-read i (omega arith) in
-    record {
-      u_value = (search rules, (search rules, rw t));
-      small = rw t (record { small = omega (arith, parts-few (2 ^ i) unit (pow-few i (omega arith)) (omega arith)) });
-    }
-
-pub is_enough-requires : goal.is_enough-requires
-unfolding unit
-is_enough-requires c =
-    let i = c.loop-left.left - 1 in
-    (search rules, (search rules, rw (term-read i (omega arith))))
 
 -- the gain of each term, small, and what the search comes to
 module _ (s : Start) where
@@ -81,10 +50,10 @@ module _ (s : Start) where
 -- this turn's gain as the machine has it
 module _ (c : After-reduction-r) where
   abbrev i : ℕ
-  i = c.loop-left.left - 1
+  i = c.loop-i.i - 1
 
   abbrev now : ℤ
-  now = to_z w64 c.loop-left.best-bits
+  now = to_z w64 c.loop-i.best-bits
 
   abbrev best : ℕ
   best = over now
@@ -92,11 +61,11 @@ module _ (c : After-reduction-r) where
   abbrev r : ℤ
   r = c.reduction-r.result
 
-  led : Led (each (goal.at.After-reduction-r c).Start) c.args.cap c.loop-left.left c.loop-left.index best
-  led = c.loop-left.invariant.1
+  led : Led (each (goal.at.After-reduction-r c).Start) c.args.cap c.loop-i.i c.loop-i.index best
+  led = c.loop-i.invariant.0
 
   now-is : now ≡ pos best
-  now-is = c.loop-left.invariant.2
+  now-is = c.loop-i.invariant.1
 
   is-each : r ≡ pos (each (goal.at.After-reduction-r c).Start i)
   unfolding unit
@@ -106,7 +75,7 @@ module _ (c : After-reduction-r) where
       (term-read i (omega arith))
 
   best-few : best < 2 ^ 50
-  best-few = omega (arith, led.low, few (goal.at.After-reduction-r c).Start c.loop-left.index led.inside)
+  best-few = omega (arith, led.low, few (goal.at.After-reduction-r c).Start c.loop-i.index led.inside)
 
 -- the test of a gain that is n above the best so far
 module _ (c : After-reduction-r) (n : ℕ) where
@@ -137,29 +106,29 @@ module _ (c : Joined-least-r) where
 
   led_on : Led (each (goal.at.Joined-least-r c).Start) c.args.cap (i a) c.if-least-r.index (over left_best) × (left_best ≡ pos (over left_best))
   led_on =
-      let l = c.loop-left in
+      let l = c.loop-i in
       let f = each (goal.at.Joined-least-r c).Start in
       let cap = c.args.cap in
       elim c.if-least-r.branch [
         | then-least-r w ↦
             let more = reached a _ w.if-least-r.true (lit≤ tt) in
             let e : left_best ≡ pos (each (goal.at.Joined-least-r c).Start (i a)) = w.best-is ∙ back (r a) c.reduction-r.type_inv ∙ is-each a in
-            rw (w.index-is, e) (led-higher f cap l.left l.index (best a) (led a) (i a) (omega arith) (omega arith) (omega (arith, more)), refl)
+            rw (w.index-is, e) (led-higher f cap l.i l.index (best a) (led a) (i a) (omega arith) (omega arith) (omega (arith, more)), refl)
         | else-least-r w ↦
             let less = missed a _ w.if-least-r.false (lit≤ tt) in
             let e : left_best ≡ pos (best a) = w.best-is ∙ now-is a in
-            rw (w.index-is, e) (led-kept f cap l.left l.index (best a) (led a) (i a) (omega arith) (omega (arith, less)), refl)
+            rw (w.index-is, e) (led-kept f cap l.i l.index (best a) (led a) (i a) (omega arith) (omega (arith, less)), refl)
       ]
 
-pub loop-left-preserved : goal.loop-left-preserved
-loop-left-preserved c =
-    let L = led_on (goal.at.loop-left-preserved c).Joined-least-r in
-    (omega arith, L.0, L.1)
+pub loop-i-preserved : goal.loop-i-preserved
+loop-i-preserved c =
+    let L = led_on (goal.at.loop-i-preserved c).Joined-least-r in
+    (L.0, L.1)
 
-pub returns-after-loop-left : goal.returns-after-loop-left
-returns-after-loop-left c =
-    let l = c.loop-left in
-    ends (goal.at.returns-after-loop-left c).Start l.left l.index (to_z w64 l.best-bits) l.invariant.2 l.invariant.1 (λ j m. absurd (omega arith))
+pub returns-after-loop-i : goal.returns-after-loop-i
+returns-after-loop-i c =
+    let l = c.loop-i in
+    ends (goal.at.returns-after-loop-i c).Start l.i l.index (to_z w64 l.best-bits) l.invariant.1 l.invariant.0 (λ j m. absurd (omega arith))
 
 -- a term that is enough: none below it gains more
 pub returns-then-is_enough : goal.returns-then-is_enough

@@ -20,10 +20,10 @@ pub returns-then-t-u : goal.returns-then-t-u
 returns-then-t-u c t s l =
     let a = c.args in
     reduction-enough (over a.u) (over a.o) s (over a.t)
-    (inl (below a.t a.u c.requires.1.1 c.requires.0 (rw (to_z-of_z c.ranges.t, to_z-of_z c.ranges.u) at c.if-t-u.true))) l
+    (inl (below a.t a.u c.requires.1.1 c.requires.0 (rw (to_z-of_z c.ranges.t, to_z-of_z c.ranges.u) at t))) l
 
-pub returns : goal.returns
-returns c t s l =
+pub returns-else-t-u : goal.returns-else-t-u
+returns-else-t-u c t s l =
     let a = c.args in
     reduction-enough (over a.u) (over a.o) s (over a.t)
     (inr (below a.t a.o c.requires.1.1 c.requires.1.0 (rw (to_z-of_z c.ranges.t, to_z-of_z c.ranges.o) at t))) l

@@ -1,17 +1,29 @@
 -- `term::reduction`: twice a difference of naturals, or 0 where that is below zero.
-use Prim.Native.Nat.{ℕ, ◌+◌, ◌-◌, ◌*◌, ◌^◌, ◌≤◌, ◌<◌, min}
-use mathlib.Core.Path.{◌≡◌, ap, sym, ◌∙◌}
+use Prim.Native.Nat.{ℕ, zero, suc, ◌+◌, ◌-◌, ◌*◌, ◌^◌, ◌≤◌, ◌<◌, min}
+use mathlib.Core.Path.{◌≡◌, ap, refl, ◌∙◌}
 use native.Mathlib.Omega.{arith}
-use lib.IntN.{ℤ, pos, sub_ℕ, ◌+ℤ◌, ◌-ℤ◌, ◌*ℤ◌}
-use lib.Signed.{mag, lt_z}
+use lib.IntN.{ℤ, pos, negsuc, sub_ℕ, ◌+ℤ◌, ◌-ℤ◌, ◌*ℤ◌}
+use lib.Signed.{mag}
 use mir.Syntax.{w64}
 use mir.Facts.{to_z-of_z}
 use mir.Val.{to_z, of_z}
+use borrow.Author.Tests.{lt-ltb}
+use Rattle.std.specs.Int.{int_min, int_max}
+use Rattle.std.proofs.lemmas.Bool.Decides.{nat_tests}
 use Rattle.expansion.specs.Steps.{reduction}
 use Rattle.expansion.specs.Inner.Ledger.{over}
-use Rattle.expansion.proofs.Signed.{over-mag, pos-less, mag-sub, mag-sides, over-sub, under-sub, over-twice, under_twice, negative, positive, back}
+use Rattle.expansion.proofs.Signed.{over-mag, pos-less, mag-sub, mag-sides, over-sub, under-sub, over-twice, under_twice, back}
 use Rattle.expansion.proofs.term.reduction.Goals as goal
-use Rattle.expansion.proofs.term.reduction.Goals.{After-smaller-2}
+use Rattle.expansion.proofs.term.reduction.Goals.{After-min-2}
+
+-- the smaller of two naturals, and a number or 0 where it is below
+least : (m n : ℕ) → int_min (pos m) (pos n) ≡ pos (min m n)
+least m n = grind (arith, nat_tests)
+
+most : (z : ℤ) → int_max z (pos 0) ≡ pos (over z)
+most (pos zero) = refl
+most (pos (suc n)) = simp (lt-ltb 0 (suc n) (omega arith))
+most (negsuc n) = refl
 
 -- the steps of the code, as the machine has them
 abbrev sum : ℤ → ℤ → ℤ
@@ -49,7 +61,7 @@ module _ (x y z : ℤ) (a b n : ℕ) (p : x ≡ pos a) (q : y ≡ pos b) (r : z 
   twice-over = rw twice-is (omega (arith, over-twice (sub_ℕ (a + b) n), over-sub (a + b) n))
 
 -- the two smaller numbers and the term, as naturals
-module _ (c : After-smaller-2) where
+module _ (c : After-min-2) where
   abbrev u : ℕ
   u = over c.args.u
 
@@ -62,17 +74,17 @@ module _ (c : After-smaller-2) where
   few : t < 2 ^ 50
   few = omega (arith, over-mag c.args.t, c.requires.small.small)
 
-  u-is : c.smaller.result ≡ pos (min u t)
-  u-is = c.smaller.ensures ∙ rw (to_z-of_z c.ranges.u, to_z-of_z c.ranges.t)
+  u-is : c.min.result ≡ pos (min u t)
+  u-is = c.min.ensures.value ∙ rw (to_z-of_z c.ranges.u, to_z-of_z c.ranges.t, c.requires.u_value.0, c.requires.u_value.1.1) (least u t)
 
-  o_is : c.smaller-2.result ≡ pos (min o t)
-  o_is = c.smaller-2.ensures ∙ rw (to_z-of_z c.ranges.o, to_z-of_z c.ranges.t)
+  o_is : c.min-2.result ≡ pos (min o t)
+  o_is = c.min-2.ensures.value ∙ rw (to_z-of_z c.ranges.o, to_z-of_z c.ranges.t, c.requires.u_value.1.0, c.requires.u_value.1.1) (least o t)
 
   abbrev x : ℤ
-  x = c.smaller.result
+  x = c.min.result
 
   abbrev y : ℤ
-  y = c.smaller-2.result
+  y = c.min-2.result
 
   abbrev z : ℤ
   z = c.args.t
@@ -93,27 +105,11 @@ module _ (c : After-smaller-2) where
   read : to_z w64 (of_z w64 (twice x y z)) ≡ twice x y z
   read = back (twice x y z) (omega (arith, is-few))
 
-pub overflow_add-twice : goal.overflow_add-twice
-overflow_add-twice c = record { sfits = omega (arith, ap mag (sum-here c), few c) }
-
-pub overflow_sub-twice : goal.overflow_sub-twice
-overflow_sub-twice c =
-    record { sfits = omega (arith, ap mag (rest-here c), mag-sub (min (u c) (t c) + min (o c) (t c)) (t c), few c) }
-
 pub overflow_mul-twice : goal.overflow_mul-twice
 overflow_mul-twice c = record { sfits = omega (arith, is-few c) }
 
-pub returns-then-twice-lt0 : goal.returns-then-twice-lt0
-returns-then-twice-lt0 c =
-    let v = twice (x (goal.at.returns-then-twice-lt0 c).After-smaller-2) (y (goal.at.returns-then-twice-lt0 c).After-smaller-2)
-    (z (goal.at.returns-then-twice-lt0 c).After-smaller-2) in
-    ap pos (sym (negative v (ap (λ (w : ℤ). lt_z w (pos 0)) (sym (read (goal.at.returns-then-twice-lt0 c).After-smaller-2)) ∙ c.if-twice-lt0.true)) ∙ is-over
-    (goal.at.returns-then-twice-lt0 c).After-smaller-2)
-
-pub returns-else-twice-lt0 : goal.returns-else-twice-lt0
-returns-else-twice-lt0 c =
-    let v = twice (x (goal.at.returns-else-twice-lt0 c).After-smaller-2) (y (goal.at.returns-else-twice-lt0 c).After-smaller-2)
-    (z (goal.at.returns-else-twice-lt0 c).After-smaller-2) in
-    read (goal.at.returns-else-twice-lt0 c).After-smaller-2 ∙ positive v (ap (λ (w : ℤ). lt_z w (pos 0))
-    (sym (read (goal.at.returns-else-twice-lt0 c).After-smaller-2)) ∙ c.if-twice-lt0.false) ∙ ap pos
-    (is-over (goal.at.returns-else-twice-lt0 c).After-smaller-2)
+pub returns : goal.returns
+returns c =
+    let d = (goal.at.returns c).After-min-2 in
+    back c.max.result c.max.type_inv ∙ c.max.ensures.value ∙ ap (λ (w : ℤ). int_max w (pos 0)) (read d) ∙ most (twice (x d) (y d) (z d))
+    ∙ ap pos (is-over d)

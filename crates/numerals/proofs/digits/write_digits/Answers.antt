@@ -3,9 +3,9 @@
 use Prim.Native.Nat.{ℕ, suc, ◌+◌, ◌-◌, ◌≤◌, ◌%◌, ◌/◌, ◌<◌}
 use native.Mathlib.Nat.{mod-lt, mod-eq_of_lt}
 use native.Mathlib.Omega.{arith}
-use mathlib.Core.Path.{◌≡◌, refl, sym, ap, ◌∙◌}
+use mathlib.Core.Path.{◌≡◌, sym, ap, ◌∙◌}
 use mathlib.Core.List.{List}
-use lib.ListN.{set, length-set}
+use lib.ListN.{set}
 use lib.Seq.{sets}
 use Rattle.numerals.specs.Digits.{lowest}
 use Rattle.numerals.proofs.Base.{write-next}
@@ -15,7 +15,7 @@ pub loop-i-init : goal.loop-i-init
 loop-i-init c =
     let a = c.args in
     let whole : a.len ≡ a.at + a.len - a.at = omega arith in
-    (omega arith, omega arith, refl, ap (λ (l : ℕ). sets a.out.now a.at (lowest a.base l a.n)) whole)
+    (omega arith, ap (λ (l : ℕ). sets a.out.now a.at (lowest a.base l a.n)) whole)
 
 -- one store more: the digit is below 10, so that `% 10` leaves it as it is
 turn :
@@ -33,12 +33,8 @@ turn base at i n out one ten h =
 pub loop-i-preserved : goal.loop-i-preserved
 loop-i-preserved c =
     let a = c.args in
-    let l = c.loop-i in (
-      omega arith,
-      omega arith,
-      simp length-set l.invariant.2,
-      l.invariant.3 ∙ turn a.base a.at l.i l.rest l.out (omega arith) (omega arith) (omega arith),
-    )
+    let l = c.loop-i in
+    (omega arith, l.invariant.1 ∙ turn a.base a.at l.i l.rest l.out (omega arith) (omega arith) (omega arith))
 
 -- no digit is left
 done : (l : ℕ) (out : List ℕ) (at : ℕ) → l ≡ 0 → (base n : ℕ) → sets out at (lowest base l n) ≡ out
@@ -50,4 +46,4 @@ returns c =
     let a = c.args in
     let l = c.loop-i in
     let none : l.i - a.at ≡ 0 = omega arith in
-    sym (l.invariant.3 ∙ done _ _ _ none _ _)
+    sym (l.invariant.1 ∙ done _ _ _ none _ _)

@@ -1,5 +1,6 @@
 -- `numbers::read_number` meets its contract: after the test for a leading zero the number is what the digits are read as, and its lower limit.
 -- Assumes nothing.
+use Rattle.std.specs.Prelude.{None, Some}
 use Prim.Native.Nat.{◌+◌, ◌≤◌, min}
 use native.Mathlib.Omega.{arith}
 use mathlib.Core.Path.{◌≡◌, sym, ap, ◌∙◌}
@@ -12,33 +13,32 @@ use borrow.Author.Tests.{le-leb, lt-leb}
 use Rattle.numerals.specs.Pick.{pick}
 use Rattle.numerals.specs.Digits.{on_value}
 use Rattle.numerals.specs.Decimal.{number, no_leading_zero}
-use Rattle.numerals.specs.declared.digits.Number.TheVariants.{Value, Bad}
 use Rattle.numerals.proofs.Slice.{slice-more, slice-none, slice-end}
 use Rattle.numerals.proofs.Decimal.{number_read, number-none, number-zero, lone, other-first}
 use Rattle.numerals.proofs.numbers.read_number.Goals as goal
 use Rattle.numerals.proofs.numbers.read_number.Goals.{then-s-from-eq48+else-end-from-gt1, else-s-from-eq48}
-use Rattle.numerals.proofs.numbers.read_number.Goals.{After-least-end, After-read_digits-read, Joined-s-from-eq48}
+use Rattle.numerals.proofs.numbers.read_number.Goals.{After-min-end, After-read_digits, Joined-s-from-eq48}
 
 -- the part that is read ends with the text
 part :
-    (c : After-least-end)
-    → let a = c.args in slice a.from a.to a.s.now ≡ slice a.from c.least-end.result a.s.now
-part c = let a = c.args in slice-end a.from a.to c.least-end.result a.s.now c.least-end.ensures
+    (c : After-min-end)
+    → let a = c.args in slice a.from a.to a.s.now ≡ slice a.from c.min-end.result a.s.now
+part c = let a = c.args in slice-end a.from a.to c.min-end.result a.s.now c.min-end.ensures
 
 pub returns-then-end-from : goal.returns-then-end-from
 returns-then-end-from c =
     let a = c.args in
-    let e = c.least-end.result in
+    let e = c.min-end.result in
     sym
-    (ap (number a.least a.most) (part (goal.at.returns-then-end-from c).After-least-end ∙ slice-none a.from e a.s.now (omega arith)) ∙ number-none _ _)
+    (ap (number a.least a.most) (part (goal.at.returns-then-end-from c).After-min-end ∙ slice-none a.from e a.s.now (omega arith)) ∙ number-none _ _)
 
 pub returns-then-end-from-gt1 : goal.returns-then-end-from-gt1
 returns-then-end-from-gt1 c =
     let a = c.args in
-    let e = c.least-end.result in
+    let e = c.min-end.result in
     sym
     (ap (number a.least a.most)
-    (part (goal.at.returns-then-end-from-gt1 c).After-least-end
+    (part (goal.at.returns-then-end-from-gt1 c).After-min-end
     ∙ slice-more a.from e a.s.now (omega arith) (omega arith)
     ∙ ap (λ l. get_or a.s.now a.from 0 ∷ l) (slice-more (a.from + 1) e a.s.now (omega arith) (omega arith)))
     ∙ number-zero _ _ _ _ _ c.if-s-from-eq48.true)
@@ -47,10 +47,10 @@ returns-then-end-from-gt1 c =
 clean :
     (c : Joined-s-from-eq48)
     → let a = c.args in
-    no_leading_zero (slice a.from c.least-end.result a.s.now) ≡ true
+    no_leading_zero (slice a.from c.min-end.result a.s.now) ≡ true
 clean c =
     let a = c.args in
-    let e = c.least-end.result in
+    let e = c.min-end.result in
     rw (slice-more a.from e a.s.now (omega arith) (omega arith))
     (elim c.if-s-from-eq48.branch as (λ v. no_leading_zero (get_or a.s.now a.from 0 ∷ slice (a.from + 1) e a.s.now) ≡ true) [
       | then-s-from-eq48+else-end-from-gt1 w ↦
@@ -60,24 +60,24 @@ clean c =
     ])
 
 whole :
-    (c : After-read_digits-read)
+    (c : After-read_digits)
     → let a = c.args in
     number a.least a.most (slice a.from a.to a.s.now)
-    ≡ on_value c.read_digits-read.result (λ v. pick (leb a.least v) (Value v) Bad)
+    ≡ on_value c.read_digits.result (λ v. pick (leb a.least v) (Some v) None)
 whole c =
     let a = c.args in
-    ap (number a.least a.most) (part (goal.at.After-read_digits-read c).After-least-end)
-    ∙ number_read _ _ _ (clean (goal.at.After-read_digits-read c).Joined-s-from-eq48)
-    ∙ ap (λ r. on_value r (λ v. pick (leb a.least v) (Value v) Bad)) (sym c.read_digits-read.ensures)
+    ap (number a.least a.most) (part (goal.at.After-read_digits c).After-min-end)
+    ∙ number_read _ _ _ (clean (goal.at.After-read_digits c).Joined-s-from-eq48)
+    ∙ ap (λ r. on_value r (λ v. pick (leb a.least v) (Some v) None)) (sym c.read_digits.ensures)
 
-pub returns-in_default : goal.returns-in_default
+pub returns-in_err-v : goal.returns-in_err-v
 unfolding on_value
-returns-in_default c = sym (whole (goal.at.returns-in_default c).After-read_digits-read ∙ rw c.in_default.is)
+returns-in_err-v c = sym (whole (goal.at.returns-in_err-v c).After-read_digits ∙ rw (c.in_err-v.was, c.from_residual.ensures))
 
 pub returns-then-v-least : goal.returns-then-v-least
 unfolding on_value
-returns-then-v-least c = sym (whole (goal.at.returns-then-v-least c).After-read_digits-read ∙ rw (c.in-Value.is, lt-leb _ _ c.if-v-least.true))
+returns-then-v-least c = sym (whole (goal.at.returns-then-v-least c).After-read_digits ∙ rw (c.in_ok-v.was, lt-leb _ _ c.if-v-least.true))
 
 pub returns : goal.returns
 unfolding on_value
-returns c = sym (whole (goal.at.returns c).After-read_digits-read ∙ rw (c.in-Value.is, le-leb _ _ c.if-v-least.false))
+returns c = sym (whole (goal.at.returns c).After-read_digits ∙ rw (c.in_ok-v.was, le-leb _ _ c.if-v-least.false))

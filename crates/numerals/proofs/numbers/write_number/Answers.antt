@@ -1,5 +1,6 @@
 -- `numbers::write_number` meets its contract: the text is as long as `decimal_width` says, and the digits are what `write_digits` writes.
 -- Assumes nothing.
+use Rattle.std.specs.Prelude.{Ok}
 use Prim.Native.Nat.{◌+◌}
 use native.Mathlib.Omega.{arith}
 use mathlib.Core.Path.{◌≡◌, sym, ap, ◌∙◌}
@@ -7,7 +8,6 @@ use lib.ListN.{length}
 use lib.Seq.{sets}
 use Rattle.numerals.specs.Digits.{lowest}
 use Rattle.numerals.specs.Decimal.{decimal}
-use Rattle.numerals.specs.declared.digits.Written.TheVariants.{End}
 use Rattle.numerals.proofs.Decimal.{length-decimal}
 use Rattle.numerals.proofs.Writing.{written, short}
 use Rattle.numerals.proofs.numbers.write_number.Goals as goal
@@ -40,6 +40,6 @@ returns c =
     let a = c.args in
     let w = written a.out.now a.at (decimal a.n) (omega (arith, long (goal.at.returns c).After-decimal_width-w)) in
     record {
-      answer = ap (λ l. End (a.at + l)) (sym (long (goal.at.returns c).After-decimal_width-w)) ∙ w.0;
+      answer = ap (λ l. Ok (a.at + l)) (sym (long (goal.at.returns c).After-decimal_width-w)) ∙ w.0;
       buffer = c.write_digits.ensures ∙ ap (λ l. sets a.out.now a.at (lowest 10 l a.n)) c.decimal_width-w.ensures ∙ w.1;
     }

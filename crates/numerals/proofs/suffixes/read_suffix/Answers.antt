@@ -8,9 +8,9 @@ use Rattle.numerals.specs.Limits.{most_suffixes}
 use Rattle.numerals.specs.Inner.Digits.{read_digits}
 use Rattle.numerals.specs.Suffix.{suffix}
 use Rattle.numerals.proofs.Slice.{slice-more, slice-none, slice-length, slice-end}
-use Rattle.numerals.proofs.Suffix.{suffix-none, no_bits, many-bits, no-star, too_long, on_bits, suffix-bits}
+use Rattle.numerals.proofs.SuffixTexts.{suffix-none, no_bits, many-bits, no-star, too_long, on_bits, suffix-bits}
 use Rattle.numerals.proofs.suffixes.read_suffix.Goals as goal
-use Rattle.numerals.proofs.suffixes.read_suffix.Goals.{After-read_digits-read}
+use Rattle.numerals.proofs.suffixes.read_suffix.Goals.{After-read_digits}
 
 pub returns-then-k-lt1 : goal.returns-then-k-lt1
 returns-then-k-lt1 c = sym (no_bits _ _ c.if-k-lt1.true)
@@ -39,12 +39,12 @@ returns-then-k-len c =
 
 -- the suffix is what its bits are read as
 whole :
-    (c : After-read_digits-read)
+    (c : After-read_digits)
     → let a = c.args in
     suffix a.k (slice a.from a.to a.s.now)
-    ≡ on_bits (c.least-end.result - a.from - 1) c.read_digits-read.result
+    ≡ on_bits (c.min-end.result - a.from - 1) c.read_digits.result
 whole c =
-    let least = c.least-end in
+    let least = c.min-end in
     let a = c.args in
     let bits = slice (a.from + 1) a.to a.s.now in
     let long : length bits ≡ least.result - a.from - 1 = omega (arith, slice-length (a.from + 1) a.to a.s.now) in
@@ -52,10 +52,10 @@ whole c =
     sym (slice-end (a.from + 1) a.to least.result a.s.now least.ensures) in
     ap (suffix a.k) (slice-more a.from a.to a.s.now (omega arith) (omega arith))
     ∙ suffix-bits a.k _ bits c.if-k-lt1.false c.if-k-gt-MOST_BITS.false c.if-s-from-ne42.false (omega arith)
-    ∙ ap₂ on_bits long (sym (c.read_digits-read.ensures ∙ ap (read_digits 2 (most_suffixes - 1)) same))
+    ∙ ap₂ on_bits long (sym (c.read_digits.ensures ∙ ap (read_digits 2 (most_suffixes - 1)) same))
 
-pub returns-in_default : goal.returns-in_default
-returns-in_default c = sym (whole (goal.at.returns-in_default c).After-read_digits-read ∙ rw c.in_default.is)
+pub returns-in_err-value : goal.returns-in_err-value
+returns-in_err-value c = sym (whole (goal.at.returns-in_err-value c).After-read_digits ∙ rw (c.in_err-value.was, c.from_residual.ensures))
 
 pub returns : goal.returns
-returns c = sym (whole (goal.at.returns c).After-read_digits-read ∙ rw c.in-Value.is)
+returns c = sym (whole (goal.at.returns c).After-read_digits ∙ rw c.in_ok-value.was)

@@ -1,4 +1,5 @@
 -- `suffixes::suffix_place` meets its contract: the place is read from that of twelve bits.
+use Rattle.std.specs.Prelude.{Some}
 use mathlib.Core.Path.{◌≡◌, sym, ap, ◌∙◌}
 use mathlib.Core.Bool.{true}
 use Prim.Native.Nat.{ℕ, ◌-◌, ◌/◌, ◌^◌}
@@ -7,9 +8,8 @@ use lib.Pow.{pow_mono}
 use borrow.Author.Tests.{not-true, not-false}
 use Rattle.numerals.specs.Suffix.{is_suffix, suffix_place}
 use Rattle.numerals.specs.Limits.{most_bits}
-use Rattle.numerals.specs.declared.digits.Number.TheVariants.{Value}
 use Rattle.numerals.proofs.Place.{place-first}
-use Rattle.numerals.proofs.Suffix.{Limits, suffix-limits}
+use Rattle.numerals.proofs.SuffixTexts.{Limits, suffix-limits}
 use Rattle.numerals.proofs.suffixes.suffix_place.Goals as goal
 use Rattle.numerals.proofs.suffixes.suffix_place.Goals.{Else-not-is_suffix}
 
@@ -35,5 +35,5 @@ returns c =
     let a = c.args in
     let h = limits (goal.at.returns c).Else-not-is_suffix in
     rw (passed (goal.at.returns c).Else-not-is_suffix)
-    (ap Value
+    (ap Some
     (ap (λ (x : ℕ). x / 2 ^ (most_bits - a.len)) c.place_of_twelve.ensures ∙ place-first a.len most_bits a.value h.short h.small))

@@ -1,4 +1,5 @@
 -- `suffixes::write_suffix` meets its contract: '*' and the digits that `write_digits` writes are the text, one after the other.
+use Rattle.std.specs.Prelude.{Err, Ok}
 use mathlib.Core.Path.{◌≡◌, sym, ap, ◌∙◌}
 use mathlib.Core.Bool.{true, false}
 use mathlib.Core.List.{List}
@@ -12,8 +13,7 @@ use Rattle.numerals.specs.Limits.{most_bits}
 use Rattle.numerals.specs.Refusals.{no7}
 use Rattle.numerals.specs.Digits.{lowest}
 use Rattle.numerals.specs.Suffix.{is_suffix, suffix_text, put_suffix, put_suffix_end}
-use Rattle.numerals.specs.declared.digits.Written.TheVariants.{End, Refused}
-use Rattle.numerals.proofs.Suffix.{length-suffix}
+use Rattle.numerals.proofs.SuffixTexts.{length-suffix}
 use Rattle.numerals.proofs.Writing.{written, short}
 use Rattle.numerals.proofs.suffixes.write_suffix.Goals as goal
 use Rattle.numerals.proofs.suffixes.write_suffix.Goals.{Else-not-is_suffix}
@@ -34,7 +34,7 @@ passed c = sym c.is_suffix.ensures ∙ not-false c.is_suffix.result c.if-not-is_
 -- no room: nothing is written
 too_long :
     (out : List ℕ) (at l v : ℕ) → is_suffix most_bits l v ≡ true → length out ≤ at + l
-    → (Refused no7 ≡ put_suffix_end out at l v) × (out ≡ put_suffix out at l v)
+    → (Err no7 ≡ put_suffix_end out at l v) × (out ≡ put_suffix out at l v)
 unfolding put_suffix put_suffix_end
 too_long out at l v e h =
     let s = short out at (suffix_text l v) (omega (arith, length-suffix l v)) in
@@ -66,7 +66,7 @@ returns c =
     let long : a.at + 1 + a.len ≡ a.at + length text = omega (arith, length-suffix a.len a.value) in
     let stored = written out a.at text (omega arith) in
     record {
-      answer = rw (passed (goal.at.returns c).Else-not-is_suffix) (ap End long ∙ stored.0);
+      answer = rw (passed (goal.at.returns c).Else-not-is_suffix) (ap Ok long ∙ stored.0);
       buffer = rw (passed (goal.at.returns c).Else-not-is_suffix)
           (c.write_digits.ensures
           ∙ ap (λ (i : ℕ). sets (set out a.at 42) i (lowest 2 a.len a.value)) (add-one a.at)

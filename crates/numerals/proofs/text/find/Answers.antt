@@ -16,4 +16,4 @@ loop-i-preserved c =
 pub returns : goal.returns
 returns c =
     let a = c.args in
-    omega (arith, ended a.c c.loop-i.i a.to a.s.now (omega arith))
+    grind (arith, ended a.c a.from a.to a.s.now, ended a.c c.loop-i.i a.to a.s.now)

@@ -9,10 +9,11 @@ use lib.Seq.{take_all}
 use borrow.Author.Tests.{lt-ltb, le-ltb, eq-eqb, ne_eqb}
 use Rattle.expansion.specs.Answer.{and_then, or_else}
 use Rattle.numerals.specs.declared.refusal.Refusal.TheVariants.{Malformed, NoService}
+use Rattle.numerals.proofs.Exits.{handed_on}
 use Rattle.packing.specs.Answer.{check_service, check_services}
 use Rattle.packing.proofs.Checks.{services-many, services-no-volume, services-no-size, services-failed, services-passed, services-end, service-passed}
 use Rattle.packing.proofs.check.check_services.Goals as goal
-use Rattle.packing.proofs.check.check_services.Goals.{After-check_service-checked, After-loop-s, In_default}
+use Rattle.packing.proofs.check.check_services.Goals.{After-check_service, After-loop-s, In_ok-check_service}
 
 pub loop-s-init : goal.loop-s-init
 loop-s-init c = (omega arith, omega arith, omega arith, refl)
@@ -38,28 +39,29 @@ rest at row = take_all (length row - at) (drop at row) (omega (arith, length-dro
 
 -- what one service's check found
 one :
-    (c : After-check_service-checked)
+    (c : After-check_service)
     → let a = c.args in
     let l = c.loop-s in
-    c.check_service-checked.result
+    c.check_service.result
     ≡ check_service (get_or a.volumes.now l.s 0) (get_or a.sizes.now l.s 0) (drop l.at a.ids.now) (drop l.at a.weights.now)
 one c =
     let a = c.args in
     let l = c.loop-s in
-    c.check_service-checked.ensures
+    c.check_service.ensures
     ∙ ap₂ (check_service (get_or a.volumes.now l.s 0) (get_or a.sizes.now l.s 0)) (rest l.at a.ids.now) (rest l.at a.weights.now)
 
-pub returns-in-Refused : goal.returns-in-Refused
-returns-in-Refused c =
+pub returns-in_err-check_service : goal.returns-in_err-check_service
+returns-in_err-check_service c =
     let l = c.loop-s in
-    sym
+    handed_on _ _ c.from_residual.ensures
+    ∙ sym
     (services-failed _ _ _ _ l.s l.at l.invariant.3 c.if-s-ge-MOST_SERVICES.false
     c.if-volumes-s.false c.if-sizes-s.false _
-    (sym (one (goal.at.returns-in-Refused c).After-check_service-checked) ∙ c.in-Refused.is))
+    (sym (one (goal.at.returns-in_err-check_service c).After-check_service) ∙ c.in_err-check_service.was))
 
 -- the ids and weights of a service that passed stand in their rows
 inside :
-    (c : In_default)
+    (c : In_ok-check_service)
     → let a = c.args in
     let l = c.loop-s in
     l.at + get_or a.sizes.now l.s 0 ≤ min (length a.ids.now) (length a.weights.now)
@@ -72,7 +74,7 @@ inside c =
       length-drop l.at a.ids.now,
       length-drop l.at a.weights.now,
       (service-passed (get_or a.volumes.now l.s 0) (get_or a.sizes.now l.s 0) (drop l.at a.ids.now) (drop l.at a.weights.now)
-          (sym (one (goal.at.In_default c).After-check_service-checked) ∙ c.in_default.is)).0,
+          (sym (one (goal.at.In_ok-check_service c).After-check_service) ∙ c.in_ok-check_service.was)).0,
     )
 
 pub overflow_add-at : goal.overflow_add-at
@@ -86,7 +88,7 @@ loop-s-preserved c =
       inside c,
       services-passed _ _ _ _ l.s l.at l.invariant.3 c.if-s-ge-MOST_SERVICES.false
           c.if-volumes-s.false c.if-sizes-s.false
-          (sym (one (goal.at.loop-s-preserved c).After-check_service-checked) ∙ c.in_default.is),
+          (sym (one (goal.at.loop-s-preserved c).After-check_service) ∙ c.in_ok-check_service.was),
     )
 
 -- at the loop's end every service passed

@@ -1,6 +1,6 @@
 -- `grants::all_lines` meets its contract. The loop's invariant: the number is that of the services passed, and at most `most_rules` for each.
 -- Assumes nothing.
-use Prim.Native.Nat.{◌-◌, ◌*◌, ◌≤◌}
+use Prim.Native.Nat.{◌*◌, ◌≤◌}
 use mathlib.Core.Path.{◌≡◌}
 use Rattle.numerals.specs.Limits.{most_rules}
 use Rattle.numerals.specs.Sums.{sum_to}
@@ -9,7 +9,4 @@ use Rattle.packing.proofs.grants.all_lines.Given as goal
 
 abbrev pub invariant-loop-s : goal.invariant-loop-s
 invariant-loop-s l =
-    (l.s ≤ l.n) × (l.lines ≡ sum_to l.s (stored_lines l.grants l.counts)) × (l.lines ≤ most_rules * l.s)
-
-abbrev pub decreases-loop-s : goal.decreases-loop-s
-decreases-loop-s l = l.n - l.s
+    (l.lines ≡ sum_to l.s (stored_lines l.grants l.counts)) × (l.lines ≤ most_rules * l.s)

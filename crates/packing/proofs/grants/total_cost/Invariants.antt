@@ -1,17 +1,13 @@
 -- `grants::total_cost` meets its contract. The loop's invariant: the sum is that of the services passed, and at most 2^54 for each.
 -- Assumes nothing.
-use Prim.Native.Nat.{◌-◌, ◌*◌, ◌^◌, ◌≤◌}
+use Prim.Native.Nat.{◌*◌, ◌^◌, ◌≤◌}
 use mathlib.Core.Path.{◌≡◌}
-use lib.ListN.{length, get_or}
+use lib.ListN.{get_or}
 use Rattle.numerals.specs.Sums.{sum_to}
 use Rattle.packing.specs.Inner.Stored.{stored_cost}
 use Rattle.packing.proofs.grants.total_cost.Given as goal
 
 abbrev pub invariant-loop-s : goal.invariant-loop-s
 invariant-loop-s l =
-    (l.s ≤ length l.volumes)
-    × (l.sum ≡ sum_to l.s (λ i. stored_cost l.volumes l.stairs l.counts i (get_or l.grants i 0)))
+    (l.sum ≡ sum_to l.s (λ i. stored_cost l.volumes l.stairs l.counts i (get_or l.grants i 0)))
     × (l.sum ≤ l.s * 2 ^ 54)
-
-abbrev pub decreases-loop-s : goal.decreases-loop-s
-decreases-loop-s l = length l.volumes - l.s

@@ -1,25 +1,24 @@
 -- `lists::make_lists` meets its contract. The loop's invariant: the lists of the services before s are stored, and what the rows have of service s
 -- begins at `at`.
+use Rattle.std.specs.Prelude.{Ok}
 use Prim.Native.Nat.{ℕ, ◌+◌, ◌-◌, ◌*◌, ◌^◌, ◌≤◌, ◌<◌, min}
 use mathlib.Core.List.{List}
-use mathlib.Core.Path.{◌≡◌, refl, sym, ap, ap₂, ◌∙◌}
+use mathlib.Core.Path.{◌≡◌, sym, ap, ap₂, ◌∙◌}
 use native.Mathlib.Numerals.{add-one}
 use native.Mathlib.Omega.{arith}
-use lib.ListN.{length, get_or, take, drop, length-set}
+use lib.ListN.{length, get_or, take, drop}
 use Rattle.numerals.specs.Limits.{most_services, most_rules}
 use Rattle.expansion.specs.Answer.{check_call, record_made}
-use Rattle.expansion.specs.declared.call.Checked.TheVariants.{Sound as Passed}
-use Rattle.expansion.specs.declared.call.Expanded.TheVariants.{Made}
 use Rattle.packing.specs.Table.{rule_budget}
 use Rattle.packing.specs.Inner.Lists.{stride, place_of, part}
 use Rattle.packing.proofs.Checks.{start-zero, start-suc}
 use Rattle.packing.proofs.Listing.{entries_none, made, entries-more, listed}
 use Rattle.packing.proofs.lists.make_lists.Goals as goal
-use Rattle.packing.proofs.lists.make_lists.Goals.{After-expand-made, In-loop-s}
+use Rattle.packing.proofs.lists.make_lists.Goals.{After-expand, In-loop-s}
 
 pub loop-s-init : goal.loop-s-init
 loop-s-init c =
-    (omega arith, sym (start-zero _), refl, refl, refl, refl, refl, refl, entries_none _ _ _ _ _ _ _ _ _ _ _)
+    (sym (start-zero _), entries_none _ _ _ _ _ _ _ _ _ _ _)
 
 -- the ids and weights of the service stand in their rows
 inside :
@@ -38,8 +37,7 @@ known :
     (l.s < most_services) × (l.s < min (length l.counts) (length l.ends))
 known c =
     let p = c.requires in
-    let i = c.loop-s.invariant in
-    (omega (arith, p.sized.few, c.loop-s-test.true), omega (arith, p.sizes_bound.1, c.loop-s-test.true, i.6, i.7))
+    (omega (arith, p.sized.few, c.loop-s-test.true), omega (arith, p.sizes_bound.1, c.loop-s-test.true, c.loop-s.auto.counts, c.loop-s.auto.ends))
 
 -- the row is in memory
 row :
@@ -67,7 +65,7 @@ slice_bounds-expand-end-in-loop-s c = omega (arith, inside (goal.at.slice_bounds
 
 -- the call of the expansion: its ids and weights are the service's, it passes its checks and has the room
 own :
-    (c : After-expand-made) (row : List ℕ)
+    (c : After-expand) (row : List ℕ)
     → let a = c.args in
     let l = c.loop-s in
     take (l.at + get_or a.sizes.now l.s 0 - l.at) (drop l.at row) ≡ part a.sizes.now row l.s
@@ -77,13 +75,13 @@ own c row =
     let l = c.loop-s in
     let n = get_or a.sizes.now l.s 0 in
     let long : l.at + n - l.at ≡ n = omega arith in
-    ap₂ (λ (m i : ℕ). take m (drop i row)) long l.invariant.1
+    ap₂ (λ (m i : ℕ). take m (drop i row)) long l.invariant.0
 
 passed :
-    (c : After-expand-made)
+    (c : After-expand)
     → let a = c.args in
     check_call a.k a.tolerance most_rules (part a.sizes.now a.ids.now c.loop-s.s)
-    (part a.sizes.now a.weights.now c.loop-s.s) ≡ Passed
+    (part a.sizes.now a.weights.now c.loop-s.s) ≡ Ok tt
 unfolding rule_budget
 passed c =
     c.requires.sized.sound c.loop-s.s
@@ -93,30 +91,28 @@ one_more : (s n room : ℕ) → s < n → stride * n ≤ room → place_of s 1 +
 one_more s n room l h = omega arith
 
 fits :
-    (c : After-expand-made)
+    (c : After-expand)
     → let l = c.loop-s in
     place_of l.s 1 + most_rules ≤ min (min (length l.lens) (length l.values)) (min (length l.backends) (length l.stairs))
 fits c =
     let l = c.loop-s in
-    rw (l.invariant.2, l.invariant.3, l.invariant.4, l.invariant.5)
+    rw (l.auto.lens, l.auto.values, l.auto.backends, l.auto.stairs)
     (one_more l.s _ _ c.loop-s-test.true
     c.requires.sizes_bound.0)
 
 -- so the list is made
 is_made_lem :
-    (c : After-expand-made)
+    (c : After-expand)
     → let a = c.args in
-    c.expand-made.result ≡ Made
+    c.expand.result ≡ Ok
     (record_made a.k a.tolerance most_rules (part a.sizes.now a.ids.now c.loop-s.s)
     (part a.sizes.now a.weights.now c.loop-s.s))
 is_made_lem c =
     let l = c.loop-s in
-    made _ _ _ _ _ l.s l.lens l.values l.backends l.stairs (passed c) (fits c) _ _ (own c _) (own c _) _ c.expand-made.ensures.answer
+    made _ _ _ _ _ l.s l.lens l.values l.backends l.stairs (passed c) (fits c) _ _ (own c _) (own c _) _ c.expand.ensures.answer
 
-pub returns-in_default : goal.returns-in_default
-returns-in_default c =
-    let z : ◌≡◌ {A = ℕ} 0 1 = cc (is_made_lem (goal.at.returns-in_default c).After-expand-made, c.in_default.is) in
-    absurd (omega arith)
+pub unwrap-list-requires : goal.unwrap-list-requires
+unwrap-list-requires c = rw (is_made_lem (goal.at.unwrap-list-requires c).After-expand)
 
 pub overflow_mul-stairs : goal.overflow_mul-stairs
 overflow_mul-stairs c =
@@ -128,7 +124,7 @@ offset_bounds-stairs-s c =
 
 pub bounds-stairs-s : goal.bounds-stairs-s
 bounds-stairs-s c =
-    omega (arith, c.expand-made.auto.stairs, fits (goal.at.bounds-stairs-s c).After-expand-made)
+    omega (arith, c.expand.auto.stairs, fits (goal.at.bounds-stairs-s c).After-expand)
 
 pub offset_bounds-counts-s : goal.offset_bounds-counts-s
 offset_bounds-counts-s c =
@@ -150,30 +146,19 @@ pub overflow_add-at-in-loop-s-2 : goal.overflow_add-at-in-loop-s-2
 overflow_add-at-in-loop-s-2 c =
     omega (arith, inside (goal.at.overflow_add-at-in-loop-s-2 c).In-loop-s, row (goal.at.overflow_add-at-in-loop-s-2 c).In-loop-s)
 
-pub overflow_add-s : goal.overflow_add-s
-overflow_add-s c =
-    omega (arith, known (goal.at.overflow_add-s c).In-loop-s)
-
 pub loop-s-preserved : goal.loop-s-preserved
 loop-s-preserved c =
     let l = c.loop-s in
     let a = c.args in (
-      omega arith,
       rw add-one (sym (start-suc a.sizes.now l.s c.loop-s-test.true
-          ∙ ap (λ (x : ℕ). x + get_or a.sizes.now l.s 0) (sym l.invariant.1))),
-      c.expand-made.auto.lens ∙ l.invariant.2,
-      c.expand-made.auto.values ∙ l.invariant.3,
-      c.expand-made.auto.backends ∙ l.invariant.4,
-      simp length-set (c.expand-made.auto.stairs ∙ l.invariant.5),
-      simp length-set l.invariant.6,
-      simp length-set l.invariant.7,
+          ∙ ap (λ (x : ℕ). x + get_or a.sizes.now l.s 0) (sym l.invariant.0))),
       rw c.end_number.ensures
-          (entries-more _ _ _ _ _ l.s l.lens l.values l.backends l.stairs (passed (goal.at.loop-s-preserved c).After-expand-made)
-          (fits (goal.at.loop-s-preserved c).After-expand-made) _ _ (own (goal.at.loop-s-preserved c).After-expand-made _)
-          (own (goal.at.loop-s-preserved c).After-expand-made _) _ c.expand-made.ensures.answer
-          _ c.in-Made.is l.counts l.ends
-          (known (goal.at.loop-s-preserved c).In-loop-s).1 l.invariant.8 _ _ _ _
-          c.expand-made.ensures.lens c.expand-made.ensures.values c.expand-made.ensures.backends c.expand-made.ensures.stairs),
+          (entries-more _ _ _ _ _ l.s l.lens l.values l.backends l.stairs (passed (goal.at.loop-s-preserved c).After-expand)
+          (fits (goal.at.loop-s-preserved c).After-expand) _ _ (own (goal.at.loop-s-preserved c).After-expand _)
+          (own (goal.at.loop-s-preserved c).After-expand _) _ c.expand.ensures.answer
+          _ c.unwrap-list.ensures l.counts l.ends
+          (known (goal.at.loop-s-preserved c).In-loop-s).1 l.invariant.1 _ _ _ _
+          c.expand.ensures.lens c.expand.ensures.values c.expand.ensures.backends c.expand.ensures.stairs),
     )
 
 pub returns : goal.returns
@@ -183,4 +168,4 @@ returns c =
     let all : l.s ≡ length a.sizes.now = omega arith in
     listed a.k a.tolerance a.sizes.now a.ids.now a.weights.now (length a.sizes.now) l.lens l.values l.backends
     l.stairs l.counts l.ends (omega arith) c.requires.sized
-    (rw all at l.invariant.8)
+    (rw all at l.invariant.1)

@@ -1,15 +1,10 @@
 -- `output::write_figures` meets its contract. The loop's invariant: the figures of the services passed are written.
 -- Assumes nothing.
-use Prim.Native.Nat.{◌-◌, ◌≤◌}
 use mathlib.Core.Path.{◌≡◌}
-use lib.ListN.{length}
 use lib.Seq.{sets}
 use Rattle.packing.specs.Inner.Stored.{stored_figures}
 use Rattle.packing.proofs.output.write_figures.Given as goal
 
 abbrev pub invariant-loop-s : goal.invariant-loop-s
 invariant-loop-s l =
-    (l.s ≤ l.n) × (length l.figures ≡ length l.initial.figures) × (l.figures ≡ sets l.initial.figures 0 (stored_figures l.grants l.counts l.ends l.s))
-
-abbrev pub decreases-loop-s : goal.decreases-loop-s
-decreases-loop-s l = l.n - l.s
+    (l.figures ≡ sets l.initial.figures 0 (stored_figures l.grants l.counts l.ends l.s))

@@ -11,11 +11,11 @@ use Rattle.numerals.specs.Sums.{sum_to}
 use Rattle.packing.specs.Inner.Stored.{stored_lines, stored_cells, stored_table}
 use Rattle.packing.proofs.Stores.{sum-before, table_more}
 use Rattle.packing.proofs.output.write_lines.Goals as goal
-use Rattle.packing.proofs.output.write_lines.Goals.{After-lines_of-lines}
+use Rattle.packing.proofs.output.write_lines.Goals.{After-min-lines}
 
 pub loop-s-init : goal.loop-s-init
 unfolding stored_table sum_to
-loop-s-init c = (omega arith, refl, refl, refl)
+loop-s-init c = (refl, refl)
 
 pub bounds-grants-s : goal.bounds-grants-s
 bounds-grants-s c =
@@ -26,22 +26,22 @@ bounds-counts-s c =
     omega (arith, c.requires.counted.listed)
 
 -- the lines of the service are few, and their cells fit
-low : (c : After-lines_of-lines) → c.lines_of-lines.result ≤ most_rules
+low : (c : After-min-lines) → c.min-lines.result ≤ most_rules
 low c =
     omega (
       arith,
-      c.lines_of-lines.ensures,
+      c.min-lines.ensures,
       c.requires.counted.most c.loop-s.s c.loop-s-test.true,
     )
 
 fits :
-    (c : After-lines_of-lines)
-    → c.loop-s.at + 4 * c.lines_of-lines.result
+    (c : After-min-lines)
+    → c.loop-s.at + 4 * c.min-lines.result
     ≤ length c.args.table.now
 fits c =
     omega (
       arith,
-      c.lines_of-lines.ensures,
+      c.min-lines.ensures,
       sum-before c.loop-s.s c.args.n (stored_lines c.args.grants.now c.args.counts.now)
           c.loop-s-test.true,
       c.requires.fits,
@@ -50,16 +50,16 @@ fits c =
 pub write_service-requires : goal.write_service-requires
 write_service-requires c =
     let few : c.loop-s.s < most_services = omega (arith, c.requires.counted.few) in (
-      omega (arith, fits (goal.at.write_service-requires c).After-lines_of-lines),
-      (few, low (goal.at.write_service-requires c).After-lines_of-lines),
+      omega (arith, fits (goal.at.write_service-requires c).After-min-lines),
+      (few, low (goal.at.write_service-requires c).After-min-lines),
       (c.requires.all_lens, (c.requires.all_values, c.requires.all_backends)),
     )
 
 pub overflow_mul-at : goal.overflow_mul-at
-overflow_mul-at c = omega (arith, low (goal.at.overflow_mul-at c).After-lines_of-lines)
+overflow_mul-at c = omega (arith, low (goal.at.overflow_mul-at c).After-min-lines)
 
 pub overflow_add-at : goal.overflow_add-at
-overflow_add-at c = omega (arith, fits (goal.at.overflow_add-at c).After-lines_of-lines)
+overflow_add-at c = omega (arith, fits (goal.at.overflow_add-at c).After-min-lines)
 
 pub loop-s-preserved : goal.loop-s-preserved
 unfolding sum_to
@@ -67,13 +67,11 @@ loop-s-preserved c =
     let a = c.args in
     let l = c.loop-s in
     let w = c.write_service in (
-      omega arith,
-      rw add-one (omega (arith, c.lines_of-lines.ensures)),
-      w.auto.table ∙ l.invariant.2,
+      rw add-one (omega (arith, c.min-lines.ensures)),
       table_more a.lens.now a.values.now a.backends.now a.table.now l.table w.new.table (stored_lines a.grants.now a.counts.now)
-          l.s l.at l.invariant.3 l.invariant.1
+          l.s l.at l.invariant.1 l.invariant.0
           (w.ensures ∙ ap (λ (c : ℕ). sets l.table l.at (stored_cells a.lens.now a.values.now a.backends.now l.s c))
-          c.lines_of-lines.ensures),
+          c.min-lines.ensures),
     )
 
 pub returns : goal.returns
@@ -81,6 +79,6 @@ returns c =
     let a = c.args in
     let l = c.loop-s in
     let all : l.s ≡ a.n = omega arith in
-    l.invariant.3
+    l.invariant.1
     ∙ ap (λ (n : ℕ). sets a.table.now 0
     (stored_table (stored_lines a.grants.now a.counts.now) a.lens.now a.values.now a.backends.now n)) all

@@ -1,8 +1,7 @@
 -- `output::write_lines` meets its contract. The loop's invariant: the cells of the services passed are written.
 -- Assumes nothing.
-use Prim.Native.Nat.{◌-◌, ◌*◌, ◌≤◌}
+use Prim.Native.Nat.{◌*◌}
 use mathlib.Core.Path.{◌≡◌}
-use lib.ListN.{length}
 use lib.Seq.{sets}
 use Rattle.numerals.specs.Sums.{sum_to}
 use Rattle.packing.specs.Inner.Stored.{stored_lines, stored_table}
@@ -10,10 +9,5 @@ use Rattle.packing.proofs.output.write_lines.Given as goal
 
 abbrev pub invariant-loop-s : goal.invariant-loop-s
 invariant-loop-s l =
-    (l.s ≤ l.n)
-    × (l.at ≡ 4 * sum_to l.s (stored_lines l.grants l.counts))
-    × (length l.table ≡ length l.initial.table)
+    (l.at ≡ 4 * sum_to l.s (stored_lines l.grants l.counts))
     × (l.table ≡ sets l.initial.table 0 (stored_table (stored_lines l.grants l.counts) l.lens l.values l.backends l.s))
-
-abbrev pub decreases-loop-s : goal.decreases-loop-s
-decreases-loop-s l = l.n - l.s

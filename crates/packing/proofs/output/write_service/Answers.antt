@@ -1,32 +1,35 @@
 -- `output::write_service` meets its contract. The loop's invariant: once the lines that are left are written too, the table is what it is to be.
 -- Assumes nothing.
-use mathlib.Core.Path.{refl, sym, ◌∙◌}
+use Prim.Native.Nat.{ℕ, ◌+◌, ◌-◌, ◌*◌}
+use mathlib.Core.Path.{◌≡◌, refl, sym, ap₂, ◌∙◌}
+use native.Mathlib.Numerals.{unary_clauses}
 use native.Mathlib.Omega.{arith}
 use lib.ListN.{length-set}
+use lib.Seq.{sets}
+use Rattle.packing.specs.Inner.Stored.{stored_cells}
 use Rattle.packing.proofs.Stores.{line-more, none_left}
 use Rattle.packing.proofs.output.write_service.Goals as goal
 
-pub loop-left-init : goal.loop-left-init
-loop-left-init c = (omega arith, refl, refl, refl)
+pub loop-line-init : goal.loop-line-init
+loop-line-init c = simp unary_clauses refl
 
 pub write_three-requires : goal.write_three-requires
 write_three-requires c = simp length-set (omega arith)
 
-pub loop-left-preserved : goal.loop-left-preserved
-loop-left-preserved c =
+pub loop-line-preserved : goal.loop-line-preserved
+loop-line-preserved c =
     let a = c.args in
-    let l = c.loop-left in
-    let w = c.write_three in (
-      omega arith,
-      omega arith,
-      w.auto.out ∙ simp length-set l.invariant.2,
-      l.invariant.3
-          ∙ line-more a.lens.now a.values.now a.backends.now l.table w.new.out l.i a.s l.left _
-          (omega arith) (omega arith) w.ensures,
-    )
+    let l = c.loop-line in
+    let w = c.write_three in
+    let next : a.at + 4 * l.line + 4 ≡ a.at + 4 * (l.line + 1) = omega arith in
+    let less : a.lines - l.line - 1 ≡ a.lines - (l.line + 1) = omega arith in
+    l.invariant
+    ∙ line-more a.lens.now a.values.now a.backends.now l.table w.new.out (a.at + 4 * l.line) a.s (a.lines - l.line) _
+    (omega arith) (omega arith) w.ensures
+    ∙ ap₂ (λ (i c : ℕ). sets w.new.out i (stored_cells a.lens.now a.values.now a.backends.now a.s c)) next less
 
 pub returns : goal.returns
 returns c =
     let a = c.args in
-    let l = c.loop-left in
-    sym (l.invariant.3 ∙ none_left a.lens.now a.values.now a.backends.now l.table l.i a.s l.left (omega arith))
+    let l = c.loop-line in
+    sym (l.invariant ∙ none_left a.lens.now a.values.now a.backends.now l.table _ a.s (a.lines - l.line) (omega arith))

@@ -10,7 +10,7 @@ loop-i-init c = refill-first c.requires.1 c.args.s c.args.key c.requires.0
 pub loop-i-preserved : goal.loop-i-preserved
 loop-i-preserved c =
     let l = c.loop-i in
-    rw c.greater.ensures (refill-more _ l.i l.tree l.invariant (omega arith))
+    rw c.max.ensures (refill-more _ l.i l.tree l.invariant (omega arith))
 
 pub returns : goal.returns
 returns c =

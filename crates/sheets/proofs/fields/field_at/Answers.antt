@@ -1,6 +1,6 @@
--- `fields::field_at` meets its contract. The invariant: from `at` on stand the fields behind the first i.
+-- `fields::field_at` meets its contract. The invariant: from `at` on stand the fields behind the first ones that were passed.
 use Prim.Native.Nat.{◌≤◌}
-use mathlib.Core.Path.{◌≡◌, refl, sym, ◌∙◌}
+use mathlib.Core.Path.{◌≡◌, sym, ◌∙◌}
 use native.Mathlib.Omega.{arith}
 use lib.ListN.{length, get_or-eq_default}
 use lib.Seq.{slice, slice_empty}
@@ -9,18 +9,15 @@ use Rattle.numerals.proofs.Fields.{cut-le}
 use Rattle.sheets.proofs.FieldParts.{field-here, field_next, field-last}
 use Rattle.sheets.proofs.fields.field_at.Goals as goal
 
-pub loop-i-init : goal.loop-i-init
-loop-i-init c = (omega arith, (omega arith, (omega arith, refl)))
-
 pub returns-then-to-end : goal.returns-then-to-end
 returns-then-to-end c =
     let a = c.args in
-    let l = c.loop-i in
+    let l = c.loop in
     let fs = split 32 (slice a.from a.to a.s.now) in
     let few : length fs ≤ a.n =
     omega (
       arith,
-      field-last 32 l.at a.to c.find-end.result l.i a.s.now fs (omega arith) c.find-end.ensures l.invariant.1.1.1
+      field-last 32 l.at a.to c.find-end.result l.counter a.s.now fs (omega arith) c.find-end.ensures l.invariant.1.1
           c.if-to-end.true,
     ) in
     record {
@@ -31,32 +28,28 @@ returns-then-to-end c =
       rest = λ h. absurd (omega arith);
     }
 
-pub loop-i-preserved : goal.loop-i-preserved
-loop-i-preserved c =
+pub loop-preserved : goal.loop-preserved
+loop-preserved c =
     let a = c.args in
-    let l = c.loop-i in
+    let l = c.loop in
     let fs = split 32 (slice a.from a.to a.s.now) in (
       omega arith,
       (
         omega arith,
-        (
-          omega arith,
-          field_next 32 l.at a.to c.find-end.result l.i a.s.now fs (omega arith) c.find-end.ensures l.invariant.1.1.1
-              c.if-to-end.false,
-        ),
+        field_next 32 l.at a.to c.find-end.result l.counter a.s.now fs (omega arith) c.find-end.ensures l.invariant.1.1 c.if-to-end.false,
       ),
     )
 
 pub returns : goal.returns
 returns c =
     let a = c.args in
-    let l = c.loop-i in
+    let l = c.loop in
     let fs = split 32 (slice a.from a.to a.s.now) in
-    let same : l.i ≡ a.n = omega arith in
+    let same : l.counter ≡ a.n = omega arith in
     record {
       after = omega arith;
       order = omega arith;
       within = cut-le 32 l.at a.to c.find.result a.s.now (omega arith) c.find.ensures (omega arith);
-      part = rw (sym same) (field-here 32 l.at a.to c.find.result l.i a.s.now fs (omega arith) c.find.ensures l.invariant.1.1.1);
-      rest = λ h. rw (sym same) l.invariant.1.1.1;
+      part = rw (sym same) (field-here 32 l.at a.to c.find.result l.counter a.s.now fs (omega arith) c.find.ensures l.invariant.1.1);
+      rest = λ h. rw (sym same) l.invariant.1.1;
     }

@@ -3,15 +3,16 @@ use Prim.Native.Nat.{ℕ, ◌+◌}
 use mathlib.Core.Path.{◌≡◌, refl, sym, ap, ◌∙◌}
 use mathlib.Core.List.{List}
 use native.Mathlib.Omega.{arith}
-use borrow.Author.Tests.{eq-eqb, ne_eqb, not-true, not-false}
+use borrow.Author.Tests.{eq-eqb, ne_eqb}
 use Rattle.numerals.specs.Decimal.{number}
 use Rattle.numerals.specs.Limits.{most_bits, text_limit}
+use Rattle.numerals.proofs.Exits.{handed_on, had, had_none}
 use Rattle.sheets.specs.Reading.{Reading, got, same, field, unless, on_field}
 use Rattle.sheets.specs.FirstLine.{Opening, opening_fields}
 use Rattle.sheets.specs.Inner.Fields.{lines_at, fields_at}
 use Rattle.sheets.specs.Inner.FirstLine.{read_as}
 use Rattle.sheets.proofs.first_line.read_fields.Goals as goal
-use Rattle.sheets.proofs.first_line.read_fields.Goals.{After-is_word, Else-count_fields-ne4, In-Value, In-Value-read_form, Start}
+use Rattle.sheets.proofs.first_line.read_fields.Goals.{After-is_word, Else-count_fields-ne4, In_ok-k, In_ok-x, Start}
 
 -- the fields of the line, and the lines behind it
 abbrev fields_of : Start → List (List ℕ)
@@ -40,27 +41,27 @@ four :
 unfolding opening_fields unless
 four c =
     simp (
-      word (goal.at.Else-count_fields-ne4 c).After-is_word ∙ not-false _ c.if-not-is_word.false-raw,
+      word (goal.at.Else-count_fields-ne4 c).After-is_word ∙ c.if-not-is_word.false,
       eq-eqb _ 4
           (sym c.count_fields.ensures ∙ c.if-count_fields-ne4.false),
     )
 
 bits :
-    (c : In-Value)
-    → whole (goal.at.In-Value c).Start ≡ last_two (goal.at.In-Value c).Start c.in-Value.k
+    (c : In_ok-k)
+    → whole (goal.at.In_ok-k c).Start ≡ last_two (goal.at.In_ok-k c).Start c.in_ok-k.k
 unfolding on_field
-bits c = four (goal.at.In-Value c).Else-count_fields-ne4 ∙ rw (sym c.number_in.ensures ∙ c.in-Value.is)
+bits c = four (goal.at.In_ok-k c).Else-count_fields-ne4 ∙ rw (sym c.number_in.ensures ∙ had _ _ c.ok_or.ensures.value c.in_ok-k.was)
 
 second :
-    (c : In-Value-read_form)
-    → whole (goal.at.In-Value-read_form c).Start ≡ last (goal.at.In-Value-read_form c).Start c.in-Value.k c.in-Value-read_form.x
+    (c : In_ok-x)
+    → whole (goal.at.In_ok-x c).Start ≡ last (goal.at.In_ok-x c).Start c.in_ok-k.k c.in_ok-x.x
 unfolding on_field
-second c = bits (goal.at.In-Value-read_form c).In-Value ∙ rw (sym c.read_form.ensures ∙ c.in-Value-read_form.is)
+second c = bits (goal.at.In_ok-x c).In_ok-k ∙ rw (sym c.read_form.ensures ∙ had _ _ c.ok_or-2.ensures.value c.in_ok-x.was)
 
 pub returns-then-not-is_word : goal.returns-then-not-is_word
 unfolding opening_fields unless
 returns-then-not-is_word c = rw c.refused_at.ensures (
-  simp (word (goal.at.returns-then-not-is_word c).After-is_word ∙ not-true _ c.if-not-is_word.true-raw),
+  simp (word (goal.at.returns-then-not-is_word c).After-is_word ∙ c.if-not-is_word.true),
   refl,
 )
 
@@ -69,29 +70,32 @@ unfolding opening_fields unless
 returns-then-count_fields-ne4 c =
     rw c.refused_at-then-count_fields-ne4.ensures (
       simp (
-        word (goal.at.returns-then-count_fields-ne4 c).After-is_word ∙ not-false _ c.if-not-is_word.false-raw,
+        word (goal.at.returns-then-count_fields-ne4 c).After-is_word ∙ c.if-not-is_word.false,
         ne_eqb _ 4 (λ e. c.if-count_fields-ne4.true (c.count_fields.ensures ∙ e)),
       ),
       refl,
     )
 
-pub returns-in_default : goal.returns-in_default
+pub returns-in_err-k : goal.returns-in_err-k
 unfolding on_field
-returns-in_default c =
-    rw c.refused_at-in_default.ensures
-    (four (goal.at.returns-in_default c).Else-count_fields-ne4 ∙ rw (sym c.number_in.ensures ∙ c.in_default.is), refl)
+returns-in_err-k c =
+    let n = had_none _ _ c.ok_or.ensures.value c.in_err-k.was in
+    rw (handed_on _ _ c.from_residual.ensures, n.1, c.refused_at-2.ensures)
+    (four (goal.at.returns-in_err-k c).Else-count_fields-ne4 ∙ rw (sym c.number_in.ensures ∙ n.0), refl)
 
-pub returns-in_default-read_form : goal.returns-in_default-read_form
+pub returns-in_err-x : goal.returns-in_err-x
 unfolding on_field
-returns-in_default-read_form c =
-    rw c.refused_at-in_default-read_form.ensures
-    (bits (goal.at.returns-in_default-read_form c).In-Value ∙ rw (sym c.read_form.ensures ∙ c.in_default-read_form.is), refl)
+returns-in_err-x c =
+    let n = had_none _ _ c.ok_or-2.ensures.value c.in_err-x.was in
+    rw (handed_on _ _ c.from_residual-in_err-x.ensures, n.1, c.refused_at-3.ensures)
+    (bits (goal.at.returns-in_err-x c).In_ok-k ∙ rw (sym c.read_form.ensures ∙ n.0), refl)
 
-pub returns-in_default-read_form-2 : goal.returns-in_default-read_form-2
+pub returns-in_err-y : goal.returns-in_err-y
 unfolding on_field
-returns-in_default-read_form-2 c =
-    rw c.refused_at-in_default-read_form-2.ensures
-    (second (goal.at.returns-in_default-read_form-2 c).In-Value-read_form ∙ rw (sym c.read_form-2.ensures ∙ c.in_default-read_form-2.is), refl)
+returns-in_err-y c =
+    let n = had_none _ _ c.ok_or-3.ensures.value c.in_err-y.was in
+    rw (handed_on _ _ c.from_residual-in_err-y.ensures, n.1, c.refused_at-4.ensures)
+    (second (goal.at.returns-in_err-y c).In_ok-x ∙ rw (sym c.read_form-2.ensures ∙ n.0), refl)
 
 pub overflow_add-result : goal.overflow_add-result
 unfolding text_limit
@@ -100,6 +104,6 @@ overflow_add-result c = omega arith
 pub returns : goal.returns
 unfolding on_field
 returns c = (
-  second (goal.at.returns c).In-Value-read_form ∙ rw (sym c.read_form-2.ensures ∙ c.in-Value-read_form-2.is),
+  second (goal.at.returns c).In_ok-x ∙ rw (sym c.read_form-2.ensures ∙ had _ _ c.ok_or-3.ensures.value c.in_ok-y.was),
   omega arith,
 )

@@ -3,7 +3,6 @@ use mathlib.Core.Path.{◌≡◌, sym, ◌∙◌}
 use mathlib.Core.Bool.{true}
 use native.Mathlib.Omega.{arith}
 use borrow.Author.Rules.{rules}
-use borrow.Author.Tests.{not-true, ltb-true}
 use Rattle.sheets.specs.Reading.{unless}
 use Rattle.sheets.specs.Inner.TableNumbers.{line}
 use Rattle.sheets.proofs.Following.{too_many, by_order, behind-next}
@@ -18,8 +17,8 @@ pub returns-then-n-lt-MOST_RULES : goal.returns-then-n-lt-MOST_RULES
 unfolding unless
 returns-then-n-lt-MOST_RULES c =
     λ before v b passed.
-    by_order before _ (omega (arith, ltb-true, c.if-n-lt-MOST_RULES.true-raw, passed.tallied c.args.service (search rules)))
-    ∙ rw (sym (c.in_order.ensures before v b passed.is), not-true c.in_order.result c.if-not-in_order.true-raw)
+    by_order before _ (omega (arith, passed.tallied c.args.service (search rules)))
+    ∙ rw (sym (c.in_order.ensures before v b passed.is), c.if-not-in_order.true)
 
 pub returns-then-n-ge-MOST_RULES : goal.returns-then-n-ge-MOST_RULES
 returns-then-n-ge-MOST_RULES c =

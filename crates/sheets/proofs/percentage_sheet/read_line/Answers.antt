@@ -9,6 +9,7 @@ use Rattle.numerals.specs.Limits.{decimals, unit}
 use Rattle.numerals.specs.Text.{split}
 use Rattle.numerals.proofs.Fields.{cut, cut-last, split-some}
 use Rattle.numerals.proofs.Slice.{slice-length}
+use Rattle.numerals.proofs.Exits.{handed_on}
 use Rattle.sheets.specs.Reading.{got, then}
 use Rattle.sheets.specs.PercentageSheet.{service_fields, service_lines}
 use Rattle.sheets.proofs.Steps.{lines_more, lines-open}
@@ -39,19 +40,19 @@ line c =
     ap (service_lines decimals unit a.i) (cut 10 a.start end e text (omega arith) c.find-end.ensures c.if-text-end.false)
     ∙ lines_more a.i (slice a.start e text) (split 10 (slice (e + 1) end text)) (split-some 10 (slice (e + 1) end text))
 
-pub returns-in-Refused : goal.returns-in-Refused
+pub returns-in_err-count : goal.returns-in_err-count
 unfolding then
-returns-in-Refused c =
-    let refused = rw c.in-Refused.is at c.read_service-read.ensures in
-    line (goal.at.returns-in-Refused c).Else-text-end ∙ rw refused
+returns-in_err-count c =
+    let refused = rw c.in_err-count.was at c.read_service.ensures in
+    rw (handed_on _ _ c.from_residual.ensures) (line (goal.at.returns-in_err-count c).Else-text-end ∙ rw refused)
 
-pub returns-in-Weights : goal.returns-in-Weights
+pub returns : goal.returns
 unfolding then
-returns-in-Weights c =
-    let served = rw c.in-Weights.is at c.read_service-read.ensures in
+returns c =
+    let served = rw c.in_ok-count.was at c.read_service.ensures in
     record {
       service = served.service;
-      read = rw served.read at (line (goal.at.returns-in-Weights c).Else-text-end);
+      read = rw served.read at (line (goal.at.returns c).Else-text-end);
       after = omega (arith, c.find-end.ensures);
       within = omega (arith, c.if-text-end.false);
       stored = served.stored;

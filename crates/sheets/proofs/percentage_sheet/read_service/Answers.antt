@@ -9,37 +9,38 @@ use lib.Seq.{slice, take-suc-set}
 use borrow.Author.Tests.{eq-eqb, ne_eqb}
 use Rattle.numerals.specs.Text.{split}
 use Rattle.numerals.specs.Limits.{unit}
+use Rattle.numerals.proofs.Exits.{handed_on}
 use Rattle.sheets.specs.Reading.{then, unless}
 use Rattle.sheets.specs.Inner.SheetReader.{Opened, Weighed}
 use Rattle.sheets.proofs.percentage_sheet.read_service.Goals as goal
-use Rattle.sheets.proofs.percentage_sheet.read_service.Goals.{After-field_at-first, In-Volume, In-Weights, Start}
+use Rattle.sheets.proofs.percentage_sheet.read_service.Goals.{After-field_at-first, In_ok-volume, In_ok-read, Start}
 
 -- the line's fields
 abbrev fields : Start → List (List ℕ)
 fields s = split 32 (slice s.args.from s.args.to s.args.text.now)
 
 opened :
-    (c : In-Volume)
-    → Opened c.args.i (fields (goal.at.In-Volume c).Start) c.in-Volume.volume
-opened c = rw c.in-Volume.is at c.read_volume-opened.ensures
+    (c : In_ok-volume)
+    → Opened c.args.i (fields (goal.at.In_ok-volume c).Start) c.in_ok-volume.volume
+opened c = rw c.in_ok-volume.was at c.read_volume.ensures
 
 -- the fields from the third on are the backends
 rest :
     (c : After-field_at-first)
     → split 32 (slice c.field_at-first.result.from c.args.to c.args.text.now) ≡ drop 2 (fields (goal.at.After-field_at-first c).Start)
-rest c = c.field_at-first.ensures.rest (omega (arith, (opened (goal.at.After-field_at-first c).In-Volume).some))
+rest c = c.field_at-first.ensures.rest (omega (arith, (opened (goal.at.After-field_at-first c).In_ok-volume).some))
 
-pub read_weights-read-requires : goal.read_weights-read-requires
-read_weights-read-requires c =
-    let o = opened (goal.at.read_weights-read-requires c).In-Volume in
+pub read_weights-requires : goal.read_weights-requires
+read_weights-requires c =
+    let o = opened (goal.at.read_weights-requires c).In_ok-volume in
     record {
       from_le_to = (omega arith, omega arith);
       to_len_bound = (
         omega (
           arith,
-          ap length (rest (goal.at.read_weights-read-requires c).After-field_at-first),
+          ap length (rest (goal.at.read_weights-requires c).After-field_at-first),
           length-drop 2
-              (fields (goal.at.read_weights-read-requires c).Start),
+              (fields (goal.at.read_weights-requires c).Start),
         ),
         (omega arith, omega arith),
       );
@@ -47,46 +48,46 @@ read_weights-read-requires c =
 
 -- the backends that were read
 weighed :
-    (c : In-Weights)
-    → Weighed c.args.ids.now c.read_weights-read.new.ids c.args.weights.now c.read_weights-read.new.weights c.args.at
-    (drop 2 (fields (goal.at.In-Weights c).Start)) c.in-Weights.count
-    c.in-Weights.sum
+    (c : In_ok-read)
+    → Weighed c.args.ids.now c.read_weights.new.ids c.args.weights.now c.read_weights.new.weights c.args.at
+    (drop 2 (fields (goal.at.In_ok-read c).Start)) c.in_ok-read.read.count
+    c.in_ok-read.read.sum
 weighed c =
-    rw (rest (goal.at.In-Weights c).After-field_at-first) at
-    (rw c.in-Weights.is at c.read_weights-read.ensures)
+    rw (rest (goal.at.In_ok-read c).After-field_at-first) at
+    (rw c.in_ok-read.was at c.read_weights.ensures)
 
-pub returns-then-sum-ne-UNIT : goal.returns-then-sum-ne-UNIT
+pub returns-then-read-ne-UNIT : goal.returns-then-read-ne-UNIT
 unfolding then unless unit
-returns-then-sum-ne-UNIT c =
-    let w = weighed (goal.at.returns-then-sum-ne-UNIT c).In-Weights in
-    (opened (goal.at.returns-then-sum-ne-UNIT c).In-Volume).rest
-    ∙ rw (w.read _, ne_eqb _ unit (λ e. c.if-sum-ne-UNIT.true (sym w.total ∙ e)))
+returns-then-read-ne-UNIT c =
+    let w = weighed (goal.at.returns-then-read-ne-UNIT c).In_ok-read in
+    (opened (goal.at.returns-then-read-ne-UNIT c).In_ok-volume).rest
+    ∙ rw (w.read _, ne_eqb _ unit (λ e. c.if-read-ne-UNIT.true (sym w.total ∙ e)))
 
 pub offset_bounds-volumes-i : goal.offset_bounds-volumes-i
-offset_bounds-volumes-i c = omega (arith, (opened (goal.at.offset_bounds-volumes-i c).In-Volume).place)
+offset_bounds-volumes-i c = omega (arith, (opened (goal.at.offset_bounds-volumes-i c).In_ok-volume).place)
 
 pub bounds-volumes-i : goal.bounds-volumes-i
-bounds-volumes-i c = omega (arith, (opened (goal.at.bounds-volumes-i c).In-Volume).place)
+bounds-volumes-i c = omega (arith, (opened (goal.at.bounds-volumes-i c).In_ok-volume).place)
 
-pub returns-in-Refused : goal.returns-in-Refused
-returns-in-Refused c = rw c.in-Refused.is at c.read_volume-opened.ensures
+pub returns-in_err-volume : goal.returns-in_err-volume
+returns-in_err-volume c = rw (handed_on _ _ c.from_residual.ensures) (rw c.in_err-volume.was at c.read_volume.ensures)
 
-pub returns-in-Refused-read : goal.returns-in-Refused-read
+pub returns-in_err-read : goal.returns-in_err-read
 unfolding then
-returns-in-Refused-read c =
-    let refused = rw (rest (goal.at.returns-in-Refused-read c).After-field_at-first) at
-    (rw c.in-Refused-read.is at c.read_weights-read.ensures) in
-    (opened (goal.at.returns-in-Refused-read c).In-Volume).rest ∙ rw (refused _)
+returns-in_err-read c =
+    let refused = rw (rest (goal.at.returns-in_err-read c).After-field_at-first) at
+    (rw c.in_err-read.was at c.read_weights.ensures) in
+    rw (handed_on _ _ c.from_residual-in_err-read.ensures) ((opened (goal.at.returns-in_err-read c).In_ok-volume).rest ∙ rw (refused _))
 
-pub returns-else-sum-ne-UNIT : goal.returns-else-sum-ne-UNIT
+pub returns : goal.returns
 unfolding then unless unit
-returns-else-sum-ne-UNIT c =
-    let w = weighed (goal.at.returns-else-sum-ne-UNIT c).In-Weights in
-    let o = opened (goal.at.returns-else-sum-ne-UNIT c).In-Volume in
+returns c =
+    let w = weighed (goal.at.returns c).In_ok-read in
+    let o = opened (goal.at.returns c).In_ok-volume in
     let a = c.args in
     record {
-      service = record { volume = c.in-Volume.volume; ids = w.found.ids; weights = w.found.weights };
-      read = o.rest ∙ rw (w.read _, eq-eqb _ unit (w.total ∙ c.if-sum-ne-UNIT.false));
+      service = record { volume = c.in_ok-volume.volume; ids = w.found.ids; weights = w.found.weights };
+      read = o.rest ∙ rw (w.read _, eq-eqb _ unit (w.total ∙ c.if-read-ne-UNIT.false));
       stored =
           record {
             place = o.place;

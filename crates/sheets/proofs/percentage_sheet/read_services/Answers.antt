@@ -14,7 +14,7 @@ use Rattle.sheets.proofs.Steps.{behind, behind-none, behind-one, behind-all, beh
 use Rattle.sheets.proofs.Memory.{volumes-more, ids_more, weights-more, holds-none, holds_more, holds-whole}
 use Rattle.sheets.proofs.percentage_sheet.read_services.Goals as goal
 use Rattle.sheets.proofs.percentage_sheet.read_services.Invariants.{lines}
-use Rattle.sheets.proofs.percentage_sheet.read_services.Goals.{In-Service}
+use Rattle.sheets.proofs.percentage_sheet.read_services.Goals.{In-Ok}
 
 pub loop-start-init : goal.loop-start-init
 unfolding volumes_of ids_of weights_of
@@ -43,23 +43,23 @@ read_line-read-requires c =
 pub overflow_add-i : goal.overflow_add-i
 overflow_add-i c = omega (arith, c.loop-start.invariant.holds.few)
 
-pub returns-in-Refused : goal.returns-in-Refused
+pub returns-in-Err : goal.returns-in-Err
 unfolding sheet_from then
-returns-in-Refused c =
+returns-in-Err c =
     let i = c.loop-start.invariant in
-    let line = rw c.in-Refused.is at
+    let line = rw c.in-Err.is at
     c.read_line-read.ensures in
     rw (c.refused_at.ensures, i.read, line, behind-refused i.done) (refl, refl)
 
 -- the line that was read
 followed :
-    (c : In-Service)
+    (c : In-Ok)
     → let l = c.loop-start in
     let after = c.read_line-read.new in
     let text = c.args.text.now in
     Followed text l.volumes after.volumes l.ids after.ids l.weights after.weights l.at l.i l.start
-    c.in-Service.count c.in-Service.next
-followed c = rw c.in-Service.is at c.read_line-read.ensures
+    c.in-Ok.line.count c.in-Ok.line.next
+followed c = rw c.in-Ok.is at c.read_line-read.ensures
 
 pub offset_bounds-sizes-i : goal.offset_bounds-sizes-i
 offset_bounds-sizes-i c = omega (arith, followed c, c.loop-start.invariant)
@@ -68,17 +68,17 @@ pub bounds-sizes-i : goal.bounds-sizes-i
 bounds-sizes-i c = omega (arith, followed c, c.loop-start.invariant)
 
 pub overflow_add-at : goal.overflow_add-at
-overflow_add-at c = omega (arith, followed c, c.loop-start.invariant)
+overflow_add-at c = omega (arith, followed (goal.at.overflow_add-at c).In-Ok, c.loop-start.invariant)
 
 pub overflow_add-i-in-loop-start : goal.overflow_add-i-in-loop-start
-overflow_add-i-in-loop-start c = omega (arith, followed (goal.at.overflow_add-i-in-loop-start c).In-Service, c.loop-start.invariant)
+overflow_add-i-in-loop-start c = omega (arith, followed (goal.at.overflow_add-i-in-loop-start c).In-Ok, c.loop-start.invariant)
 
 pub loop-start-smaller : goal.loop-start-smaller
-loop-start-smaller c = omega (arith, followed c, c.loop-start.invariant)
+loop-start-smaller c = omega (arith, followed (goal.at.loop-start-smaller c).In-Ok, c.loop-start.invariant)
 
 pub loop-start-preserved : goal.loop-start-preserved
 loop-start-preserved c =
-    let f = followed c in
+    let f = followed (goal.at.loop-start-preserved c).In-Ok in
     let l = c.loop-start in
     let kept = c.read_line-read.auto in
     let s = f.service in
@@ -87,7 +87,7 @@ loop-start-preserved c =
       count = length-append l.invariant.done (s ∷ []) ∙ omega (arith, l.invariant.count);
       inside = f.within;
       long_volumes = kept.volumes ∙ l.invariant.long_volumes;
-      long_sizes = length-set l.sizes l.i c.in-Service.count ∙ l.invariant.long_sizes;
+      long_sizes = length-set l.sizes l.i c.in-Ok.line.count ∙ l.invariant.long_sizes;
       long_ids = kept.ids ∙ l.invariant.long_ids;
       long_weights = kept.weights ∙ l.invariant.long_weights;
       holds =

@@ -1,4 +1,5 @@
 -- `percentage_sheet::read_sheet` meets its contract: line 1, and the lines behind it.
+use Rattle.numerals.proofs.Exits.{handed_on}
 use Rattle.sheets.specs.Reading.{then}
 use Rattle.sheets.specs.PercentageSheet.{sheet_line, read_sheet, read_sheet_at}
 use Rattle.sheets.specs.Inner.FirstLine.{read_as}
@@ -7,20 +8,20 @@ use Rattle.sheets.proofs.percentage_sheet.read_sheet.Goals as goal
 
 pub read_services-requires : goal.read_services-requires
 read_services-requires c =
-    let line = rw c.in-Line.is at c.read_first_line-read.ensures in
+    let line = rw c.in_ok-line.was at c.read_first_line.ensures in
     record {
       from_in_bounds = line.1;
       most_services_in_bounds = c.requires;
     }
 
-pub returns-in-Refused : goal.returns-in-Refused
+pub returns-in_err-line : goal.returns-in_err-line
 unfolding read_sheet read_sheet_at sheet_line read_as then
-returns-in-Refused c =
-    let line = rw c.in-Refused.is at c.read_first_line-read.ensures in
-    (rw line.0, line.1)
+returns-in_err-line c =
+    let line = rw c.in_err-line.was at c.read_first_line.ensures in
+    rw (handed_on _ _ c.from_residual.ensures) (rw line.0, line.1)
 
-pub returns-in-Line : goal.returns-in-Line
+pub returns : goal.returns
 unfolding read_sheet read_sheet_at sheet_line sheet_from read_as then
-returns-in-Line c =
-    let line = rw c.in-Line.is at c.read_first_line-read.ensures in
+returns c =
+    let line = rw c.in_ok-line.was at c.read_first_line.ensures in
     rw line.0 c.read_services.ensures

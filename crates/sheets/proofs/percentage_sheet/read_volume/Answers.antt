@@ -1,6 +1,8 @@
 -- `percentage_sheet::read_volume` meets its contract: each return by the tests and the field that led to it.
+use Rattle.std.specs.Prelude.{Option, Some, None, ok_or}
+use Rattle.sheets.specs.Inner.SheetReader.{VolumeOf}
 use Prim.Native.Nat.{ℕ, ◌+◌, ◌<◌, ◌≤◌}
-use mathlib.Core.Path.{◌≡◌, sym, ap, ◌∙◌}
+use mathlib.Core.Path.{◌≡◌, refl, sym, ap, ◌∙◌}
 use mathlib.Core.List.{List}
 use native.Mathlib.Omega.{arith}
 use lib.Dec.{eqb}
@@ -10,11 +12,11 @@ use borrow.Author.Tests.{lt-ltb, le-ltb, lt-leb, le-leb}
 use Rattle.numerals.specs.Decimal.{number}
 use Rattle.numerals.specs.Text.{split}
 use Rattle.numerals.specs.Limits.{most_backends, most_services, most_volume, unit, decimals}
-use Rattle.numerals.specs.declared.refusal.Refusal.TheVariants.{Unbalanced}
+use Rattle.numerals.specs.declared.refusal.Refusal.TheVariants.{BadField, Unbalanced}
 use Rattle.sheets.specs.Reading.{got, then, same, field, unless, on_field}
 use Rattle.sheets.specs.PercentageSheet.{service_word, weight_fields, sum, service_fields}
 use Rattle.sheets.proofs.percentage_sheet.read_volume.Goals as goal
-use Rattle.sheets.proofs.percentage_sheet.read_volume.Goals.{After-is_word, Else-count-gt-MOST_FIELDS, Start}
+use Rattle.sheets.proofs.percentage_sheet.read_volume.Goals.{After-number_in, After-is_word, Else-count-gt-MOST_FIELDS, Start}
 
 -- the line's fields
 abbrev fields : Start → List (List ℕ)
@@ -80,16 +82,19 @@ line c =
       le-leb _ (2 + most_backends) few,
     )
 
-pub returns-in_default : goal.returns-in_default
+-- the volume was read, or is none
+by_volume :
+    (c : After-number_in) (o : Option ℕ) → c.number_in.result ≡ o
+    → VolumeOf (ok_or o BadField) c.args.i (fields (goal.at.After-number_in c).Start)
 unfolding on_field
-returns-in_default c = line (goal.at.returns-in_default c).Else-count-gt-MOST_FIELDS ∙ rw (sym c.number_in.ensures ∙ c.in_default.is)
-
-pub returns : goal.returns
-unfolding on_field
-returns c =
+by_volume c None e = line (goal.at.After-number_in c).Else-count-gt-MOST_FIELDS ∙ rw (sym c.number_in.ensures ∙ e)
+by_volume c (Some v) e =
     record {
       place = omega arith;
       some = omega arith;
       few = omega arith;
-      rest = line (goal.at.returns c).Else-count-gt-MOST_FIELDS ∙ rw (sym c.number_in.ensures ∙ c.in-Value.is);
+      rest = line (goal.at.After-number_in c).Else-count-gt-MOST_FIELDS ∙ rw (sym c.number_in.ensures ∙ e);
     }
+
+pub returns : goal.returns
+returns c = rw c.ok_or.ensures.value (by_volume (goal.at.returns c).After-number_in _ refl)

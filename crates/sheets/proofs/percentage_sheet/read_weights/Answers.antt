@@ -8,13 +8,14 @@ use lib.Seq.{slice}
 use Rattle.numerals.specs.Limits.{unit, decimals}
 use Rattle.numerals.specs.Text.{split}
 use Rattle.numerals.proofs.Fields.{cut-le}
+use Rattle.numerals.proofs.Exits.{handed_on, had, had_none}
 use Rattle.sheets.specs.PercentageSheet.{weight_fields}
 use Rattle.sheets.specs.PercentageSheet as sheet
 use Rattle.sheets.specs.Inner.SheetReader.{Named}
 use Rattle.sheets.proofs.FieldParts.{fields_left, left-all, left-none, left-more}
 use Rattle.sheets.proofs.Steps.{no_backend, backend_behind, joined-none, joined-all, joined-refused, joined-one, sum_more, row_more}
 use Rattle.sheets.proofs.percentage_sheet.read_weights.Goals as goal
-use Rattle.sheets.proofs.percentage_sheet.read_weights.Goals.{After-find-end, In-Backend}
+use Rattle.sheets.proofs.percentage_sheet.read_weights.Goals.{After-find-end, In_ok-backend}
 
 pub loop-start-init : goal.loop-start-init
 unfolding sheet.sum
@@ -54,22 +55,24 @@ ends c =
     let a = c.args in
     cut-le 32 c.loop-start.start a.to c.find-end.result a.text.now (omega arith) c.find-end.ensures (omega arith)
 
-pub read_backend-read-requires : goal.read_backend-read-requires
-read_backend-read-requires c = (omega (arith, c.find-end.ensures), (omega (arith, ends c), c.loop-start.invariant.known))
+pub read_backend-requires : goal.read_backend-requires
+read_backend-requires c = (omega (arith, c.find-end.ensures), (omega (arith, ends c), c.loop-start.invariant.known))
 
-pub returns-in_default : goal.returns-in_default
-returns-in_default c line =
+pub returns-in_err-backend : goal.returns-in_err-backend
+returns-in_err-backend c =
     let l = c.loop-start in
-    let bad = rw c.in_default.is at c.read_backend-read.ensures in
-    l.invariant.whole line ∙ rw (next (goal.at.returns-in_default c).After-find-end, bad line _) (joined-refused l.invariant.done _ line)
+    let n = had_none _ _ c.ok_or.ensures.value c.in_err-backend.was in
+    let bad = rw n.0 at c.read_backend.ensures in
+    rw (handed_on _ _ c.from_residual.ensures, n.1)
+    (λ line. l.invariant.whole line ∙ rw (next (goal.at.returns-in_err-backend c).After-find-end, bad line _) (joined-refused l.invariant.done _ line))
 
 -- the backend that was read
 found :
-    (c : In-Backend)
+    (c : In_ok-backend)
     → let l = c.loop-start in
     let a = c.args in
-    Named l.before (slice l.start c.find-end.result a.text.now) c.in-Backend.id c.in-Backend.weight
-found c = rw c.in-Backend.is at c.read_backend-read.ensures
+    Named l.before (slice l.start c.find-end.result a.text.now) c.in_ok-backend.backend.id c.in_ok-backend.backend.weight
+found c = rw (had _ _ c.ok_or.ensures.value c.in_ok-backend.was) at c.read_backend.ensures
 
 pub overflow_add-ids : goal.overflow_add-ids
 overflow_add-ids c = omega (arith, ap length (next (goal.at.overflow_add-ids c).After-find-end))
@@ -91,7 +94,7 @@ bounds-weights-at c = omega (arith, ap length (next (goal.at.bounds-weights-at c
 
 pub overflow_add-sum : goal.overflow_add-sum
 unfolding unit
-overflow_add-sum c = omega (arith, ap length (next (goal.at.overflow_add-sum c).After-find-end), (found c).small)
+overflow_add-sum c = omega (arith, ap length (next (goal.at.overflow_add-sum c).After-find-end), (found (goal.at.overflow_add-sum c).In_ok-backend).small)
 
 pub overflow_add-count : goal.overflow_add-count
 overflow_add-count c = omega (arith, ap length (next (goal.at.overflow_add-count c).After-find-end))
@@ -107,22 +110,23 @@ unfolding unit
 loop-start-preserved c =
     let l = c.loop-start in
     let a = c.args in
-    let id = c.in-Backend.id in
-    let w = c.in-Backend.weight in
+    let id = c.in_ok-backend.backend.id in
+    let w = c.in_ok-backend.backend.weight in
     let more = next (goal.at.loop-start-preserved c).After-find-end in
+    let read = found (goal.at.loop-start-preserved c).In_ok-backend in
     record {
       done = backend_behind l.invariant.done id w;
       named = length-append l.invariant.done.ids (id ∷ []) ∙ omega (arith, l.invariant.named);
       size = length-append l.invariant.done.weights (w ∷ []) ∙ omega (arith, l.invariant.size);
       total = sum_more l.invariant.done.weights w ∙ ap (λ (x : ℕ). x + w) l.invariant.total;
-      known = omega (arith, (found c).known);
-      small = omega (arith, (found c).small, l.invariant.small);
+      known = omega (arith, read.known);
+      small = omega (arith, read.small, l.invariant.small);
       long_ids = length-set l.ids (a.at + l.count) id ∙ l.invariant.long_ids;
       long = length-set l.weights (a.at + l.count) w ∙ l.invariant.long;
       ids_row = row_more a.ids.now l.ids l.invariant.done.ids a.at l.count id (omega (arith, ap length more, l.invariant.long_ids)) l.invariant.ids_row;
       row = row_more a.weights.now l.weights l.invariant.done.weights a.at l.count w (omega (arith, ap length more, l.invariant.long)) l.invariant.row;
       few = omega (arith, ap length more);
-      whole = λ line. l.invariant.whole line ∙ rw (more, (found c).next line _) (joined-one l.invariant.done id w _);
+      whole = λ line. l.invariant.whole line ∙ rw (more, read.next line _) (joined-one l.invariant.done id w _);
     }
 
 pub returns : goal.returns

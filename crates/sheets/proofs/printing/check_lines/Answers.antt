@@ -6,6 +6,7 @@ use native.Mathlib.Nat.{le_refl}
 use native.Mathlib.Omega.{arith}
 use lib.ListN.{length}
 use Rattle.numerals.specs.Limits.{most_capacity}
+use Rattle.numerals.proofs.Exits.{handed_on}
 use Rattle.sheets.specs.Calls.{broken_from}
 use Rattle.sheets.specs.Inner.TableNumbers.{line_at}
 use Rattle.sheets.specs.Inner.Writing.{checked_from, checked_cells}
@@ -17,70 +18,66 @@ use Rattle.sheets.proofs.printing.check_lines.Goals as goal
 use Rattle.sheets.proofs.printing.check_lines.Goals.{After-loop-i}
 
 pub loop-i-init : goal.loop-i-init
-loop-i-init c = (omega arith, none-checked _ _)
+loop-i-init c = none-checked _ _
 
-pub slice_bounds-check_line-end : goal.slice_bounds-check_line-end
-slice_bounds-check_line-end c = sym c.loop-i.invariant.1.behind.places
-
-pub check_line-checked-requires : goal.check_line-checked-requires
-check_line-checked-requires c =
+pub check_line-requires : goal.check_line-requires
+check_line-requires c =
     let p = c.requires in
     let l = c.loop-i in
-    let few : l.last.count ≤ most_capacity = omega (arith, few-checked _ _ _ _ _ l.invariant.1, c.loop-i-test.true, p.1) in
-    (p.0, (omega (arith, c.loop-i-test.true), (few, l.invariant.1.behind.places)))
+    let few : l.last.count ≤ most_capacity = omega (arith, few-checked _ _ _ _ _ l.invariant, c.loop-i-test.true, p.1) in
+    (p.0, (omega (arith, c.loop-i-test.true), (few, l.invariant.behind.places)))
 
-pub returns-in-Refused : goal.returns-in-Refused
-returns-in-Refused c =
+pub returns-in_err-last : goal.returns-in_err-last
+returns-in_err-last c =
     let t = c.args.table.now in
     let l = c.loop-i in
-    let C = l.invariant.1 in
+    let C = l.invariant in
     let h = c.loop-i-test.true in
-    let line = rw c.in-Refused.is at (c.check_line-checked.ensures C.before C.behind) in
-    C.left ∙ ap (checked_from _ _ C.before) (lines_more t (length t) (le_refl _) l.i (omega (arith, h))) ∙ line _ _
+    let line = rw c.in_err-last.was at (c.check_line.ensures C.before C.behind) in
+    rw (handed_on _ _ c.from_residual.ensures)
+    (C.left ∙ ap (checked_from _ _ C.before) (lines_more t (length t) (le_refl _) l.i (omega (arith, h))) ∙ line _ _)
 
 pub loop-i-preserved : goal.loop-i-preserved
 loop-i-preserved c =
     let t = c.args.table.now in
     let l = c.loop-i in
-    let C = l.invariant.1 in
+    let C = l.invariant in
     let h = c.loop-i-test.true in
-    let line = rw c.in-Next.is at (c.check_line-checked.ensures C.before C.behind) in (
-      omega (arith, h),
-      record {
-        before = line_at t l.i ∷ C.before;
-        passed = omega (arith, C.passed);
-        behind = line.1;
-        left = C.left ∙ ap (checked_from _ _ C.before) (lines_more t (length t) (le_refl _) l.i (omega (arith, h))) ∙ line.0 _ _;
-      },
-    )
+    let line = rw c.in_ok-last.was at (c.check_line.ensures C.before C.behind) in
+    record {
+      before = line_at t l.i ∷ C.before;
+      passed = omega (arith, C.passed);
+      behind = line.1;
+      left = C.left ∙ ap (checked_from _ _ C.before) (lines_more t (length t) (le_refl _) l.i (omega (arith, h))) ∙ line.0 _ _;
+    }
 
 -- no line is left: what was kept of them decides
 ends :
     (c : After-loop-i)
     → let t = c.args.table.now in
     let k = c.args.k in
-    let before = c.loop-i.invariant.1.before in
+    let before = c.loop-i.invariant.before in
     checked_cells k t ≡ checked_from k (length (broken_from t)) before []
 ends c =
     let t = c.args.table.now in
-    let C = c.loop-i.invariant.1 in
+    let C = c.loop-i.invariant in
     C.left ∙ ap (checked_from _ _ C.before) (lines_none t (length t) (le_refl _) c.loop-i.i (omega (arith, c.loop-i-test.false)))
 
 pub returns-then-table-ne0 : goal.returns-then-table-ne0
 returns-then-table-ne0 c =
-    ends (goal.at.returns-then-table-ne0 c).After-loop-i ∙ too_few _ _ c.loop-i.invariant.1.before
+    ends (goal.at.returns-then-table-ne0 c).After-loop-i ∙ too_few _ _ c.loop-i.invariant.before
     (λ e. c.if-table-ne0.true (omega (arith, count-broken c.args.table.now)))
 
 pub returns-then-last-eq0 : goal.returns-then-last-eq0
 returns-then-last-eq0 c =
-    let C = c.loop-i.invariant.1 in
+    let C = c.loop-i.invariant in
     ends (goal.at.returns-then-last-eq0 c).After-loop-i
     ∙ all_sound _ _ C.before (omega (arith, count-broken c.args.table.now, c.if-table-ne0.false))
     (ap (λ (q : Last). q.len) (sym C.behind.is) ∙ c.if-last-eq0.true)
 
 pub returns-else-last-eq0 : goal.returns-else-last-eq0
 returns-else-last-eq0 c =
-    let C = c.loop-i.invariant.1 in
+    let C = c.loop-i.invariant in
     ends (goal.at.returns-else-last-eq0 c).After-loop-i
     ∙ left_open _ _ C.before (omega (arith, count-broken c.args.table.now, c.if-table-ne0.false))
     (λ e. c.if-last-eq0.false (ap (λ (q : Last). q.len) C.behind.is ∙ e))

@@ -1,6 +1,6 @@
 -- `printing::check_table` meets its contract: one check after the other, in the order of the sheet.
 use Prim.Native.Nat.{ℕ, ◌+◌, ◌/◌, ◌≤◌}
-use mathlib.Core.Path.{◌≡◌, ap}
+use mathlib.Core.Path.{◌≡◌, sym, ap, ◌∙◌}
 use mathlib.Core.List.{List}
 use native.Mathlib.Nat.{le_refl}
 use native.Mathlib.Omega.{arith}
@@ -8,14 +8,12 @@ use lib.ListN.{length}
 use lib.Seq.{slice, take_all}
 use borrow.Author.Tests.{lt-leb}
 use Rattle.numerals.specs.Limits.{most_bits, most_capacity, text_limit, total_limit}
+use Rattle.expansion.specs.Answer.{in_limits}
 use Rattle.sheets.specs.Calls.{handed_text}
-use Rattle.sheets.proofs.TableChecks.{below-least, above_most}
+use Rattle.sheets.proofs.TableChecks.{contains-is}
 use Rattle.sheets.proofs.TableHanded.{handed-long, handed-bits, handed-count, handed-total, handed-lines}
 use Rattle.sheets.proofs.printing.check_table.Goals as goal
-use Rattle.sheets.proofs.printing.check_table.Goals.{Else-k-gt-MOST_BITS, Else-text_width-gt-TEXT_LIMIT}
-
-pub text_width-requires : goal.text_width-requires
-text_width-requires c = le_refl _
+use Rattle.sheets.proofs.printing.check_table.Goals.{After-contains, After-contains-2, Else-text_width-gt-TEXT_LIMIT}
 
 -- all numbers were counted
 whole : (k total : ℕ) (cs : List ℕ) → length (handed_text k total (slice 0 (length cs) cs)) ≡ length (handed_text k total cs)
@@ -33,52 +31,39 @@ returns-then-text_width-gt-TEXT_LIMIT c =
     let a = c.args in
     handed-long _ _ _ (omega (arith, c.if-text_width-gt-TEXT_LIMIT.true, c.text_width.ensures, whole a.k a.total a.table.now))
 
-pub returns-then-k-lt1 : goal.returns-then-k-lt1
-returns-then-k-lt1 c =
-    let k = c.args.k in
-    handed-bits k _ _ (short (goal.at.returns-then-k-lt1 c).Else-text_width-gt-TEXT_LIMIT) (below-least 1 most_bits k c.if-k-lt1.true)
+-- what is tested of k, and then of the number of lines
+bits : (c : After-contains) → in_limits 1 most_bits c.args.k ≡ c.contains.result
+bits c = let r = c.new.ensures in sym (rw (r.start, r.end, r.exhausted) at c.contains.ensures.value ∙ contains-is 1 most_bits c.args.k)
 
-pub returns-then-k-gt-MOST_BITS : goal.returns-then-k-gt-MOST_BITS
-returns-then-k-gt-MOST_BITS c =
-    let k = c.args.k in
-    handed-bits k _ _ (short (goal.at.returns-then-k-gt-MOST_BITS c).Else-text_width-gt-TEXT_LIMIT) (above_most 1 most_bits k c.if-k-gt-MOST_BITS.true)
+count : (c : After-contains-2) → in_limits 1 most_capacity ((length c.args.table.now + 3) / 4) ≡ c.contains-2.result
+count c =
+    let r = c.new-2.ensures in
+    let n : c.div_ceil-n.result ≡ (length c.args.table.now + 3) / 4 = omega (arith, c.div_ceil-n.ensures) in
+    sym (rw (r.start, r.end, r.exhausted, n) at c.contains-2.ensures.value ∙ contains-is 1 most_capacity ((length c.args.table.now + 3) / 4))
 
--- k passed, then the number of lines
-module _ (c : Else-k-gt-MOST_BITS) where
-  abbrev n : ℕ
-  n = (length c.args.table.now + 3) / 4
+pub returns-then-not-contains : goal.returns-then-not-contains
+returns-then-not-contains c =
+    let g = goal.at.returns-then-not-contains c in
+    handed-bits _ _ _ (short g.Else-text_width-gt-TEXT_LIMIT) (bits g.After-contains ∙ c.if-not-contains.true)
 
-pub returns-then-n-lt1 : goal.returns-then-n-lt1
-returns-then-n-lt1 c =
-    let m = n (goal.at.returns-then-n-lt1 c).Else-k-gt-MOST_BITS in
-    handed-count _ _ _ (short (goal.at.returns-then-n-lt1 c).Else-text_width-gt-TEXT_LIMIT) c.if-k-lt1.false c.if-k-gt-MOST_BITS.false
-    (below-least 1 most_capacity m (omega (arith, c.if-n-lt1.true, c.line_count-n.ensures)))
-
-pub returns-then-n-gt-MOST_CAPACITY : goal.returns-then-n-gt-MOST_CAPACITY
-returns-then-n-gt-MOST_CAPACITY c =
-    let m = n (goal.at.returns-then-n-gt-MOST_CAPACITY c).Else-k-gt-MOST_BITS in
-    handed-count _ _ _ (short (goal.at.returns-then-n-gt-MOST_CAPACITY c).Else-text_width-gt-TEXT_LIMIT) c.if-k-lt1.false c.if-k-gt-MOST_BITS.false
-    (above_most 1 most_capacity m (omega (arith, c.if-n-gt-MOST_CAPACITY.true, c.line_count-n.ensures)))
+pub returns-then-not-contains-2 : goal.returns-then-not-contains-2
+returns-then-not-contains-2 c =
+    let g = goal.at.returns-then-not-contains-2 c in
+    handed-count _ _ _ (short g.Else-text_width-gt-TEXT_LIMIT) (bits g.After-contains ∙ c.if-not-contains.false)
+    (count g.After-contains-2 ∙ c.if-not-contains-2.true)
 
 pub returns-then-total-gt-TOTAL_LIMIT : goal.returns-then-total-gt-TOTAL_LIMIT
 unfolding total_limit
 returns-then-total-gt-TOTAL_LIMIT c =
-    handed-total _ _ _ (short (goal.at.returns-then-total-gt-TOTAL_LIMIT c).Else-text_width-gt-TEXT_LIMIT)
-    c.if-k-lt1.false
-    c.if-k-gt-MOST_BITS.false
-    (omega (arith, c.if-n-lt1.false, c.line_count-n.ensures))
-    (omega (arith, c.if-n-gt-MOST_CAPACITY.false, c.line_count-n.ensures))
+    let g = goal.at.returns-then-total-gt-TOTAL_LIMIT c in
+    handed-total _ _ _ (short g.Else-text_width-gt-TEXT_LIMIT) (bits g.After-contains ∙ c.if-not-contains.false)
+    (count g.After-contains-2 ∙ c.if-not-contains-2.false)
     (lt-leb c.args.total total_limit (omega (arith, c.if-total-gt-TOTAL_LIMIT.true)))
-
-pub check_lines-requires : goal.check_lines-requires
-check_lines-requires c = (c.if-k-gt-MOST_BITS.false, omega (arith, c.if-n-gt-MOST_CAPACITY.false, c.line_count-n.ensures))
 
 pub returns : goal.returns
 unfolding total_limit
 returns c =
-    handed-lines _ _ _ (short (goal.at.returns c).Else-text_width-gt-TEXT_LIMIT)
-    c.if-k-lt1.false
-    c.if-k-gt-MOST_BITS.false
-    (omega (arith, c.if-n-lt1.false, c.line_count-n.ensures))
-    (omega (arith, c.if-n-gt-MOST_CAPACITY.false, c.line_count-n.ensures))
+    let g = goal.at.returns c in
+    handed-lines _ _ _ (short g.Else-text_width-gt-TEXT_LIMIT) (bits g.After-contains ∙ c.if-not-contains.false)
+    (count g.After-contains-2 ∙ c.if-not-contains-2.false)
     (omega (arith, c.if-total-gt-TOTAL_LIMIT.false)) c.check_lines.result c.check_lines.ensures

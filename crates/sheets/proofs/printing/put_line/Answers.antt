@@ -8,7 +8,7 @@ use Rattle.numerals.specs.Decimal.{decimal}
 use Rattle.numerals.specs.Limits.{most_bits}
 use Rattle.numerals.specs.Suffix.{suffix_text}
 use Rattle.numerals.proofs.Decimal.{length-decimal}
-use Rattle.numerals.proofs.Suffix.{length-suffix}
+use Rattle.numerals.proofs.SuffixTexts.{length-suffix}
 use Rattle.sheets.specs.RuleSheet.{line_text}
 use Rattle.sheets.specs.Inner.TableNumbers.{line}
 use Rattle.sheets.proofs.TableChecks.{formed}

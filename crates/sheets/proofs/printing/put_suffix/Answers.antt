@@ -1,4 +1,5 @@
 -- `printing::put_suffix` meets its contract: the suffix, since it fits, and the space behind it.
+use Rattle.std.specs.Prelude.{Result}
 use Prim.Native.Nat.{ℕ, ◌+◌, ◌<◌}
 use mathlib.Core.Path.{◌≡◌, ◌∙◌}
 use mathlib.Core.List.{List}
@@ -6,11 +7,11 @@ use native.Mathlib.Omega.{arith}
 use lib.ListN.{length}
 use Rattle.numerals.specs.Digits.{put, put_end}
 use Rattle.numerals.specs.Suffix.{suffix_text, put_suffix, put_suffix_end}
-use Rattle.numerals.specs.declared.digits.Written.{Written}
-use Rattle.numerals.proofs.Suffix.{Limits, is-suffix, length-suffix}
+use Rattle.numerals.proofs.SuffixTexts.{Limits, is-suffix, length-suffix}
 use Rattle.sheets.specs.Inner.Writing.{Wrote, Before, end_at}
 use Rattle.sheets.proofs.Writes.{chain, text, before-end}
 use Rattle.sheets.proofs.printing.put_suffix.Goals as goal
+use Rattle.numerals.specs.declared.refusal.Refusal.{Refusal}
 
 -- a suffix in its limits is written as it is
 module _
@@ -18,7 +19,7 @@ module _
     (at len value : ℕ)
     (limits : Limits len value)
     (room : at + (len + 1) < length out)
-    (w : Written)
+    (w : (Result ℕ Refusal))
     (after : List ℕ)
     (is : w ≡ put_suffix_end out at len value)
     (put-it : after ≡ put_suffix out at len value)

@@ -1,5 +1,5 @@
 -- `printing::put_table` meets its contract: once the lines left are written too, the whole text is.
-use Prim.Native.Nat.{ℕ, ◌+◌, ◌-◌, ◌*◌, ◌≤◌}
+use Prim.Native.Nat.{ℕ, ◌+◌, ◌*◌, ◌≤◌}
 use mathlib.Core.Path.{◌≡◌}
 use mathlib.Core.List.{List}
 use lib.ListN.{length}
@@ -18,8 +18,5 @@ pub record Going (table : List ℕ) (n : ℕ) (out₀ : List ℕ) (at₀ : ℕ) 
       (after : List ℕ) (end : ℕ) → Wrote out after at end (lines_text (lines_from (slice (4 * i) (4 * n) table)))
       → Wrote out₀ after at₀ end (lines_text (lines_from (slice 0 (4 * n) table)))
 
-abbrev pub invariant-loop-left : goal.invariant-loop-left
-invariant-loop-left l = (l.left ≤ l.n) × Going l.table l.n l.initial.out l.initial.at l.out l.at (l.n - l.left)
-
-abbrev pub decreases-loop-left : goal.decreases-loop-left
-decreases-loop-left l = l.left
+abbrev pub invariant-loop-i : goal.invariant-loop-i
+invariant-loop-i l = Going l.table l.n l.initial.out l.initial.at l.out l.at l.i

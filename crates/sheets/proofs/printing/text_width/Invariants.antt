@@ -1,5 +1,5 @@
 -- `printing::text_width` meets its contract: the width so far and that of the numbers left make the width of the whole text, as far as it is counted.
-use Prim.Native.Nat.{◌+◌, ◌-◌, ◌*◌, ◌/◌, ◌≤◌}
+use Prim.Native.Nat.{◌+◌, ◌*◌, ◌≤◌}
 use mathlib.Core.Path.{◌≡◌}
 use lib.ListN.{length}
 use lib.Seq.{slice}
@@ -10,8 +10,5 @@ use Rattle.sheets.proofs.printing.text_width.Given as goal
 
 abbrev pub invariant-loop-i : goal.invariant-loop-i
 invariant-loop-i l =
-    (l.i ≤ l.to / 4) × (l.width ≤ over_long) × (counted (l.width + handed_width (slice (4 * l.i) l.to l.table)) ≡ counted
+    (l.width ≤ over_long) × (counted (l.width + handed_width (slice (4 * l.i) l.to l.table)) ≡ counted
     (length (handed_text l.k l.total (slice 0 l.to l.table))))
-
-abbrev pub decreases-loop-i : goal.decreases-loop-i
-decreases-loop-i l = l.to / 4 - l.i

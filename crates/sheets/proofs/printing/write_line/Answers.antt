@@ -1,4 +1,5 @@
 -- `printing::write_line` meets its contract: the numbers in their limits, then the room, then the line.
+use Rattle.std.specs.Prelude.{Err, Ok}
 use Prim.Native.Nat.{ℕ, ◌+◌, ◌≤◌, ◌<◌}
 use mathlib.Core.Path.{◌≡◌, sym, ap, ◌∙◌}
 use mathlib.Core.Bool.{true, false}
@@ -7,7 +8,6 @@ use native.Mathlib.Omega.{arith}
 use lib.ListN.{length}
 use Rattle.numerals.specs.Limits.{most_bits}
 use Rattle.numerals.specs.Refusals.{no7}
-use Rattle.numerals.specs.declared.digits.Written.TheVariants.{End, Refused}
 use Rattle.numerals.proofs.Writing.{written, short}
 use Rattle.packing.specs.Count.{Line}
 use Rattle.sheets.specs.RuleSheet.{line_text, is_line, put_line, put_line_end}
@@ -36,7 +36,7 @@ passed c = sym c.is_line.ensures ∙ c.if-not-is_line.false
 -- no room: nothing is written
 too_long :
     (out : List ℕ) (at : ℕ) (l : Line) → is_line most_bits l ≡ true → length out < at + line_width l.service l.rule.len l.rule.backend
-    → (Refused no7 ≡ put_line_end out at l) × (out ≡ put_line out at l)
+    → (Err no7 ≡ put_line_end out at l) × (out ≡ put_line out at l)
 unfolding put_line put_line_end
 too_long out at l e h =
     let s = short out at (line_text l) (omega (arith, length-line l)) in
@@ -82,6 +82,6 @@ returns c =
     let width = c.line_width.ensures in
     let stored = written a.out.now a.at (line_text l) (omega (arith, length-line l, few l (passed (goal.at.returns c).Else-not-is_line), width)) in
     record {
-      answer = rw (passed (goal.at.returns c).Else-not-is_line) (ap End w.ends ∙ stored.0);
+      answer = rw (passed (goal.at.returns c).Else-not-is_line) (ap Ok w.ends ∙ stored.0);
       buffer = rw (passed (goal.at.returns c).Else-not-is_line) (w.holds ∙ stored.1);
     }

@@ -1,31 +1,33 @@
 -- `printing::write_table` meets its contract: a table that passes is printed, any other is refused.
 use mathlib.Core.Path.{◌≡◌, refl}
+use Rattle.numerals.proofs.Exits.{handed_on}
 use Rattle.sheets.specs.Reading.{got}
 use Rattle.sheets.specs.Calls as calls
 use Rattle.sheets.specs.Inner.Writing.{handed}
 use Rattle.sheets.proofs.TableHanded.{accepted}
 use Rattle.sheets.proofs.printing.write_table.Goals as goal
-use Rattle.sheets.proofs.printing.write_table.Goals.{In_default}
+use Rattle.sheets.proofs.printing.write_table.Goals.{In_ok-check_table}
 
-pub returns-in-Refused : goal.returns-in-Refused
-returns-in-Refused c =
-    let e = rw c.in-Refused.is at c.check_table-checked.ensures in
-    record { answer = rw (c.refused_at.ensures, e) refl; buffer = refl }
+pub returns-in_err-check_table : goal.returns-in_err-check_table
+returns-in_err-check_table c =
+    let e = rw c.in_err-check_table.was at c.check_table.ensures in
+    let x = handed_on _ _ c.from_residual.ensures in
+    record { answer = rw (x, e); buffer = rw x }
 
 -- the table passed
 passed :
-    (c : In_default)
+    (c : In_ok-check_table)
     → let a = c.args in
     calls.table_handed a.k a.total a.table.now ≡ got (handed a.k a.total a.table.now)
-passed c = rw c.in_default.is at c.check_table-checked.ensures
+passed c = rw c.in_ok-check_table.was at c.check_table.ensures
 
 pub print-requires : goal.print-requires
-print-requires c = let A = accepted _ _ _ _ (passed (goal.at.print-requires c).In_default) in (A.few, A.ruled)
+print-requires c = let A = accepted _ _ _ _ (passed (goal.at.print-requires c).In_ok-check_table) in (A.few, A.ruled)
 
 pub returns : goal.returns
 returns c =
     let p = c.print.ensures in
-    let e = passed (goal.at.returns c).In_default in
+    let e = passed (goal.at.returns c).In_ok-check_table in
     let A = accepted _ _ _ _ e in
     record {
       answer = rw (e, ← A.table) p.answer;

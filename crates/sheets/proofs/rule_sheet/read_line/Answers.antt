@@ -9,14 +9,15 @@ use Rattle.numerals.specs.Limits.{most_id, most_services}
 use Rattle.numerals.specs.Suffix.{suffix}
 use Rattle.numerals.specs.Text.{split}
 use Rattle.numerals.proofs.Decimal.{Numeral, only-text}
-use Rattle.numerals.proofs.Suffix.{suffix-only}
+use Rattle.numerals.proofs.SuffixTexts.{suffix-only}
 use Rattle.packing.specs.Count.{Line}
+use Rattle.numerals.proofs.Exits.{handed_on, had, had_none}
 use Rattle.sheets.specs.Reading.{Reading, got, field, unless, on_field}
 use Rattle.sheets.specs.RuleSheet.{on_suffix, placed, rule_fields}
 use Rattle.sheets.specs.Inner.TableNumbers.{line}
 use Rattle.sheets.proofs.TableChecks.{is-formed}
 use Rattle.sheets.proofs.rule_sheet.read_line.Goals as goal
-use Rattle.sheets.proofs.rule_sheet.read_line.Goals.{After-read_suffix, Else-count_fields-ne3, In-Suffix, In-Value, In-Value-number_in}
+use Rattle.sheets.proofs.rule_sheet.read_line.Goals.{After-read_suffix, Else-count_fields-ne3, In_ok-suffix, In_ok-service, In_ok-backend}
 
 pub returns-then-count_fields-ne3 : goal.returns-then-count_fields-ne3
 unfolding rule_fields unless
@@ -39,12 +40,12 @@ unfolding rule_fields unless
 three c before at = simp (eq-eqb _ 3 (sym c.count_fields.ensures ∙ c.if-count_fields-ne3.false))
 
 own :
-    (c : In-Value) (before : List Line) (at : ℕ)
+    (c : In_ok-service) (before : List Line) (at : ℕ)
     → let a = c.args in
     let fs = split 32 (slice a.from a.to a.text.now) in
-    rule_fields a.k before at fs ≡ matching a.k before at fs c.in-Value.service
+    rule_fields a.k before at fs ≡ matching a.k before at fs c.in_ok-service.service
 unfolding on_field
-own c before at = three (goal.at.In-Value c).Else-count_fields-ne3 before at ∙ rw (sym c.number_in.ensures ∙ c.in-Value.is)
+own c before at = three (goal.at.In_ok-service c).Else-count_fields-ne3 before at ∙ rw (sym c.number_in.ensures ∙ had _ _ c.ok_or.ensures.value c.in_ok-service.was)
 
 bits :
     (c : After-read_suffix)
@@ -55,46 +56,52 @@ bits c =
     ap (suffix a.k) (sym c.field_at-f.ensures.part) ∙ sym c.read_suffix.ensures
 
 matched :
-    (c : In-Suffix) (before : List Line) (at : ℕ)
+    (c : In_ok-suffix) (before : List Line) (at : ℕ)
     → let a = c.args in
     let fs = split 32 (slice a.from a.to a.text.now) in
-    rule_fields a.k before at fs ≡ giving before at fs c.in-Value.service c.in-Suffix.len c.in-Suffix.value
+    rule_fields a.k before at fs ≡ giving before at fs c.in_ok-service.service c.in_ok-suffix.suffix.len c.in_ok-suffix.suffix.value
 unfolding on_suffix
-matched c before at = own (goal.at.In-Suffix c).In-Value before at ∙ rw (bits (goal.at.In-Suffix c).After-read_suffix ∙ c.in-Suffix.is)
+matched c before at = own (goal.at.In_ok-suffix c).In_ok-service before at ∙ rw (bits (goal.at.In_ok-suffix c).After-read_suffix ∙ had _ _ c.ok_or-2.ensures.value c.in_ok-suffix.was)
 
-pub returns-in_default : goal.returns-in_default
+pub returns-in_err-service : goal.returns-in_err-service
 unfolding on_field
-returns-in_default c =
-    λ before at. three (goal.at.returns-in_default c).Else-count_fields-ne3 before at ∙ rw (sym c.number_in.ensures ∙ c.in_default.is)
+returns-in_err-service c =
+    let n = had_none _ _ c.ok_or.ensures.value c.in_err-service.was in
+    rw (handed_on _ _ c.from_residual.ensures, n.1)
+    (λ before at. three (goal.at.returns-in_err-service c).Else-count_fields-ne3 before at ∙ rw (sym c.number_in.ensures ∙ n.0))
 
-pub returns-in_default-read_suffix : goal.returns-in_default-read_suffix
+pub returns-in_err-suffix : goal.returns-in_err-suffix
 unfolding on_suffix
-returns-in_default-read_suffix c =
-    λ before at. own (goal.at.returns-in_default-read_suffix c).In-Value before at ∙ rw
-    (bits (goal.at.returns-in_default-read_suffix c).After-read_suffix ∙ c.in_default-read_suffix.is)
+returns-in_err-suffix c =
+    let n = had_none _ _ c.ok_or-2.ensures.value c.in_err-suffix.was in
+    rw (handed_on _ _ c.from_residual-in_err-suffix.ensures, n.1)
+    (λ before at. own (goal.at.returns-in_err-suffix c).In_ok-service before at ∙ rw
+    (bits (goal.at.returns-in_err-suffix c).After-read_suffix ∙ n.0))
 
-pub returns-in_default-number_in : goal.returns-in_default-number_in
+pub returns-in_err-backend : goal.returns-in_err-backend
 unfolding on_field
-returns-in_default-number_in c =
-    λ before at. matched (goal.at.returns-in_default-number_in c).In-Suffix before at ∙ rw (sym c.number_in-2.ensures ∙ c.in_default-number_in.is)
+returns-in_err-backend c =
+    let n = had_none _ _ c.ok_or-3.ensures.value c.in_err-backend.was in
+    rw (handed_on _ _ c.from_residual-in_err-backend.ensures, n.1)
+    (λ before at. matched (goal.at.returns-in_err-backend c).In_ok-suffix before at ∙ rw (sym c.number_in-2.ensures ∙ n.0))
 
 service :
-    (c : In-Value-number_in)
+    (c : In_ok-backend)
     → let a = c.args in
-    Numeral 1 most_services c.in-Value.service (field (split 32 (slice a.from a.to a.text.now)) 0)
+    Numeral 1 most_services c.in_ok-service.service (field (split 32 (slice a.from a.to a.text.now)) 0)
 service c =
-    only-text _ _ _ _ (sym c.number_in.ensures ∙ c.in-Value.is)
+    only-text _ _ _ _ (sym c.number_in.ensures ∙ had _ _ c.ok_or.ensures.value c.in_ok-service.was)
 
 backend :
-    (c : In-Value-number_in)
+    (c : In_ok-backend)
     → let a = c.args in
-    Numeral 1 most_id c.in-Value-number_in.backend (field (split 32 (slice a.from a.to a.text.now)) 2)
-backend c = only-text _ _ _ _ (sym c.number_in-2.ensures ∙ c.in-Value-number_in.is)
+    Numeral 1 most_id c.in_ok-backend.backend (field (split 32 (slice a.from a.to a.text.now)) 2)
+backend c = only-text _ _ _ _ (sym c.number_in-2.ensures ∙ had _ _ c.ok_or-3.ensures.value c.in_ok-backend.was)
 
 pub returns : goal.returns
 unfolding on_field
 returns c =
-    let short = suffix-only _ _ _ _ (bits (goal.at.returns c).After-read_suffix ∙ c.in-Suffix.is) in (
+    let short = suffix-only _ _ _ _ (bits (goal.at.returns c).After-read_suffix ∙ had _ _ c.ok_or-2.ensures.value c.in_ok-suffix.was) in (
       is-formed _ _
           (record {
             numbered = (service c).low;
@@ -104,5 +111,5 @@ returns c =
             labelled = (backend c).low;
             backend = (backend c).high;
           }),
-      λ before at. matched (goal.at.returns c).In-Suffix before at ∙ rw (sym c.number_in-2.ensures ∙ c.in-Value-number_in.is),
+      λ before at. matched (goal.at.returns c).In_ok-suffix before at ∙ rw (sym c.number_in-2.ensures ∙ had _ _ c.ok_or-3.ensures.value c.in_ok-backend.was),
     )

@@ -1,4 +1,5 @@
 -- `rule_sheet::read_lines` meets its contract. The invariant: the lines passed are kept, and what is left is read behind them.
+use Rattle.std.specs.Prelude.{Err}
 use Prim.Native.Nat.{ℕ, ◌+◌, ◌≤◌}
 use mathlib.Core.Path.{refl, sym, ap, ◌∙◌, ◌≡◌}
 use mathlib.Core.List.{◌∷◌, []}
@@ -11,7 +12,6 @@ use Rattle.numerals.specs.declared.refusal.Refusal.{Refusal}
 use Rattle.numerals.specs.declared.refusal.Refusal.TheVariants.{Malformed}
 use Rattle.sheets.specs.Reading.{Reading, refused}
 use Rattle.sheets.specs.RuleSheet.{Table}
-use Rattle.sheets.specs.declared.rule_sheet.SheetLines.TheVariants.{Refused}
 use Rattle.sheets.specs.Inner.TableReader.{sheet_answer}
 use Rattle.sheets.proofs.Reader.{passed-few, passed-count, passed_none, next-none, next-cut, next-refused, next-got, refused-by, whole-filled}
 use Rattle.sheets.proofs.rule_sheet.read_lines.Goals as goal
@@ -43,7 +43,7 @@ returns-then-text-end c =
     c.loop-start-test.true c.if-text-end.true ∙ at Malformed (goal.at.returns-then-text-end c).At-loop-start in
     let back = refused-by _ _ _ _ e in
     record {
-      answer = ap Refused c.refused_at.ensures ∙ back.0;
+      answer = ap Err c.refused_at.ensures ∙ back.0;
       buffer = back.1;
     }
 
@@ -58,22 +58,22 @@ take_line-placed-requires c =
       passed = (r.before, r.passed);
     }
 
-pub overflow_add-last-in-Refused : goal.overflow_add-last-in-Refused
-overflow_add-last-in-Refused c = few (goal.at.overflow_add-last-in-Refused c).At-loop-start
+pub overflow_add-last-in-Err : goal.overflow_add-last-in-Err
+overflow_add-last-in-Err c = few (goal.at.overflow_add-last-in-Err c).At-loop-start
 
-pub returns-in-Refused : goal.returns-in-Refused
-returns-in-Refused c =
+pub returns-in-Err : goal.returns-in-Err
+returns-in-Err c =
     let a = c.args in
     let r = c.loop-start.invariant.1 in
-    let taken = rw c.in-Refused.is at
+    let taken = rw c.in-Err.is at
     (c.take_line-placed.ensures r.before r.passed) in
     let e = r.rest ∙ next-refused a.head a.text.now r.before _ _
     c.find-end.ensures
     c.if-text-end.false _ taken
-    ∙ at _ (goal.at.returns-in-Refused c).At-loop-start in
+    ∙ at _ (goal.at.returns-in-Err c).At-loop-start in
     let back = refused-by _ _ _ _ e in
     record {
-      answer = ap Refused c.refused_at-in-Refused.ensures ∙ back.0;
+      answer = ap Err c.refused_at-in-Err.ensures ∙ back.0;
       buffer = back.1;
     }
 
@@ -93,7 +93,7 @@ pub loop-start-preserved : goal.loop-start-preserved
 loop-start-preserved c =
     let a = c.args in
     let r = c.loop-start.invariant.1 in
-    let taken = rw c.in-Next.is at (c.take_line-placed.ensures r.before r.passed) in (
+    let taken = rw c.in-Ok.is at (c.take_line-placed.ensures r.before r.passed) in (
       omega (arith, c.if-text-end.false),
       record {
         before = taken.0 ∷ r.before;

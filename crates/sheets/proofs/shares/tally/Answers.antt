@@ -17,10 +17,7 @@ overflow_shl-all c = omega (arith, c.requires.1)
 
 pub loop-s-init : goal.loop-s-init
 unfolding count_to sum_to
-loop-s-init c = (omega arith, refl)
-
-pub first_backend-requires : goal.first_backend-requires
-first_backend-requires c = c.requires.0
+loop-s-init c = refl
 
 pub overflow_add-held : goal.overflow_add-held
 overflow_add-held c =
@@ -28,38 +25,35 @@ overflow_add-held c =
     let l = c.loop-s in
     omega (
       arith,
-      l.invariant.1,
+      l.invariant,
       count-le l.s (λ v. gives (own_rules a.service (lines_in a.table.now a.n)) v a.backend),
-      c.loop-s-test.true,
     )
 
 pub loop-s-preserved : goal.loop-s-preserved
 loop-s-preserved c =
     let l = c.loop-s in
     let a = c.args in
-    let first = c.first_backend.ensures in (
-      omega arith,
-      elim c.if-first_backend-backend.branch [
-        | then-first_backend-backend w ↦ omega (
-          arith,
-          l.invariant.1,
-          w.held-is,
-          given-more _ a.backend l.s _ first
-              w.if-first_backend-backend.true,
-        )
-        | else-first_backend-backend w ↦ omega (
-          arith,
-          l.invariant.1,
-          w.held-is,
-          other-more _ a.backend l.s _ first
-              w.if-first_backend-backend.false,
-        )
-      ],
-    )
+    let first = c.first_backend.ensures in
+    elim c.if-first_backend-backend.branch [
+      | then-first_backend-backend w ↦ omega (
+        arith,
+        l.invariant,
+        w.held-is,
+        given-more _ a.backend l.s _ first
+            w.if-first_backend-backend.true,
+      )
+      | else-first_backend-backend w ↦ omega (
+        arith,
+        l.invariant,
+        w.held-is,
+        other-more _ a.backend l.s _ first
+            w.if-first_backend-backend.false,
+      )
+    ]
 
 pub returns : goal.returns
 unfolding share
 returns c =
     let l = c.loop-s in
     let end : l.s ≡ 2 ^ c.args.k = omega (arith, shifted c.args.k c.requires.1) in
-    l.invariant.1 ∙ ap (given_to (own_rules c.args.service (lines_in c.args.table.now c.args.n)) c.args.backend) end
+    l.invariant ∙ ap (given_to (own_rules c.args.service (lines_in c.args.table.now c.args.n)) c.args.backend) end

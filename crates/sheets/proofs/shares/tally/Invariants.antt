@@ -1,5 +1,4 @@
 -- `shares::tally` meets its contract. The invariant: the suffixes below s are counted.
-use Prim.Native.Nat.{◌-◌, ◌≤◌}
 use mathlib.Core.Path.{◌≡◌}
 use Rattle.packing.specs.Count.{own_rules}
 use Rattle.sheets.specs.Inner.TableNumbers.{lines_in}
@@ -7,7 +6,4 @@ use Rattle.sheets.proofs.Sharing.{given_to}
 use Rattle.sheets.proofs.shares.tally.Given as goal
 
 abbrev pub invariant-loop-s : goal.invariant-loop-s
-invariant-loop-s l = (l.s ≤ l.all) × (l.held ≡ given_to (own_rules l.service (lines_in l.table l.n)) l.backend l.s)
-
-abbrev pub decreases-loop-s : goal.decreases-loop-s
-decreases-loop-s l = l.all - l.s
+invariant-loop-s l = l.held ≡ given_to (own_rules l.service (lines_in l.table l.n)) l.backend l.s

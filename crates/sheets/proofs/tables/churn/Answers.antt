@@ -1,49 +1,56 @@
 -- `tables::churn` meets its contract: the refusal of a sheet, or what is found between the two tables.
+use Rattle.std.specs.Prelude.{Err}
 use mathlib.Core.Path.{◌≡◌, sym, ap, ◌∙◌}
 use native.Mathlib.Omega.{arith}
-use Rattle.sheets.specs.Calls.{churn_answer}
+use Rattle.numerals.proofs.Exits.{handed_on, had_ok, had_err}
+use Rattle.std.proofs.Common.{rules}
+use Rattle.sheets.specs.declared.answer.Refused.{Refused}
+use Rattle.sheets.specs.Calls.{about, churn_answer}
 use Rattle.sheets.proofs.HeldTables.{TableHeld, table-held, sheet-refused, in_memory, found-there}
 use Rattle.sheets.proofs.tables.churn.Goals as goal
-use Rattle.sheets.proofs.tables.churn.Goals.{In-Table, In-Table-new_read}
+use Rattle.sheets.proofs.tables.churn.Goals.{In_ok-a, In_ok-b}
 
 -- the sheets were read
 old-held :
-    (c : In-Table)
-    → TableHeld c.args.old.now c.in-Table.a
-    c.read_sheet_lines-old_read.new.table
+    (c : In_ok-a)
+    → TableHeld c.args.old.now c.in_ok-a.a
+    c.read_sheet_lines.new.table
 old-held c =
-    let read = c.read_sheet_lines-old_read in
-    table-held _ _ _ (omega arith) (sym c.in-Table.is ∙ read.ensures.answer) read.ensures.buffer
+    let read = c.read_sheet_lines in
+    table-held _ _ _ (omega arith) (sym (had_ok _ _ c.map_err.ensures.cases c.in_ok-a.was) ∙ read.ensures.answer) read.ensures.buffer
 
 new-held :
-    (c : In-Table-new_read)
+    (c : In_ok-b)
     → TableHeld c.args.new.now
-    c.in-Table-new_read.b c.read_sheet_lines-new_read.new.table
+    c.in_ok-b.b c.read_sheet_lines-2.new.table
 new-held c =
-    let read = c.read_sheet_lines-new_read in
-    table-held _ _ _ (omega arith) (sym c.in-Table-new_read.is ∙ read.ensures.answer) read.ensures.buffer
+    let read = c.read_sheet_lines-2 in
+    table-held _ _ _ (omega arith) (sym (had_ok _ _ c.map_err-2.ensures.cases c.in_ok-b.was) ∙ read.ensures.answer) read.ensures.buffer
 
-pub returns-in_default : goal.returns-in_default
+pub returns-in_err-a : goal.returns-in_err-a
 unfolding churn_answer
-returns-in_default c =
-    let is = c.in_default.is in
-    c.refused_sheet.ensures _ is ∙ sym (rw (sheet-refused _ _ (sym is ∙ c.read_sheet_lines-old_read.ensures.answer)))
+returns-in_err-a c =
+    let w = had_err {E = Refused} {D = Refused} _ _ c.map_err.ensures.cases c.in_err-a.was in
+    let q : c.in_err-a.field-0.0 ≡ about 1 w.0.why w.0.line = search rules in
+    handed_on _ _ c.from_residual.ensures ∙ ap Err q ∙ sym (rw (sheet-refused _ _ (sym w.1 ∙ c.read_sheet_lines.ensures.answer)))
 
-pub returns-in_default-new_read : goal.returns-in_default-new_read
+pub returns-in_err-b : goal.returns-in_err-b
 unfolding churn_answer
-returns-in_default-new_read c =
-    let is = c.in_default-new_read.is in
-    c.refused_sheet-in_default-new_read.ensures _ is
+returns-in_err-b c =
+    let w = had_err {E = Refused} {D = Refused} _ _ c.map_err-2.ensures.cases c.in_err-b.was in
+    let q : c.in_err-b.field-0.0 ≡ about 2 w.0.why w.0.line = search rules in
+    handed_on _ _ c.from_residual-in_err-b.ensures
+    ∙ ap Err q
     ∙ sym (rw (
-      (old-held (goal.at.returns-in_default-new_read c).In-Table).read,
-      sheet-refused _ _ (sym is ∙ c.read_sheet_lines-new_read.ensures.answer),
+      (old-held (goal.at.returns-in_err-b c).In_ok-a).read,
+      sheet-refused _ _ (sym w.1 ∙ c.read_sheet_lines-2.ensures.answer),
     ))
 
 pub compare-requires : goal.compare-requires
 compare-requires c =
-    let old = old-held (goal.at.compare-requires c).In-Table in
-    let new = new-held (goal.at.compare-requires c).In-Table-new_read in
-    let k : c.in-Table.a.k ≡ old.table.k = ap (λ x. x.k) old.head in
+    let old = old-held (goal.at.compare-requires c).In_ok-a in
+    let new = new-held (goal.at.compare-requires c).In_ok-b in
+    let k : c.in_ok-a.a.k ≡ old.table.k = ap (λ x. x.k) old.head in
     record {
       rule_lines = (old.ruled, (new.ruled, omega (arith, old.proper.few_bits)));
       found = (found-there _ _ _ old _, found-there _ _ _ new _);
@@ -52,6 +59,6 @@ compare-requires c =
 pub returns : goal.returns
 unfolding churn_answer
 returns c =
-    let old = old-held (goal.at.returns c).In-Table in
-    let new = new-held (goal.at.returns c).In-Table-new_read in
+    let old = old-held (goal.at.returns c).In_ok-a in
+    let new = new-held (goal.at.returns c).In_ok-b in
     c.compare.ensures ∙ sym (rw (old.read, new.read, ← in_memory _ _ _ old, ← in_memory _ _ _ new))

@@ -1,4 +1,5 @@
 -- `tables::compare` meets its contract: each return by the tests that led to it.
+use Rattle.std.specs.Prelude.{Err, Ok}
 use Prim.Native.Nat.{ℕ}
 use mathlib.Core.Path.{◌≡◌, sym, ap, ◌∙◌}
 use mathlib.Core.Bool.{true, false}
@@ -11,7 +12,6 @@ use Rattle.sheets.specs.RuleSheet.{Table}
 use Rattle.sheets.specs.Calls.{has_service, moved, churn_of}
 use Rattle.sheets.specs.Inner.TableNumbers.{lines_in}
 use Rattle.sheets.specs.Inner.TableReader.{table_of, Found}
-use Rattle.sheets.specs.declared.answer.Answer.TheVariants.{Value, Refused}
 use Rattle.sheets.proofs.tables.compare.Goals as goal
 use Rattle.sheets.proofs.tables.compare.Goals.{Else-first_backend-eq0, Else-first_backend-eq0-2}
 
@@ -49,7 +49,7 @@ new-there c =
 pub returns-then-a-b : goal.returns-then-a-b
 unfolding churn_of
 returns-then-a-b c =
-    ap Refused c.refused_at.ensures ∙ sym (rw (
+    ap Err c.refused_at.ensures ∙ sym (rw (
       old-there (goal.at.returns-then-a-b c).Else-first_backend-eq0,
       new-there
           (goal.at.returns-then-a-b c).Else-first_backend-eq0-2,
@@ -63,6 +63,6 @@ pub returns : goal.returns
 unfolding churn_of
 returns c =
     let all = shifted c.args.a.k c.requires.rule_lines.1.1 in
-    ap Value (c.count_moved.ensures
+    ap Ok (c.count_moved.ensures
     ∙ ap (λ (x : ℕ). moved x (lines_in c.args.old.now c.args.a.n) (lines_in c.args.new.now c.args.b.n) c.args.service) all)
     ∙ sym (rw (old-there (goal.at.returns c).Else-first_backend-eq0, new-there (goal.at.returns c).Else-first_backend-eq0-2, eq-eqb _ _ c.if-a-b.false))

@@ -15,7 +15,7 @@ use Rattle.sheets.proofs.tables.count_moved.Invariants.{differs}
 
 pub loop-s-init : goal.loop-s-init
 unfolding count_to
-loop-s-init c = (omega arith, sym (sum-none _))
+loop-s-init c = sym (sum-none _)
 
 -- one suffix more
 one : (s : ℕ) (t : ℕ → Bool) → t s ≡ true → count_to (s + 1) t ≡ count_to s t + 1
@@ -24,34 +24,26 @@ one s t e = rw (add-one s) (count-suc s t ∙ rw e)
 none : (s : ℕ) (t : ℕ → Bool) → t s ≡ false → count_to (s + 1) t ≡ count_to s t
 none s t e = rw (add-one s) (count-suc s t ∙ rw e (omega arith))
 
-pub first_backend-requires : goal.first_backend-requires
-first_backend-requires c = c.requires.0
-
-pub first_backend-requires-in-loop-s : goal.first_backend-requires-in-loop-s
-first_backend-requires-in-loop-s c = c.requires.1
-
 pub overflow_add-moved : goal.overflow_add-moved
 overflow_add-moved c =
     let a = c.args in
     let l = c.loop-s in
-    omega (arith, l.invariant.1, count-le l.s (differs a.old.now a.n a.new.now a.m a.service))
+    omega (arith, l.invariant, count-le l.s (differs a.old.now a.n a.new.now a.m a.service))
 
 pub loop-s-preserved : goal.loop-s-preserved
 loop-s-preserved c =
     let l = c.loop-s in
     let old = c.first_backend.ensures in
-    let new = c.first_backend-in-loop-s.ensures in (
-      omega arith,
-      elim c.if-first_backend.branch [
-        | then-first_backend w ↦ w.moved-is ∙ ap (λ (n : ℕ). n + 1) l.invariant.1 ∙ sym
-            (one l.s _ (ap not (ne_eqb _ _ (λ e. w.if-first_backend.true (old ∙ e ∙ sym new)))))
-        | else-first_backend w ↦ w.moved-is ∙ l.invariant.1 ∙ sym
-            (none l.s _ (ap not (eq-eqb _ _ (sym old ∙ w.if-first_backend.false ∙ new))))
-      ],
-    )
+    let new = c.first_backend-in-loop-s.ensures in
+    elim c.if-first_backend.branch [
+      | then-first_backend w ↦ w.moved-is ∙ ap (λ (n : ℕ). n + 1) l.invariant ∙ sym
+          (one l.s _ (ap not (ne_eqb _ _ (λ e. w.if-first_backend.true (old ∙ e ∙ sym new)))))
+      | else-first_backend w ↦ w.moved-is ∙ l.invariant ∙ sym
+          (none l.s _ (ap not (eq-eqb _ _ (sym old ∙ w.if-first_backend.false ∙ new))))
+    ]
 
 pub returns : goal.returns
 unfolding moved differing
 returns c =
     let end : c.loop-s.s ≡ c.args.all = omega arith in
-    c.loop-s.invariant.1 ∙ rw end
+    c.loop-s.invariant ∙ rw end

@@ -1,5 +1,5 @@
 -- `tables::count_moved` meets its contract. The invariant: the suffixes below s that moved are counted.
-use Prim.Native.Nat.{ℕ, ◌-◌, ◌≤◌}
+use Prim.Native.Nat.{ℕ}
 use mathlib.Core.Path.{◌≡◌}
 use mathlib.Core.Bool.{Bool, not}
 use mathlib.Core.List.{List}
@@ -14,7 +14,4 @@ abbrev pub differs : List ℕ → ℕ → List ℕ → ℕ → ℕ → ℕ → B
 differs old n new m service v = not (eqb (first_match (own_rules service (lines_in old n)) v) (first_match (own_rules service (lines_in new m)) v))
 
 abbrev pub invariant-loop-s : goal.invariant-loop-s
-invariant-loop-s l = (l.s ≤ l.all) × (l.moved ≡ count_to l.s (differs l.old l.n l.new l.m l.service))
-
-abbrev pub decreases-loop-s : goal.decreases-loop-s
-decreases-loop-s l = l.all - l.s
+invariant-loop-s l = l.moved ≡ count_to l.s (differs l.old l.n l.new l.m l.service)

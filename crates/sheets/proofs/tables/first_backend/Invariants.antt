@@ -1,5 +1,5 @@
--- `tables::first_backend` meets its contract. The invariant: the first match of all lines is that of the lines that are left.
-use Prim.Native.Nat.{ℕ, ◌-◌, ◌*◌, ◌≤◌}
+-- `tables::first_backend` meets its contract. The invariant: the first match of all lines is that of the lines from i on.
+use Prim.Native.Nat.{ℕ, ◌*◌}
 use mathlib.Core.Path.{◌≡◌}
 use mathlib.Core.List.{List}
 use lib.Seq.{slice}
@@ -13,9 +13,5 @@ use Rattle.sheets.proofs.tables.first_backend.Given as goal
 abbrev pub from : List ℕ → ℕ → ℕ → ℕ → ℕ → ℕ
 from table n service address i = first_match (own_rules service (lines_from (slice (4 * i) (4 * n) table))) address
 
-abbrev pub invariant-loop-left : goal.invariant-loop-left
-invariant-loop-left l =
-    (l.left ≤ l.n) × (first_match (own_rules l.service (lines_in l.table l.n)) l.address ≡ from l.table l.n l.service l.address (l.n - l.left))
-
-abbrev pub decreases-loop-left : goal.decreases-loop-left
-decreases-loop-left l = l.left
+abbrev pub invariant-loop-i : goal.invariant-loop-i
+invariant-loop-i l = first_match (own_rules l.service (lines_in l.table l.n)) l.address ≡ from l.table l.n l.service l.address l.i

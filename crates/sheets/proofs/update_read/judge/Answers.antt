@@ -1,114 +1,86 @@
 -- `update_read::judge` meets its contract: each return by the tests that led to it.
-use Prim.Native.Nat.{◌*◌}
+use Rattle.std.specs.Prelude.{Err}
+use Prim.Native.Nat.{ℕ, ◌*◌}
 use mathlib.Core.Path.{◌≡◌, sym, ap, ◌∙◌}
-use mathlib.Core.Bool.{true}
+use mathlib.Core.Bool.{Bool, true, false}
 use native.Mathlib.Omega.{arith}
 use lib.Dec.{leb, ltb, eqb}
-use borrow.Author.Tests.{le-ltb, lt-ltb, le-leb, lt-leb, eq-eqb, ne_eqb}
+use borrow.Author.Tests.{le-ltb, lt-ltb, eq-eqb, ne_eqb}
+use Rattle.std.proofs.lemmas.Grind.{common_steps}
 use Rattle.expansion.specs.Answer.{in_limits}
 use Rattle.sheets.specs.Inner.Update.{judged}
-use Rattle.sheets.specs.declared.answer.UpdateRead.TheVariants.{Refused}
-use Rattle.sheets.proofs.TableChecks.{is_within_lem, below-least, above_most}
+use Rattle.numerals.specs.Pick.{both}
+use Rattle.sheets.specs.declared.answer.UpdateRecord.{UpdateRecord}
 use Rattle.sheets.proofs.update_read.judge.Goals as goal
-use Rattle.sheets.proofs.update_read.judge.Goals.{Else-found-eq0, Else-found-k, Else-ids-found, Else-rules-found, Else-services-service}
+use Rattle.sheets.proofs.update_read.judge.Goals.{then-rules-found-via-then-rules-found, then-rules-found-via-else-rules-found+then-ids-found}
+use Rattle.sheets.proofs.update_read.judge.Goals.{then-rules-found-via-else-rules-found+else-ids-found+then-weights-found}
+use Rattle.sheets.proofs.update_read.judge.Goals.{Else-found-eq0, Else-found-k, Then-not-contains, Else-not-contains}
 
 pub returns-then-found-eq0 : goal.returns-then-found-eq0
 unfolding judged
 returns-then-found-eq0 c =
     let a = c.args in
-    ap Refused c.lacking.ensures ∙ sym (rw (le-ltb 0 a.found.rules (omega (arith, c.if-found-eq0.true))))
+    ap Err c.lacking.ensures ∙ sym (rw (le-ltb 0 a.found.rules (omega (arith, c.if-found-eq0.true))))
 
 some : (c : Else-found-eq0) → ltb 0 c.args.found.rules ≡ true
 some c = lt-ltb 0 c.args.found.rules (omega (arith, c.if-found-eq0.false))
 
-pub returns-then-service-eq0 : goal.returns-then-service-eq0
-unfolding judged
-returns-then-service-eq0 c =
-    let a = c.args in
-    ap Refused c.lacking-then-service-eq0.ensures
-    ∙ sym (rw (some (goal.at.returns-then-service-eq0 c).Else-found-eq0, below-least 1 a.services a.service (omega (arith, c.if-service-eq0.true))))
+outside : (c : Then-not-contains) → let a = c.args in in_limits 1 a.services a.service ≡ false
+unfolding in_limits
+outside c = grind (arith, common_steps)
 
-pub returns-then-services-service : goal.returns-then-services-service
+pub returns-then-not-contains : goal.returns-then-not-contains
 unfolding judged
-returns-then-services-service c =
-    let a = c.args in
-    ap Refused c.lacking-then-services-service.ensures
-    ∙ sym (rw (some (goal.at.returns-then-services-service c).Else-found-eq0, above_most 1 a.services a.service c.if-services-service.true))
+returns-then-not-contains c =
+    ap Err c.lacking-then-not-contains.ensures
+    ∙ sym (rw (some (goal.at.returns-then-not-contains c).Else-found-eq0, outside (goal.at.returns-then-not-contains c).Then-not-contains))
 
-there : (c : Else-services-service) → let a = c.args in in_limits 1 a.services a.service ≡ true
-there c =
-    let a = c.args in
-    is_within_lem 1 a.services a.service (omega (arith, c.if-service-eq0.false)) (omega (arith, c.if-services-service.false))
+there : (c : Else-not-contains) → let a = c.args in in_limits 1 a.services a.service ≡ true
+unfolding in_limits
+there c = grind (arith, common_steps)
 
 pub returns-then-found-k : goal.returns-then-found-k
 unfolding judged
 returns-then-found-k c =
-    ap Refused c.refused_at.ensures ∙ sym (rw (
+    ap Err c.refused_at.ensures ∙ sym (rw (
       some (goal.at.returns-then-found-k c).Else-found-eq0,
       there
-          (goal.at.returns-then-found-k c).Else-services-service,
+          (goal.at.returns-then-found-k c).Else-not-contains,
       ne_eqb _ _ c.if-found-k.true,
     ))
 
 same : (c : Else-found-k) → let a = c.args in eqb a.found.k a.k ≡ true
 same c = eq-eqb _ _ c.if-found-k.false
 
+-- there is room for the rules, the ids and the weights
+abbrev room : UpdateRecord → ℕ → ℕ → ℕ → Bool
+room m rules ids weights = both (leb (3 * m.rules) rules) (both (leb m.backends ids) (leb m.backends weights))
+
 pub returns-then-rules-found : goal.returns-then-rules-found
 unfolding judged
 returns-then-rules-found c =
-    ap Refused c.refused_at-then-rules-found.ensures ∙ sym (rw (
+    let a = c.args in
+    let less : room a.found a.rules a.ids a.weights ≡ false =
+    elim c.then-rules-found.branch [
+      | then-rules-found-via-then-rules-found w ↦ grind (arith, common_steps)
+      | then-rules-found-via-else-rules-found+then-ids-found w ↦ grind (arith, common_steps)
+      | then-rules-found-via-else-rules-found+else-ids-found+then-weights-found w ↦ grind (arith, common_steps)
+    ] in
+    ap Err c.refused_at-then-rules-found.ensures ∙ sym (rw (
       some (goal.at.returns-then-rules-found c).Else-found-eq0,
-      there
-          (goal.at.returns-then-rules-found c).Else-services-service,
+      there (goal.at.returns-then-rules-found c).Else-not-contains,
       same (goal.at.returns-then-rules-found c).Else-found-k,
-      lt-leb _ _ c.if-rules-found.true,
-    ))
-
-wide : (c : Else-rules-found) → let a = c.args in leb (3 * a.found.rules) a.rules ≡ true
-wide c = le-leb _ _ c.if-rules-found.false
-
-pub returns-then-ids-found : goal.returns-then-ids-found
-unfolding judged
-returns-then-ids-found c =
-    ap Refused c.refused_at-then-ids-found.ensures ∙ sym (rw (
-      some (goal.at.returns-then-ids-found c).Else-found-eq0,
-      there
-          (goal.at.returns-then-ids-found c).Else-services-service,
-      same (goal.at.returns-then-ids-found c).Else-found-k,
-      wide
-          (goal.at.returns-then-ids-found c).Else-rules-found,
-      lt-leb _ _ c.if-ids-found.true,
-    ))
-
-broad :
-    (c : Else-ids-found)
-    → let a = c.args in leb a.found.backends a.ids ≡ true
-broad c = le-leb _ _ c.if-ids-found.false
-
-pub returns-then-weights-found : goal.returns-then-weights-found
-unfolding judged
-returns-then-weights-found c =
-    ap Refused c.refused_at-then-weights-found.ensures ∙ sym (rw (
-      some (goal.at.returns-then-weights-found c).Else-found-eq0,
-      there
-          (goal.at.returns-then-weights-found c).Else-services-service,
-      same (goal.at.returns-then-weights-found c).Else-found-k,
-      wide
-          (goal.at.returns-then-weights-found c).Else-rules-found,
-      broad (goal.at.returns-then-weights-found c).Else-ids-found,
-      lt-leb _ _
-          c.if-weights-found.true,
+      less,
     ))
 
 pub returns : goal.returns
 unfolding judged
 returns c =
+    let a = c.args in
+    let enough : room a.found a.rules a.ids a.weights ≡ true = grind (arith, common_steps) in
     sym (rw (
       some (goal.at.returns c).Else-found-eq0,
-      there (goal.at.returns c).Else-services-service,
+      there (goal.at.returns c).Else-not-contains,
       same (goal.at.returns c).Else-found-k,
-      wide
-          (goal.at.returns c).Else-rules-found,
-      broad (goal.at.returns c).Else-ids-found,
-      le-leb _ _ c.if-weights-found.false,
+      enough,
     ))

@@ -8,24 +8,22 @@ use Rattle.sheets.proofs.update_read.lines_of.Goals as goal
 use Rattle.sheets.proofs.update_read.lines_of.Goals.{then-table-i, else-table-i}
 
 pub loop-i-init : goal.loop-i-init
-loop-i-init c = (omega arith, (omega arith, omega arith))
+loop-i-init c = (omega arith, omega arith)
 
 pub loop-i-preserved : goal.loop-i-preserved
 loop-i-preserved c =
     let l = c.loop-i in
-    let a = c.args in (
-      omega arith,
-      elim c.if-table-i.branch [
-        | then-table-i w ↦ (
-          omega (arith, w.count-is),
-          omega (arith, w.count-is, l.invariant.1.1, ap length (own-more a.table.now a.n c.requires a.service l.i (omega arith) w.if-table-i.true)),
-        )
-        | else-table-i w ↦ (
-          omega (arith, w.count-is),
-          omega (arith, w.count-is, l.invariant.1.1, ap length (own-past a.table.now a.n c.requires a.service l.i (omega arith) w.if-table-i.false)),
-        )
-      ],
-    )
+    let a = c.args in
+    elim c.if-table-i.branch [
+      | then-table-i w ↦ (
+        omega (arith, w.count-is),
+        omega (arith, w.count-is, l.invariant.1, ap length (own-more a.table.now a.n c.requires a.service l.i (omega arith) w.if-table-i.true)),
+      )
+      | else-table-i w ↦ (
+        omega (arith, w.count-is),
+        omega (arith, w.count-is, l.invariant.1, ap length (own-past a.table.now a.n c.requires a.service l.i (omega arith) w.if-table-i.false)),
+      )
+    ]
 
 pub returns : goal.returns
 unfolding count_of
@@ -34,5 +32,5 @@ returns c =
     let a = c.args in
     record {
       few = omega arith;
-      count = omega (arith, l.invariant.1.1, ap length (own-none a.table.now a.n c.requires a.service l.i (omega arith)));
+      count = omega (arith, l.invariant.1, ap length (own-none a.table.now a.n c.requires a.service l.i (omega arith)));
     }

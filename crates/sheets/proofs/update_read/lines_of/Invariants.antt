@@ -1,5 +1,5 @@
 -- `update_read::lines_of` meets its contract. The invariant: those counted, and those of the lines that are left, are all.
-use Prim.Native.Nat.{◌+◌, ◌-◌, ◌≤◌}
+use Prim.Native.Nat.{◌+◌, ◌≤◌}
 use mathlib.Core.Path.{◌≡◌}
 use lib.ListN.{length}
 use Rattle.sheets.proofs.OwnNumbers.{own_from}
@@ -7,7 +7,4 @@ use Rattle.sheets.proofs.update_read.lines_of.Given as goal
 
 abbrev pub invariant-loop-i : goal.invariant-loop-i
 invariant-loop-i l =
-    (l.i ≤ l.n) × ((l.count ≤ l.i) × (l.count + length (own_from l.table l.n l.service l.i) ≡ length (own_from l.table l.n l.service 0)))
-
-abbrev pub decreases-loop-i : goal.decreases-loop-i
-decreases-loop-i l = l.n - l.i
+    (l.count ≤ l.i) × (l.count + length (own_from l.table l.n l.service l.i) ≡ length (own_from l.table l.n l.service 0))

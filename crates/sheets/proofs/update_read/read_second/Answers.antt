@@ -1,88 +1,94 @@
 -- `update_read::read_second` meets its contract: what the memory holds of the percentage sheet is selected from.
+use Rattle.std.specs.Prelude.{Err}
 use Prim.Native.Nat.{◌≤◌}
-use mathlib.Core.Path.{refl, sym, ap, ◌∙◌}
+use mathlib.Core.Path.{◌≡◌, sym, ap, ◌∙◌}
 use native.Mathlib.Omega.{arith}
 use lib.ListN.{length}
 use lib.Seq.{length-take-le}
+use Rattle.numerals.proofs.Exits.{handed_on, had_ok, had_err}
+use Rattle.std.proofs.Common.{rules}
+use Rattle.sheets.specs.declared.answer.Refused.{Refused}
 use Rattle.sheets.specs.PercentageSheet.{read_sheet}
-use Rattle.sheets.specs.Calls.{afterwards}
+use Rattle.sheets.specs.Calls.{about, afterwards}
 use Rattle.sheets.specs.Update.{is_read}
 use Rattle.sheets.specs.Inner.SheetReader.{SheetHeld}
 use Rattle.sheets.specs.Inner.TableReader.{table_of}
-use Rattle.sheets.specs.declared.answer.UpdateRead.TheVariants.{Refused}
 use Rattle.sheets.proofs.Judging.{held-named, held-sum, held-few, held_update, held-new-ids, held_new}
 use Rattle.sheets.proofs.update_read.read_second.Goals as goal
-use Rattle.sheets.proofs.update_read.read_second.Goals.{In-Sheet}
+use Rattle.sheets.proofs.update_read.read_second.Goals.{In_ok-new}
 
 held :
-    (c : In-Sheet)
-    → let n = c.read_sheet-read.new in
+    (c : In_ok-new)
+    → let n = c.read_sheet.new in
     SheetHeld (read_sheet c.args.sheet.now)
-    n.volumes n.sizes n.ids n.weights c.in-Sheet.head c.in-Sheet.services c.in-Sheet.row
-held c = rw c.in-Sheet.is at c.read_sheet-read.ensures
+    n.volumes n.sizes n.ids n.weights c.in_ok-new.new.head c.in_ok-new.new.services c.in_ok-new.new.row
+held c = rw (had_ok _ c.read_sheet.result c.map_err.ensures.cases c.in_ok-new.was) at c.read_sheet.ensures
 
 -- the arrays are long enough
-room-sizes : (c : In-Sheet) → c.in-Sheet.services ≤ length c.read_sheet-read.new.sizes
+room-sizes : (c : In_ok-new) → c.in_ok-new.new.services ≤ length c.read_sheet.new.sizes
 room-sizes c = omega (arith, (held c).holds.few)
 
-room-named : (c : In-Sheet) → c.in-Sheet.row ≤ length c.read_sheet-read.new.ids
+room-named : (c : In_ok-new) → c.in_ok-new.new.row ≤ length c.read_sheet.new.ids
 room-named c = omega (arith, (held c).holds.few, (held c).holds.short)
 
-room-all : (c : In-Sheet) → c.in-Sheet.row ≤ length c.read_sheet-read.new.weights
+room-all : (c : In_ok-new) → c.in_ok-new.new.row ≤ length c.read_sheet.new.weights
 room-all c = omega (arith, (held c).holds.few, (held c).holds.short)
 
 pub slice_bounds-sizes-end : goal.slice_bounds-sizes-end
-slice_bounds-sizes-end c = room-sizes c
+slice_bounds-sizes-end c = room-sizes (goal.at.slice_bounds-sizes-end c).In_ok-new
 
 pub slice_bounds-select-end : goal.slice_bounds-select-end
-slice_bounds-select-end c = sym (length-take-le _ _ (room-sizes (goal.at.slice_bounds-select-end c).In-Sheet))
+slice_bounds-select-end c = sym (length-take-le _ _ (room-sizes (goal.at.slice_bounds-select-end c).In_ok-new))
 
 pub slice_bounds-named-end : goal.slice_bounds-named-end
-slice_bounds-named-end c = room-named (goal.at.slice_bounds-named-end c).In-Sheet
+slice_bounds-named-end c = room-named (goal.at.slice_bounds-named-end c).In_ok-new
 
-pub slice_bounds-select-end-in-Sheet : goal.slice_bounds-select-end-in-Sheet
-slice_bounds-select-end-in-Sheet c = sym (length-take-le _ _ (room-named (goal.at.slice_bounds-select-end-in-Sheet c).In-Sheet))
+pub slice_bounds-select-end-2 : goal.slice_bounds-select-end-2
+slice_bounds-select-end-2 c = sym (length-take-le _ _ (room-named (goal.at.slice_bounds-select-end-2 c).In_ok-new))
 
 pub slice_bounds-all-end : goal.slice_bounds-all-end
-slice_bounds-all-end c = room-all (goal.at.slice_bounds-all-end c).In-Sheet
+slice_bounds-all-end c = room-all (goal.at.slice_bounds-all-end c).In_ok-new
 
-pub slice_bounds-select-end-in-Sheet-2 : goal.slice_bounds-select-end-in-Sheet-2
-slice_bounds-select-end-in-Sheet-2 c = sym (length-take-le _ _ (room-all (goal.at.slice_bounds-select-end-in-Sheet-2 c).In-Sheet))
+pub slice_bounds-select-end-3 : goal.slice_bounds-select-end-3
+slice_bounds-select-end-3 c = sym (length-take-le _ _ (room-all (goal.at.slice_bounds-select-end-3 c).In_ok-new))
 
 pub select-requires : goal.select-requires
 select-requires c =
     record {
       n_in_bounds = c.requires;
       sizes_value = (
-        held-named _ (held (goal.at.select-requires c).In-Sheet),
+        held-named _ (held (goal.at.select-requires c).In_ok-new),
         (
-          held-sum _ (held (goal.at.select-requires c).In-Sheet),
+          held-sum _ (held (goal.at.select-requires c).In_ok-new),
           held-few _
-              (held (goal.at.select-requires c).In-Sheet),
+              (held (goal.at.select-requires c).In_ok-new),
         ),
       );
     }
 
-pub returns-in-Refused : goal.returns-in-Refused
-returns-in-Refused c =
-    let no = rw c.in-Refused.is at c.read_sheet-read.ensures in
+pub returns-in_err-new : goal.returns-in_err-new
+returns-in_err-new c =
+    let w = had_err {E = Refused} {D = Refused} _ c.read_sheet.result c.map_err.ensures.cases c.in_err-new.was in
+    let q : c.in_err-new.field-0.0 ≡ about 2 w.0.why w.0.line = search rules in
+    let no = rw w.1 at c.read_sheet.ensures in
+    let e = handed_on _ _ c.from_residual.ensures in
     record {
-      answer = rw no.0 (ap Refused c.about.ensures);
-      rules = refl;
-      ids = refl;
-      weights = refl;
+      answer = e ∙ rw no.0 (ap Err q);
+      rules = rw e;
+      ids = rw e;
+      weights = rw e;
     }
 
-pub returns-in-Sheet : goal.returns-in-Sheet
-returns-in-Sheet c =
+pub returns : goal.returns
+returns c =
     let a = c.args in
     let r = c.select in
     let e = r.ensures in
     record {
       answer = e.answer
-          ∙ held_update _ (held (goal.at.returns-in-Sheet c).In-Sheet) (table_of a.table a.lines.now) a.service (length a.rules.now) (length a.ids.now)
+          ∙ held_update _ (held (goal.at.returns c).In_ok-new) (table_of a.table a.lines.now) a.service (length a.rules.now) (length a.ids.now)
           (length a.weights.now);
       rules = e.rules;
-      ids = e.ids ∙ ap (afterwards (is_read r.result) a.ids.now) (held-new-ids _ (held (goal.at.returns-in-Sheet c).In-Sheet) a.service);
-      weights = e.weights ∙ ap (afterwards (is_read r.result) a.weights.now) (held_new _ (held (goal.at.returns-in-Sheet c).In-Sheet) a.service);
+      ids = e.ids ∙ ap (afterwards (is_read r.result) a.ids.now) (held-new-ids _ (held (goal.at.returns c).In_ok-new) a.service);
+      weights = e.weights ∙ ap (afterwards (is_read r.result) a.weights.now) (held_new _ (held (goal.at.returns c).In_ok-new) a.service);
     }

@@ -1,47 +1,52 @@
 -- `update_read::read_update` meets its contract: the refusal of the rule sheet, or what the second sheet comes to beside its table.
-use mathlib.Core.Path.{refl, sym, ap, ◌∙◌}
+use Rattle.std.specs.Prelude.{Err}
+use mathlib.Core.Path.{◌≡◌, sym, ap, ◌∙◌}
 use native.Mathlib.Omega.{arith}
 use lib.ListN.{length}
-use Rattle.sheets.specs.Calls.{afterwards}
+use Rattle.numerals.proofs.Exits.{handed_on, had_ok, had_err}
+use Rattle.std.proofs.Common.{rules}
+use Rattle.sheets.specs.declared.answer.Refused.{Refused}
+use Rattle.sheets.specs.Calls.{about, afterwards}
 use Rattle.sheets.specs.Update.{update_read_answer, is_read}
-use Rattle.sheets.specs.declared.answer.UpdateRead.TheVariants.{Refused}
 use Rattle.sheets.proofs.HeldTables.{TableHeld, table-held, sheet-refused}
 use Rattle.sheets.proofs.Judging.{held-answer, held-rules}
 use Rattle.sheets.proofs.update_read.read_update.Goals as goal
-use Rattle.sheets.proofs.update_read.read_update.Goals.{In-Table}
+use Rattle.sheets.proofs.update_read.read_update.Goals.{In_ok-table}
 
 -- the rule sheet was read
 has :
-    (c : In-Table)
-    → TableHeld c.args.old.now c.in-Table.table c.read_sheet_lines-read.new.table
+    (c : In_ok-table)
+    → TableHeld c.args.old.now c.in_ok-table.table c.read_sheet_lines.new.table
 has c =
-    let read = c.read_sheet_lines-read in
-    table-held _ _ _ (omega arith) (sym c.in-Table.is ∙ read.ensures.answer) read.ensures.buffer
+    let read = c.read_sheet_lines in
+    table-held _ _ _ (omega arith) (sym (had_ok _ _ c.map_err.ensures.cases c.in_ok-table.was) ∙ read.ensures.answer) read.ensures.buffer
 
 pub read_second-requires : goal.read_second-requires
-read_second-requires c = (has (goal.at.read_second-requires c).In-Table).ruled.room
+read_second-requires c = (has (goal.at.read_second-requires c).In_ok-table).ruled.room
 
-pub returns-in-Refused : goal.returns-in-Refused
+pub returns-in_err-table : goal.returns-in_err-table
 unfolding update_read_answer
-returns-in-Refused c =
-    let is = c.in-Refused.is in
-    let no = sheet-refused _ _ (sym is ∙ c.read_sheet_lines-read.ensures.answer) in
+returns-in_err-table c =
+    let w = had_err {E = Refused} {D = Refused} _ _ c.map_err.ensures.cases c.in_err-table.was in
+    let q : c.in_err-table.field-0.0 ≡ about 1 w.0.why w.0.line = search rules in
+    let no = sheet-refused _ _ (sym w.1 ∙ c.read_sheet_lines.ensures.answer) in
+    let e = handed_on _ _ c.from_residual.ensures in
     record {
-      answer = ap Refused c.about.ensures ∙ sym (rw no);
-      rules = refl;
-      ids = refl;
-      weights = refl;
+      answer = e ∙ ap Err q ∙ sym (rw no);
+      rules = rw e;
+      ids = rw e;
+      weights = rw e;
     }
 
-pub returns-in-Table : goal.returns-in-Table
-returns-in-Table c =
+pub returns : goal.returns
+returns c =
     let a = c.args in
     let r = c.read_second in
     let e = r.ensures in
     record {
       answer = e.answer
-          ∙ held-answer _ _ _ (has (goal.at.returns-in-Table c).In-Table) a.service a.sheet.now (length a.rules.now) (length a.ids.now) (length a.weights.now);
-      rules = e.rules ∙ ap (afterwards (is_read r.result) a.rules.now) (held-rules _ _ _ (has (goal.at.returns-in-Table c).In-Table) a.service);
+          ∙ held-answer _ _ _ (has (goal.at.returns c).In_ok-table) a.service a.sheet.now (length a.rules.now) (length a.ids.now) (length a.weights.now);
+      rules = e.rules ∙ ap (afterwards (is_read r.result) a.rules.now) (held-rules _ _ _ (has (goal.at.returns c).In_ok-table) a.service);
       ids = e.ids;
       weights = e.weights;
     }

@@ -1,135 +1,175 @@
 -- `update_read::select` meets its contract: what was found is judged, and stored where the answer is no refusal.
-use Prim.Native.Nat.{◌+◌, ◌-◌, ◌≤◌}
+use Prim.Native.Nat.{ℕ, ◌+◌, ◌-◌, ◌*◌, ◌^◌, ◌≤◌, ◌<◌}
+use mathlib.Core.List.{List}
 use mathlib.Core.Path.{◌≡◌, refl, sym, ap, ◌∙◌}
 use native.Mathlib.Omega.{arith}
-use lib.ListN.{length, get_or, drop, length-take, length-drop}
-use lib.Seq.{sets, take-take}
+use lib.ListN.{length, get_or, take, drop, length-drop}
+use lib.Seq.{sets, length-take-le}
+use Rattle.std.proofs.Common.{rules}
+use Rattle.std.proofs.iter.runs.Made.{chains}
+use Rattle.std.specs.List as list
+use Rattle.std.proofs.lemmas.List.Recursion.{is_sum_by}
+use Rattle.numerals.specs.Limits.{most_backends, most_services}
+use Rattle.numerals.proofs.Exits.{handed_on}
 use Rattle.sheets.specs.PercentageSheet.{sum}
 use Rattle.sheets.specs.Update.{old_rules, new_ids, new_weights, update_in}
 use Rattle.sheets.specs.Inner.TableReader.{table_of}
 use Rattle.sheets.specs.Inner.Update.{sheet_in}
 use Rattle.sheets.proofs.Chunks.{sum_fits, part_at}
+use Rattle.sheets.proofs.Copies.{copied}
 use Rattle.sheets.proofs.Judging.{Fits, judged-made, judged-in}
 use Rattle.sheets.proofs.update_read.select.Goals as goal
-use Rattle.sheets.proofs.update_read.select.Goals.{After-judge-answer, After-row_before-from, In-Made}
+use Rattle.sheets.proofs.update_read.select.Goals.{After-judge, After-sum-from, In_ok-made}
 
 -- the judgement is the definition's answer
 judged-is :
-    (c : After-judge-answer)
+    (c : After-judge)
     → let a = c.args in
-    c.judge-answer.result
+    c.judge.result
     ≡ update_in (table_of a.table a.lines.now) (sheet_in a.head a.sizes.now a.named.now a.row.now) a.service
     (length a.rules.now) (length a.ids.now) (length a.weights.now)
 judged-is c =
     let a = c.args in
-    c.judge-answer.ensures
+    c.judge.ensures
     ∙ judged-in a.head a.sizes.now a.named.now a.row.now a.service c.requires.sizes_value.0 c.requires.sizes_value.1.0
     (table_of a.table a.lines.now) _ _ (length a.rules.now) (length a.ids.now) (length a.weights.now)
     c.lines_of-own.ensures.count c.size_of-backends.ensures
 
 -- what an answer that is no refusal says
 fits :
-    (c : In-Made)
+    (c : In_ok-made)
     → let a = c.args in
     Fits
     (record { k = a.table.k; tolerance = a.head.tolerance; rules = c.lines_of-own.result; backends = c.size_of-backends.result })
     (length a.sizes.now) a.service (length a.rules.now) (length a.ids.now) (length a.weights.now)
-fits c = judged-made _ _ _ _ _ _ _ _ (sym c.judge-answer.ensures ∙ c.in-Made.is)
+fits c = judged-made _ _ _ _ _ _ _ _ (sym c.judge.ensures ∙ c.in_ok-made.was)
 
 pub store_own-requires : goal.store_own-requires
 store_own-requires c =
-    (c.requires.n_in_bounds, omega (arith, (fits (goal.at.store_own-requires c).In-Made).rules, c.lines_of-own.ensures.count))
+    (c.requires.n_in_bounds, omega (arith, (fits (goal.at.store_own-requires c).In_ok-made).rules, c.lines_of-own.ensures.count))
 
-pub overflow_sub-service : goal.overflow_sub-service
-overflow_sub-service c = omega (arith, (fits (goal.at.overflow_sub-service c).In-Made).numbered)
+pub slice_bounds-iter-count : goal.slice_bounds-iter-count
+slice_bounds-iter-count c = (fits (goal.at.slice_bounds-iter-count c).In_ok-made).numbered
 
-pub row_before-from-requires : goal.row_before-from-requires
-row_before-from-requires c =
-    let F = fits (goal.at.row_before-from-requires c).In-Made in
-    let p = c.requires.sizes_value.1 in
-    (omega (arith, F.numbered, F.there), omega (arith, p.0, p.1))
+-- the services before it
+before : (c : In_ok-made) → c.args.service - 1 < length c.args.sizes.now
+before c = let F = fits c in omega (arith, F.numbered, F.there)
 
--- how many backends the service has, and where they stand in both rows
+pub slice_bounds-iter-length : goal.slice_bounds-iter-length
+slice_bounds-iter-length c =
+    let few = before (goal.at.slice_bounds-iter-length c).In_ok-made in sym (length-take-le _ _ (omega (arith, few)))
+
+-- the definition's sum is the library's
+summed : (ns : List ℕ) → sum ns ≡ list.sum ns
+unfolding sum
+summed = is_sum_by sum (λ n. n) refl (λ n ns. refl)
+
+pub sum-from-requires-clause-fits : goal.sum-from-requires-clause-fits
+sum-from-requires-clause-fits c =
+    let p = c.requires.sizes_value in
+    let i = c.args.service - 1 in
+    let ns = c.args.sizes.now in
+    let fits : list.sum (take i ns) < 2 ^ 64 =
+    omega (arith, p.0, p.1.0, p.1.1, summed (take i ns), sum_fits ns i (before (goal.at.sum-from-requires-clause-fits c).In_ok-made)) in
+    search (rules, chains)
+
+-- where both rows of the service begin, and how many backends it has
+start :
+    (c : After-sum-from) → c.sum-from.result ≡ sum (take (c.args.service - 1) c.args.sizes.now)
+start c = rw (summed (take (c.args.service - 1) c.args.sizes.now)) (search (rules, chains))
+
 size :
-    (c : In-Made)
+    (c : In_ok-made)
     → let a = c.args in
     c.size_of-backends.result ≡ get_or a.sizes.now (a.service - 1) 0
 size c = c.size_of-backends.ensures (fits c).numbered (fits c).there
 
 within :
-    (c : After-row_before-from)
-    → let a = c.args in
-    c.row_before-from.result + c.size_of-backends.result ≤ sum a.sizes.now
+    (c : After-sum-from)
+    → c.sum-from.result + c.size_of-backends.result ≤ sum c.args.sizes.now
 within c =
-    let F = fits (goal.at.After-row_before-from c).In-Made in
-    let a = c.args in
-    omega (
-      arith,
-      sum_fits a.sizes.now (a.service - 1) (omega (arith, F.numbered, F.there)),
-      c.row_before-from.ensures,
-      size
-          (goal.at.After-row_before-from c).In-Made,
-    )
+    let made = (goal.at.After-sum-from c).In_ok-made in
+    omega (arith, sum_fits c.args.sizes.now (c.args.service - 1) (before made), start c, size made)
+
+small : (c : After-sum-from) → c.sum-from.result + c.size_of-backends.result ≤ most_services * most_backends
+small c = let p = c.requires.sizes_value in omega (arith, within c, p.0, p.1.0, p.1.1)
+
+pub overflow_add-to : goal.overflow_add-to
+overflow_add-to c = omega (arith, small (goal.at.overflow_add-to c).After-sum-from)
+
+pub slice_bounds-copy_from_slice-end : goal.slice_bounds-copy_from_slice-end
+slice_bounds-copy_from_slice-end c = (fits (goal.at.slice_bounds-copy_from_slice-end c).In_ok-made).ids
+
+pub slice_bounds-copy_from_slice-end-2 : goal.slice_bounds-copy_from_slice-end-2
+slice_bounds-copy_from_slice-end-2 c =
+    sym (length-take-le _ _ (fits (goal.at.slice_bounds-copy_from_slice-end-2 c).In_ok-made).ids)
 
 pub offset_bounds-named-from : goal.offset_bounds-named-from
-offset_bounds-named-from c = omega (arith, within (goal.at.offset_bounds-named-from c).After-row_before-from, c.requires.sizes_value.1)
+offset_bounds-named-from c = omega (arith, small (goal.at.offset_bounds-named-from c).After-sum-from)
 
-pub slice_bounds-copy-count : goal.slice_bounds-copy-count
-slice_bounds-copy-count c = omega (arith, within (goal.at.slice_bounds-copy-count c).After-row_before-from, c.requires.sizes_value.0)
+-- a row has the service's part
+part : (row : List ℕ) (from n : ℕ) → from + n ≤ length row → take (from + n - from) (drop from row) ≡ take n (drop from row)
+part row from n h = ap (λ (m : ℕ). take m (drop from row)) (omega arith)
 
-pub slice_bounds-copy-start : goal.slice_bounds-copy-start
-slice_bounds-copy-start c = omega (arith, within (goal.at.slice_bounds-copy-start c).After-row_before-from, c.requires.sizes_value.0)
+part_long : (row : List ℕ) (from n : ℕ) → from + n ≤ length row → length (take (from + n - from) (drop from row)) ≡ n
+part_long row from n h = rw (part row from n h) (length-take-le n (drop from row) (omega (arith, length-drop from row)))
 
-pub slice_bounds-copy-end : goal.slice_bounds-copy-end
-slice_bounds-copy-end c = omega (arith, within (goal.at.slice_bounds-copy-end c).After-row_before-from, c.requires.sizes_value.0)
+named_long : (c : After-sum-from) → c.sum-from.result + c.size_of-backends.result ≤ length c.args.named.now
+named_long c = omega (arith, within c, c.requires.sizes_value.0)
 
--- the part of the ids that is lent
-lent :
-    (c : After-row_before-from)
-    → let a = c.args in
-    let from = c.row_before-from.result in
-    c.size_of-backends.result ≤ length a.named.now - from
-lent c = omega (arith, within c, c.requires.sizes_value.0)
+row_long : (c : After-sum-from) → c.sum-from.result + c.size_of-backends.result ≤ length c.args.row.now
+row_long c = omega (arith, within c, c.requires.sizes_value.1.0)
 
-pub copy-requires : goal.copy-requires
-copy-requires c =
-    let a = c.args in
-    let from = c.row_before-from.result in
-    let rest = drop from a.named.now in (
-      omega (arith, lent (goal.at.copy-requires c).After-row_before-from, length-take (length a.named.now - from) rest, length-drop from a.named.now),
-      omega (arith, (fits (goal.at.copy-requires c).In-Made).ids),
-    )
+pub slice_bounds-copy_from_slice-end-3 : goal.slice_bounds-copy_from_slice-end-3
+slice_bounds-copy_from_slice-end-3 c = named_long (goal.at.slice_bounds-copy_from_slice-end-3 c).After-sum-from
 
-pub store_weights-requires : goal.store_weights-requires
-store_weights-requires c = (
-  omega (arith, within (goal.at.store_weights-requires c).After-row_before-from, c.requires.sizes_value.1.0),
-  omega
-      (arith, (fits (goal.at.store_weights-requires c).In-Made).weights),
-)
+pub copy_from_slice-requires : goal.copy_from_slice-requires
+copy_from_slice-requires c =
+    length-take-le _ _ (fits (goal.at.copy_from_slice-requires c).In_ok-made).ids
+    ∙ sym (part_long c.args.named.now _ _ (named_long (goal.at.copy_from_slice-requires c).After-sum-from))
 
-pub returns-in-Refused : goal.returns-in-Refused
-returns-in-Refused c =
+pub slice_bounds-copy_from_slice-end-4 : goal.slice_bounds-copy_from_slice-end-4
+slice_bounds-copy_from_slice-end-4 c = (fits (goal.at.slice_bounds-copy_from_slice-end-4 c).In_ok-made).weights
+
+pub slice_bounds-copy_from_slice-end-5 : goal.slice_bounds-copy_from_slice-end-5
+slice_bounds-copy_from_slice-end-5 c =
+    sym (length-take-le _ _ (fits (goal.at.slice_bounds-copy_from_slice-end-5 c).In_ok-made).weights)
+
+pub offset_bounds-row-from : goal.offset_bounds-row-from
+offset_bounds-row-from c = omega (arith, small (goal.at.offset_bounds-row-from c).After-sum-from)
+
+pub slice_bounds-copy_from_slice-end-6 : goal.slice_bounds-copy_from_slice-end-6
+slice_bounds-copy_from_slice-end-6 c = row_long (goal.at.slice_bounds-copy_from_slice-end-6 c).After-sum-from
+
+pub copy_from_slice-requires-2 : goal.copy_from_slice-requires-2
+copy_from_slice-requires-2 c =
+    length-take-le _ _ (fits (goal.at.copy_from_slice-requires-2 c).In_ok-made).weights
+    ∙ sym (part_long c.args.row.now _ _ (row_long (goal.at.copy_from_slice-requires-2 c).After-sum-from))
+
+pub returns-in_err-made : goal.returns-in_err-made
+returns-in_err-made c =
+    let e = handed_on _ _ c.from_residual.ensures in
     record {
-      answer = sym c.in-Refused.is ∙ judged-is (goal.at.returns-in-Refused c).After-judge-answer;
-      rules = refl;
-      ids = refl;
-      weights = refl;
+      answer = e ∙ sym c.in_err-made.was ∙ judged-is (goal.at.returns-in_err-made c).After-judge;
+      rules = rw e;
+      ids = rw e;
+      weights = rw e;
     }
 
-pub returns-in-Made : goal.returns-in-Made
+pub returns : goal.returns
 unfolding old_rules new_ids new_weights
-returns-in-Made c =
-    let F = fits (goal.at.returns-in-Made c).In-Made in
+returns c =
+    let after = (goal.at.returns c).After-sum-from in
+    let made = (goal.at.returns c).In_ok-made in
+    let F = fits made in
     let a = c.args in
-    let from = c.row_before-from.ensures in
     record {
-      answer = sym c.in-Made.is ∙ judged-is (goal.at.returns-in-Made c).After-judge-answer;
+      answer = sym c.in_ok-made.was ∙ judged-is (goal.at.returns c).After-judge;
       rules = c.store_own.ensures;
-      ids = c.copy.ensures
+      ids = rw c.copy_from_slice.ensures.after (copied a.ids.now _ _ (part_long a.named.now _ _ (named_long after)) F.ids)
           ∙ ap (sets a.ids.now 0)
-          (take-take _ _ (drop c.row_before-from.result a.named.now) (lent (goal.at.returns-in-Made c).After-row_before-from)
-          ∙ part_at a.sizes.now a.named.now a.service _ _ F.numbered F.there from (size (goal.at.returns-in-Made c).In-Made));
-      weights = c.store_weights.ensures
+          (part a.named.now _ _ (named_long after) ∙ part_at a.sizes.now a.named.now a.service _ _ F.numbered F.there (start after) (size made));
+      weights = rw c.copy_from_slice-2.ensures.after (copied a.weights.now _ _ (part_long a.row.now _ _ (row_long after)) F.weights)
           ∙ ap (sets a.weights.now 0)
-          (part_at a.sizes.now a.row.now a.service _ _ F.numbered F.there from (size (goal.at.returns-in-Made c).In-Made));
+          (part a.row.now _ _ (row_long after) ∙ part_at a.sizes.now a.row.now a.service _ _ F.numbered F.there (start after) (size made));
     }

@@ -15,7 +15,7 @@ use Rattle.sheets.proofs.update_read.store_own.Goals.{Then-table-i}
 
 pub loop-i-init : goal.loop-i-init
 unfolding count_of
-loop-i-init c = (omega arith, (refl, (omega (arith, c.requires.1), refl)))
+loop-i-init c = (refl, (omega (arith, c.requires.1), refl))
 
 -- a line of the service has room
 wide : (c : Then-table-i) → let l = c.loop-i in l.at + 3 ≤ length l.rules
@@ -24,8 +24,8 @@ wide c =
     let a = c.args in
     omega (
       arith,
+      l.invariant.0,
       l.invariant.1.0,
-      l.invariant.1.1.0,
       ap length (own-more a.table.now a.n c.requires.0 a.service l.i (omega arith) c.if-table-i.true),
     )
 
@@ -67,23 +67,17 @@ loop-i-preserved c =
     let t = a.table.now in
     elim c.if-table-i.branch [
       | then-table-i w ↦ let more = own-more t a.n c.requires.0 a.service l.i (omega arith) w.if-table-i.true in (
-        omega arith,
+        ap length w.rules-is ∙ kept l.rules l.at _ (l.at + 1) _ (l.at + 2) _ ∙ l.invariant.0,
         (
-          ap length w.rules-is ∙ kept l.rules l.at _ (l.at + 1) _ (l.at + 2) _ ∙ l.invariant.1.0,
-          (
-            omega (arith, w.at-is, l.invariant.1.1.0, ap length more),
-            rw (w.rules-is, w.at-is) (own-stored t a.n c.requires.0 a.service l.i l.rules l.at (omega arith) w.if-table-i.true) ∙ l.invariant.1.1.1,
-          ),
+          omega (arith, w.at-is, l.invariant.1.0, ap length more),
+          rw (w.rules-is, w.at-is) (own-stored t a.n c.requires.0 a.service l.i l.rules l.at (omega arith) w.if-table-i.true) ∙ l.invariant.1.1,
         ),
       )
       | else-table-i w ↦ let past = own-past t a.n c.requires.0 a.service l.i (omega arith) w.if-table-i.false in (
-        omega arith,
+        ap length w.rules-is ∙ l.invariant.0,
         (
-          ap length w.rules-is ∙ l.invariant.1.0,
-          (
-            omega (arith, w.at-is, l.invariant.1.1.0, ap length past),
-            rw (w.rules-is, w.at-is) (sym (ap (λ (rs : List Rule). sets l.rules l.at (numbers_of rs)) past)) ∙ l.invariant.1.1.1,
-          ),
+          omega (arith, w.at-is, l.invariant.1.0, ap length past),
+          rw (w.rules-is, w.at-is) (sym (ap (λ (rs : List Rule). sets l.rules l.at (numbers_of rs)) past)) ∙ l.invariant.1.1,
         ),
       )
     ]
@@ -94,4 +88,4 @@ returns c =
     let l = c.loop-i in
     let a = c.args in
     sym (ap (λ (rs : List Rule). sets l.rules l.at (numbers_of rs)) (own-none a.table.now a.n c.requires.0 a.service l.i (omega arith)))
-    ∙ l.invariant.1.1.1
+    ∙ l.invariant.1.1

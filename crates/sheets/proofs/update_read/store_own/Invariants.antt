@@ -1,5 +1,5 @@
 -- `update_read::store_own` meets its contract. The invariant: what is stored, with the rules of the lines that are left behind it, is all.
-use Prim.Native.Nat.{◌+◌, ◌*◌, ◌-◌, ◌≤◌}
+use Prim.Native.Nat.{◌+◌, ◌*◌, ◌≤◌}
 use mathlib.Core.Path.{◌≡◌}
 use lib.ListN.{length}
 use lib.Seq.{sets}
@@ -9,10 +9,6 @@ use Rattle.sheets.proofs.update_read.store_own.Given as goal
 
 abbrev pub invariant-loop-i : goal.invariant-loop-i
 invariant-loop-i l =
-    (l.i ≤ l.n)
-    × ((length l.rules ≡ length l.initial.rules)
+    (length l.rules ≡ length l.initial.rules)
     × ((l.at + 3 * length (own_from l.table l.n l.service l.i) ≤ length l.initial.rules)
-    × (sets l.rules l.at (numbers_of (own_from l.table l.n l.service l.i)) ≡ sets l.initial.rules 0 (numbers_of (own_from l.table l.n l.service 0)))))
-
-abbrev pub decreases-loop-i : goal.decreases-loop-i
-decreases-loop-i l = l.n - l.i
+    × (sets l.rules l.at (numbers_of (own_from l.table l.n l.service l.i)) ≡ sets l.initial.rules 0 (numbers_of (own_from l.table l.n l.service 0))))

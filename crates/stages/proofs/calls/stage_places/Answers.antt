@@ -1,71 +1,59 @@
 -- `calls::stage_places` meets its contract: both sheets read, and what is handed out of the change that they are.
-use Prim.Native.Nat.{ℕ}
-use mathlib.Core.Path.{refl, sym, ◌∙◌, subst}
+use mathlib.Core.Path.{refl, sym, ◌∙◌}
 use mathlib.Core.List.{List}
+use Prim.Native.Nat.{ℕ}
 use lib.ListN.{length}
-use Rattle.stages.specs.Inner.Both.{BothRead, BothAs}
-use Rattle.stages.specs.declared.answer.Both.{Both}
+use Rattle.numerals.proofs.Exits.{handed_on}
+use Rattle.stages.specs.Inner.Both.{BothRead}
 use Rattle.stages.proofs.BothCalls.{few_bits, served-first, served-second, not-value}
 use Rattle.stages.proofs.BothCalls.{places-answer, places-buffer, places-promised, places-refused}
 use Rattle.stages.proofs.calls.stage_places.Goals as goal
-use Rattle.stages.proofs.calls.stage_places.Goals.{In-Change}
-
-pub read_both-both-requires : goal.read_both-both-requires
-read_both-both-requires c = (refl, refl)
+use Rattle.stages.proofs.calls.stage_places.Goals.{In_ok-k}
 
 -- both sheets were read
-module _ (d : In-Change) where
+module _ (d : In_ok-k) where
   abbrev k : ℕ
-  k = d.in-Change.k
+  k = d.in_ok-k.k
 
   abbrev first : List ℕ
-  first = d.read_both-both.new.before
+  first = d.read_both.new.before
 
   abbrev second : List ℕ
-  second = d.read_both-both.new.after
+  second = d.read_both.new.after
 
   R : BothRead d.args.old.now d.args.new.now d.args.service k first second
-  R =
-      subst (λ (b : Both). BothAs d.args.old.now d.args.new.now d.args.service b first second) d.in-Change.is
-      d.read_both-both.ensures
+  R = rw d.in_ok-k.was at d.read_both.ensures
 
 pub hand_row-requires : goal.hand_row-requires
 hand_row-requires c =
+    let d = (goal.at.hand_row-requires c).In_ok-k in
     let a = c.args in
-    let before = served-first a.old.now a.new.now a.service (k (goal.at.hand_row-requires c).In-Change) (first (goal.at.hand_row-requires c).In-Change)
-    (second (goal.at.hand_row-requires c).In-Change) (R (goal.at.hand_row-requires c).In-Change) in
-    let after = served-second a.old.now a.new.now a.service (k (goal.at.hand_row-requires c).In-Change) (first (goal.at.hand_row-requires c).In-Change)
-    (second (goal.at.hand_row-requires c).In-Change) (R (goal.at.hand_row-requires c).In-Change) in (
-      few_bits a.old.now a.new.now a.service (k (goal.at.hand_row-requires c).In-Change) (first (goal.at.hand_row-requires c).In-Change)
-          (second (goal.at.hand_row-requires c).In-Change) (R (goal.at.hand_row-requires c).In-Change),
-      (before.long, after.long),
-    )
+    let before = served-first a.old.now a.new.now a.service (k d) (first d) (second d) (R d) in
+    let after = served-second a.old.now a.new.now a.service (k d) (first d) (second d) (R d) in
+    (few_bits a.old.now a.new.now a.service (k d) (first d) (second d) (R d), (before.long, after.long))
 
-pub returns-in-Refused : goal.returns-in-Refused
-returns-in-Refused c =
+pub returns-in_err-k : goal.returns-in_err-k
+returns-in_err-k c =
     let a = c.args in
-    let no = subst (λ (b : Both). BothAs a.old.now a.new.now a.service b c.read_both-both.new.before c.read_both-both.new.after) c.in-Refused.is
-    c.read_both-both.ensures in
+    let e = handed_on _ _ c.from_residual.ensures in
+    let no = rw c.in_err-k.was at c.read_both.ensures in
     record {
-      answer = sym (places-refused a.old.now a.new.now a.service c.in-Refused.why no a.limit a.capacity (length a.places.now));
-      buffer = refl;
-      promise = λ m e. not-value e;
+      answer = e ∙ sym (places-refused a.old.now a.new.now a.service c.in_err-k.field-0.0 no a.limit a.capacity (length a.places.now));
+      buffer = rw e;
+      promise = λ m i. not-value (sym e ∙ i);
     }
 
-pub returns-in-Change : goal.returns-in-Change
-returns-in-Change c =
+pub returns : goal.returns
+returns c =
+    let d = (goal.at.returns c).In_ok-k in
     let a = c.args in
+    let room = length a.places.now in
     let h = c.hand_row in
     let e = h.ensures in
     record {
-      answer = e.answer ∙ places-answer a.old.now a.new.now a.service (k (goal.at.returns-in-Change c).In-Change)
-          (first (goal.at.returns-in-Change c).In-Change) (second (goal.at.returns-in-Change c).In-Change) (R (goal.at.returns-in-Change c).In-Change) a.limit
-          a.capacity (length a.places.now);
-      buffer = e.buffer ∙ places-buffer a.old.now a.new.now a.service (k (goal.at.returns-in-Change c).In-Change)
-          (first (goal.at.returns-in-Change c).In-Change) (second (goal.at.returns-in-Change c).In-Change) (R (goal.at.returns-in-Change c).In-Change) a.limit
-          a.capacity (length a.places.now)
-          h.result a.places.now e.answer;
-      promise = places-promised a.old.now a.new.now a.service (k (goal.at.returns-in-Change c).In-Change) (first (goal.at.returns-in-Change c).In-Change)
-          (second (goal.at.returns-in-Change c).In-Change) (R (goal.at.returns-in-Change c).In-Change) a.limit a.capacity (length a.places.now) h.result
+      answer = e.answer ∙ places-answer a.old.now a.new.now a.service (k d) (first d) (second d) (R d) a.limit a.capacity room;
+      buffer = e.buffer
+          ∙ places-buffer a.old.now a.new.now a.service (k d) (first d) (second d) (R d) a.limit a.capacity room h.result a.places.now e.answer;
+      promise = places-promised a.old.now a.new.now a.service (k d) (first d) (second d) (R d) a.limit a.capacity room h.result
           a.places.now _ e.answer refl e.buffer;
     }

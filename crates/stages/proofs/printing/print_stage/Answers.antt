@@ -1,11 +1,12 @@
 -- `printing::print_stage` meets its contract: what was composed is the stage, and what was written its text.
-use Prim.Native.Nat.{ℕ, ◌^◌, ◌≤◌}
-use mathlib.Core.List.{List}
+use Prim.Native.Nat.{ℕ, ◌+◌, ◌^◌, ◌≤◌}
+use mathlib.Core.List.{List, ◌++◌}
 use mathlib.Core.Path.{◌≡◌, sym, ap, subst, ◌∙◌}
 use native.Mathlib.Nat.{le_refl}
 use native.Mathlib.Omega.{arith}
-use lib.ListN.{length, take, replicate, length-replicate}
-use lib.Seq.{sets}
+use Rattle.std.proofs.lemmas.Grind.{common_steps}
+use lib.ListN.{length, take, drop, replicate, length-replicate}
+use lib.Seq.{sets-eq}
 use Rattle.numerals.specs.Limits.{most_capacity}
 use Rattle.expansion.specs.declared.rule.Rule.{Rule}
 use Rattle.packing.specs.Table.{lines_of}
@@ -60,6 +61,16 @@ module _ (w : After-put_lines-end) where
       (same_lines (goal.at.After-put_lines-end w).After-compose)
       w.put_lines-end.ensures
 
+  room : w.put_lines-end.result ≤ length text
+  room =
+      omega (
+        arith,
+        wrote.ends,
+        length-kept wrote,
+        length-replicate {A = ℕ} text_room 0,
+        short (goal.at.After-put_lines-end w).After-compose,
+      )
+
   first : take w.put_lines-end.result text ≡ bytes (goal.at.After-put_lines-end w).After-compose
   first = written-first wrote (omega (arith, short (goal.at.After-put_lines-end w).After-compose, length-replicate {A = ℕ} text_room 0))
 
@@ -76,44 +87,35 @@ put_lines-end-requires c =
 
 pub returns-then-out-end : goal.returns-then-out-end
 returns-then-out-end c =
-    record {
-      answer = (no_room (bytes (goal.at.returns-then-out-end c).After-compose) c.args.out.now
-          (omega (arith, c.if-out-end.true, (wrote (goal.at.returns-then-out-end c).After-put_lines-end).ends))).0;
-      buffer = (no_room (bytes (goal.at.returns-then-out-end c).After-compose) c.args.out.now
-          (omega (arith, c.if-out-end.true, (wrote (goal.at.returns-then-out-end c).After-put_lines-end).ends))).1;
-    }
+    let none = no_room (bytes (goal.at.returns-then-out-end c).After-compose) c.args.out.now
+    (omega (arith, c.if-out-end.true, (wrote (goal.at.returns-then-out-end c).After-put_lines-end).ends)) in
+    rw c.into.ensures (record { answer = none.0; buffer = none.1 })
 
-pub copy_text-requires : goal.copy_text-requires
-copy_text-requires c = (
-  omega (
-    arith,
-    (wrote (goal.at.copy_text-requires c).After-put_lines-end).ends,
-    length-kept (wrote (goal.at.copy_text-requires c).After-put_lines-end),
-    length-replicate {A = ℕ} text_room 0,
-    short (goal.at.copy_text-requires c).After-compose,
-  ),
-  omega (arith, c.if-out-end.false),
-)
+pub slice_bounds-text-end : goal.slice_bounds-text-end
+slice_bounds-text-end c = room (goal.at.slice_bounds-text-end c).After-put_lines-end
+
+pub slice_bounds-copy_from_slice-end-3 : goal.slice_bounds-copy_from_slice-end-3
+slice_bounds-copy_from_slice-end-3 c = let r = room (goal.at.slice_bounds-copy_from_slice-end-3 c).After-put_lines-end in grind (arith, common_steps)
+
+pub copy_from_slice-requires : goal.copy_from_slice-requires
+copy_from_slice-requires c =
+    let r = room (goal.at.copy_from_slice-requires c).After-put_lines-end in
+    let f = c.if-out-end.false in grind (arith, common_steps)
 
 pub returns : goal.returns
 returns c =
+    let w = (goal.at.returns c).After-put_lines-end in
+    let text = bytes (goal.at.returns c).After-compose in
     let out = c.args.out.now in
-    let fits : length (bytes (goal.at.returns c).After-compose) ≤ length out = omega (
-      arith,
-      c.if-out-end.false,
-      (wrote (goal.at.returns c).After-put_lines-end).ends,
-    ) in
-    record {
-      answer = (printed (bytes (goal.at.returns c).After-compose) out c.copy_text.new.to c.put_lines-end.result fits
-          (record {
-            ends = (wrote (goal.at.returns c).After-put_lines-end).ends;
-            holds = c.copy_text.ensures ∙ ap (sets out 0)
-                (first (goal.at.returns c).After-put_lines-end);
-          })).0;
-      buffer = (printed (bytes (goal.at.returns c).After-compose) out c.copy_text.new.to c.put_lines-end.result fits
-          (record {
-            ends = (wrote (goal.at.returns c).After-put_lines-end).ends;
-            holds = c.copy_text.ensures ∙ ap (sets out 0)
-                (first (goal.at.returns c).After-put_lines-end);
-          })).1;
-    }
+    let end = c.put_lines-end.result in
+    let ends : end ≡ 0 + length text = (wrote w).ends in
+    let fits : length text ≤ length out = omega (arith, c.if-out-end.false) in
+    let stands =
+    printed text out _ end fits
+    (record {
+      ends = ends;
+      holds = ap (λ (t : List ℕ). t ++ drop end out) (c.copy_from_slice.ensures.after ∙ first w)
+          ∙ ap (λ (i : ℕ). text ++ drop i out) ends
+          ∙ sym (sets-eq text out 0 (omega arith));
+    }) in
+    record { answer = stands.0; buffer = stands.1 }

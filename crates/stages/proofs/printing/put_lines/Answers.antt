@@ -16,7 +16,7 @@ use Rattle.stages.specs.Inner.Nodes.{at, height_at, starts_to}
 use Rattle.stages.proofs.NodeLaws.{starts_none}
 use Rattle.stages.proofs.StageText.{Going, text-empty, line-ended, line-more}
 use Rattle.stages.proofs.printing.put_lines.Goals as goal
-use Rattle.stages.proofs.printing.put_lines.Goals.{After-height-n, After-write_line-written, In-loop-p, Joined-written, in-End, in_default}
+use Rattle.stages.proofs.printing.put_lines.Goals.{After-height-n, After-write_line-written, In-loop-p, Joined-written, in-Ok, in_default}
 
 pub overflow_shl-all : goal.overflow_shl-all
 overflow_shl-all c = omega (arith, c.requires.k_le_most_bits.0)
@@ -135,7 +135,7 @@ loop-p-smaller c =
 end_is : (c : Joined-written) → c.match-written.end ≡ end_at c.write_line-written.result
 end_is c =
     elim c.match-written.branch [
-      | in-End w ↦ w.end-is ∙ sym (ap end_at w.in-End.is)
+      | in-Ok w ↦ w.end-is ∙ sym (ap end_at w.in-Ok.is)
       | in_default w ↦ absurd (rw w.in_default.is at (stepped (goal.at.Joined-written c).After-write_line-written).0)
     ]
 

@@ -17,7 +17,7 @@ use Rattle.stages.proofs.row.cut.Goals as goal
 use Rattle.stages.proofs.row.cut.Goals.{After-loop-p, In-loop-p, Then-limit-moved, then-old-p, then-limit-moved, else-limit-moved, else-old-p}
 
 pub loop-p-init : goal.loop-p-init
-loop-p-init c = (omega arith, cut-start _ _ _)
+loop-p-init c = cut-start _ _ _
 
 -- the place is one of all
 inside : (c : In-loop-p) → c.loop-p.p < 2 ^ c.args.k
@@ -26,14 +26,8 @@ inside c = omega (arith, shifted c.args.k c.requires.k_le_most_bits.0)
 below : (c : In-loop-p) → c.loop-p.p < most_suffixes
 below c = omega (arith, inside c, pow-few c.args.k c.requires.k_le_most_bits.0)
 
-pub offset_bounds-old-p : goal.offset_bounds-old-p
-offset_bounds-old-p c = omega (arith, below c)
-
 pub bounds-old-p : goal.bounds-old-p
 bounds-old-p c = omega (arith, below (goal.at.bounds-old-p c).In-loop-p, c.requires.k_le_most_bits.1.0)
-
-pub offset_bounds-new-p : goal.offset_bounds-new-p
-offset_bounds-new-p c = omega (arith, below (goal.at.offset_bounds-new-p c).In-loop-p)
 
 pub bounds-new-p : goal.bounds-new-p
 bounds-new-p c = omega (arith, below (goal.at.bounds-new-p c).In-loop-p, c.requires.k_le_most_bits.1.1)
@@ -47,8 +41,8 @@ few-moved c =
     let a = c.args in
     let l = c.loop-p in
     let d : ℕ → Bool = unlike (at a.old.now) (at a.new.now) in (
-      cut_moved d a.limit a.row.now l.p l.n l.moved l.row l.invariant.1,
-      omega (arith, l.invariant.1.counted, moved-most d a.limit c.requires.le_limit.0 l.p),
+      cut_moved d a.limit a.row.now l.p l.n l.moved l.row l.invariant,
+      omega (arith, l.invariant.counted, moved-most d a.limit c.requires.le_limit.0 l.p),
     )
 
 pub overflow_add-moved : goal.overflow_add-moved
@@ -63,7 +57,7 @@ full c =
     let d : ℕ → Bool = unlike (at a.old.now) (at a.new.now) in
     let differs : d l.p ≡ true = ap not (ne_eqb _ _ c.if-old-p.true) in
     let long : l.n + 1 ≡ length (cuts_to d a.limit (l.p + 1)) =
-    cut-long d a.limit a.row.now l.p l.n l.moved l.row l.invariant.1 differs (omega (
+    cut-long d a.limit a.row.now l.p l.n l.moved l.row l.invariant differs (omega (
       arith,
       few-moved (goal.at.Then-limit-moved c).In-loop-p,
       c.if-limit-moved.true,
@@ -74,13 +68,13 @@ full c =
     in (
       omega (
         arith,
-        cut-few d a.limit a.row.now l.p l.n l.moved l.p l.row l.invariant.1 (omega arith),
+        cut-few d a.limit a.row.now l.p l.n l.moved l.p l.row l.invariant (omega arith),
         cuts-below d a.limit l.p,
         below (goal.at.Then-limit-moved c).In-loop-p,
       ),
       omega (
         arith,
-        cut-length d a.limit a.row.now l.p l.n l.moved l.row l.invariant.1,
+        cut-length d a.limit a.row.now l.p l.n l.moved l.row l.invariant,
         row-long a.k (at a.old.now) (at a.new.now) a.limit,
         c.requires.le_limit.1,
       ),
@@ -95,36 +89,28 @@ bounds-row-n c = (full c).1
 pub overflow_add-n : goal.overflow_add-n
 overflow_add-n c = omega (arith, full c)
 
-pub overflow_add-p : goal.overflow_add-p
-overflow_add-p c = omega (arith, below (goal.at.overflow_add-p c).In-loop-p)
-
-pub loop-p-smaller : goal.loop-p-smaller
-loop-p-smaller c = omega (arith, inside (goal.at.loop-p-smaller c).In-loop-p)
-
 pub loop-p-preserved : goal.loop-p-preserved
 loop-p-preserved c =
     let a = c.args in
     let l = c.loop-p in
-    let d : ℕ → Bool = unlike (at a.old.now) (at a.new.now) in (
-      omega (arith, inside (goal.at.loop-p-preserved c).In-loop-p),
-      elim c.if-old-p.branch [
-        | then-old-p w ↦
-            let differs : d l.p ≡ true = ap not (ne_eqb _ _ w.if-old-p.true) in
-            rw (w.row-is, w.n-is, w.moved-is)
-            (elim w.if-limit-moved.branch [
-              | then-limit-moved v ↦
-                  rw (v.row-is, v.n-is, v.moved-is)
-                  (cut-here d a.limit a.row.now l.p l.n l.moved l.row l.invariant.1 differs
-                  (omega (arith, few-moved (goal.at.loop-p-preserved c).In-loop-p, v.if-limit-moved.true)))
-              | else-limit-moved v ↦
-                  rw (v.row-is, v.n-is, v.moved-is)
-                  (cut-more d a.limit a.row.now l.p l.n l.moved l.row l.invariant.1 differs (λ e. omega (arith, v.if-limit-moved.false)))
-            ])
-        | else-old-p w ↦
-            rw (w.row-is, w.n-is, w.moved-is)
-            (cut-alike d a.limit a.row.now l.p l.n l.moved l.row l.invariant.1 (ap not (eq-eqb _ _ w.if-old-p.false)))
-      ],
-    )
+    let d : ℕ → Bool = unlike (at a.old.now) (at a.new.now) in
+    elim c.if-old-p.branch [
+      | then-old-p w ↦
+          let differs : d l.p ≡ true = ap not (ne_eqb _ _ w.if-old-p.true) in
+          rw (w.row-is, w.n-is, w.moved-is)
+          (elim w.if-limit-moved.branch [
+            | then-limit-moved v ↦
+                rw (v.row-is, v.n-is, v.moved-is)
+                (cut-here d a.limit a.row.now l.p l.n l.moved l.row l.invariant differs
+                (omega (arith, few-moved (goal.at.loop-p-preserved c).In-loop-p, v.if-limit-moved.true)))
+            | else-limit-moved v ↦
+                rw (v.row-is, v.n-is, v.moved-is)
+                (cut-more d a.limit a.row.now l.p l.n l.moved l.row l.invariant differs (λ e. omega (arith, v.if-limit-moved.false)))
+          ])
+      | else-old-p w ↦
+          rw (w.row-is, w.n-is, w.moved-is)
+          (cut-alike d a.limit a.row.now l.p l.n l.moved l.row l.invariant (ap not (eq-eqb _ _ w.if-old-p.false)))
+    ]
 
 -- all places were looked at
 all_seen : (c : After-loop-p) → c.loop-p.p ≡ 2 ^ c.args.k
@@ -138,7 +124,7 @@ walked : (c : After-loop-p)
 walked c =
     let a = c.args in
     let l = c.loop-p in
-    subst (λ (p : ℕ). Cut (unlike (at a.old.now) (at a.new.now)) a.limit a.row.now p l.n l.moved l.row) (all_seen c) l.invariant.1
+    subst (λ (p : ℕ). Cut (unlike (at a.old.now) (at a.new.now)) a.limit a.row.now p l.n l.moved l.row) (all_seen c) l.invariant
 
 last : (c : After-loop-p)
     → let l = c.loop-p in (l.n < most_suffixes) × (l.n < length l.row)

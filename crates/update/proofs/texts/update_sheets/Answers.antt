@@ -1,4 +1,5 @@
 -- `texts::update_sheets` meets its contract: both sheets read, and the update of what they say.
+use Rattle.std.specs.Prelude.{Ok, Result}
 use Prim.Native.Nat.{ℕ, ◌*◌, ◌≤◌}
 use mathlib.Core.Bool.{true}
 use mathlib.Core.List.{List}
@@ -13,12 +14,15 @@ use Rattle.sheets.specs.PercentageSheet.{read_sheet}
 use Rattle.sheets.specs.Calls.{afterwards, values_of}
 use Rattle.sheets.specs.Update.{old_rules, new_ids, new_weights, is_read}
 use Rattle.sheets.specs.declared.answer.UpdateRecord.{UpdateRecord}
-use Rattle.sheets.specs.declared.answer.UpdateRead.{UpdateRead}
-use Rattle.sheets.specs.declared.answer.UpdateRead.TheVariants as read
+use Rattle.numerals.specs.Buffer.{filled}
+use Rattle.numerals.proofs.Exits.{handed_on}
+use Rattle.update.specs.Sheets.{of_updated, sheets_answer, sheets_numbers, is_made, PromisedBoth}
+use Rattle.update.specs.declared.answer.Update.{Update}
 use Rattle.update.proofs.BothSheets.{list_room, both-refused, none-promised, Met, both-made, few_rules, few-backends}
 use Rattle.update.proofs.BothSheets.{text-answer, text-buffer, text-promised}
 use Rattle.update.proofs.texts.update_sheets.Goals as goal
-use Rattle.update.proofs.texts.update_sheets.Goals.{In-Made}
+use Rattle.update.proofs.texts.update_sheets.Goals.{After-update, In_ok-m}
+use Rattle.sheets.specs.declared.answer.Refused.{Refused}
 
 abbrev list₀ : List ℕ
 list₀ = replicate list_room 0
@@ -27,39 +31,39 @@ abbrev row₀ : List ℕ
 row₀ = replicate most_backends 0
 
 -- what was read
-module _ (d : In-Made) where
+module _ (d : In_ok-m) where
   abbrev m : UpdateRecord
-  m = d.in-Made.m
+  m = d.in_ok-m.m
 
   abbrev list : List ℕ
-  list = d.read_update-read.new.rules
+  list = d.read_update.new.rules
 
   abbrev row : List ℕ
-  row = d.read_update-read.new.weights
+  row = d.read_update.new.weights
 
-  is : d.read_update-read.result ≡ read.Made m
-  is = d.in-Made.is
+  is : d.read_update.result ≡ Ok m
+  is = d.in_ok-m.was
 
   X : Met d.args.old.now d.args.sheet.now d.args.service m
-  X = both-made d.args.old.now d.args.sheet.now d.args.service m (sym d.read_update-read.ensures.answer ∙ is)
+  X = both-made d.args.old.now d.args.sheet.now d.args.service m (sym d.read_update.ensures.answer ∙ is)
 
   listed : list ≡ afterwards true list₀ (values_of (read_table d.args.old.now) (λ t. numbers_of (old_rules t d.args.service)))
   listed =
-      d.read_update-read.ensures.rules
-      ∙ ap (λ (r : UpdateRead). afterwards (is_read r) list₀ (values_of (read_table d.args.old.now) (λ t. numbers_of (old_rules t d.args.service)))) is
+      d.read_update.ensures.rules
+      ∙ ap (λ (r : (Result UpdateRecord Refused)). afterwards (is_read r) list₀ (values_of (read_table d.args.old.now) (λ t. numbers_of (old_rules t d.args.service)))) is
 
   abbrev names : List ℕ
-  names = d.read_update-read.new.ids
+  names = d.read_update.new.ids
 
   named : names ≡ afterwards true row₀ (values_of (read_sheet d.args.sheet.now) (λ S. new_ids S d.args.service))
   named =
-      d.read_update-read.ensures.ids
-      ∙ ap (λ (r : UpdateRead). afterwards (is_read r) row₀ (values_of (read_sheet d.args.sheet.now) (λ S. new_ids S d.args.service))) is
+      d.read_update.ensures.ids
+      ∙ ap (λ (r : (Result UpdateRecord Refused)). afterwards (is_read r) row₀ (values_of (read_sheet d.args.sheet.now) (λ S. new_ids S d.args.service))) is
 
   weighed : row ≡ afterwards true row₀ (values_of (read_sheet d.args.sheet.now) (λ S. new_weights S d.args.service))
   weighed =
-      d.read_update-read.ensures.weights
-      ∙ ap (λ (r : UpdateRead). afterwards (is_read r) row₀ (values_of (read_sheet d.args.sheet.now) (λ S. new_weights S d.args.service))) is
+      d.read_update.ensures.weights
+      ∙ ap (λ (r : (Result UpdateRecord Refused)). afterwards (is_read r) row₀ (values_of (read_sheet d.args.sheet.now) (λ S. new_weights S d.args.service))) is
 
   few : m.rules ≤ 32
   few =
@@ -87,71 +91,82 @@ module _ (d : In-Made) where
       ∙ length-replicate {A = ℕ} most_backends 0
 
 pub overflow_mul-n : goal.overflow_mul-n
-overflow_mul-n c = omega (arith, few (goal.at.overflow_mul-n c).In-Made)
+overflow_mul-n c = omega (arith, few (goal.at.overflow_mul-n c).In_ok-m)
 
 pub slice_bounds-list-end : goal.slice_bounds-list-end
-slice_bounds-list-end c = omega (arith, few (goal.at.slice_bounds-list-end c).In-Made, list-long (goal.at.slice_bounds-list-end c).In-Made)
+slice_bounds-list-end c = omega (arith, few (goal.at.slice_bounds-list-end c).In_ok-m, list-long (goal.at.slice_bounds-list-end c).In_ok-m)
 
 pub slice_bounds-update-end : goal.slice_bounds-update-end
-slice_bounds-update-end c = sym (length-take-le (3 * (m (goal.at.slice_bounds-update-end c).In-Made).rules) (list (goal.at.slice_bounds-update-end c).In-Made)
-    (omega (arith, few (goal.at.slice_bounds-update-end c).In-Made, list-long (goal.at.slice_bounds-update-end c).In-Made)))
+slice_bounds-update-end c = sym (length-take-le (3 * (m (goal.at.slice_bounds-update-end c).In_ok-m).rules) (list (goal.at.slice_bounds-update-end c).In_ok-m)
+    (omega (arith, few (goal.at.slice_bounds-update-end c).In_ok-m, list-long (goal.at.slice_bounds-update-end c).In_ok-m)))
 
 pub slice_bounds-ids-end : goal.slice_bounds-ids-end
-slice_bounds-ids-end c = omega (arith, some-few (goal.at.slice_bounds-ids-end c).In-Made, names-long (goal.at.slice_bounds-ids-end c).In-Made)
+slice_bounds-ids-end c = omega (arith, some-few (goal.at.slice_bounds-ids-end c).In_ok-m, names-long (goal.at.slice_bounds-ids-end c).In_ok-m)
 
-pub slice_bounds-update-end-in-Made : goal.slice_bounds-update-end-in-Made
-slice_bounds-update-end-in-Made c = sym (length-take-le (m (goal.at.slice_bounds-update-end-in-Made c).In-Made).backends
-    (names (goal.at.slice_bounds-update-end-in-Made c).In-Made) (omega (
+pub slice_bounds-update-end-2 : goal.slice_bounds-update-end-2
+slice_bounds-update-end-2 c = sym (length-take-le (m (goal.at.slice_bounds-update-end-2 c).In_ok-m).backends
+    (names (goal.at.slice_bounds-update-end-2 c).In_ok-m) (omega (
       arith,
-      some-few (goal.at.slice_bounds-update-end-in-Made c).In-Made,
+      some-few (goal.at.slice_bounds-update-end-2 c).In_ok-m,
       names-long
-          (goal.at.slice_bounds-update-end-in-Made c).In-Made,
+          (goal.at.slice_bounds-update-end-2 c).In_ok-m,
     )))
 
 pub slice_bounds-weights-end : goal.slice_bounds-weights-end
-slice_bounds-weights-end c = omega (arith, some-few (goal.at.slice_bounds-weights-end c).In-Made, row-long (goal.at.slice_bounds-weights-end c).In-Made)
+slice_bounds-weights-end c = omega (arith, some-few (goal.at.slice_bounds-weights-end c).In_ok-m, row-long (goal.at.slice_bounds-weights-end c).In_ok-m)
 
-pub slice_bounds-update-end-in-Made-2 : goal.slice_bounds-update-end-in-Made-2
-slice_bounds-update-end-in-Made-2 c = sym (length-take-le (m (goal.at.slice_bounds-update-end-in-Made-2 c).In-Made).backends
-    (row (goal.at.slice_bounds-update-end-in-Made-2 c).In-Made) (omega (
+pub slice_bounds-update-end-3 : goal.slice_bounds-update-end-3
+slice_bounds-update-end-3 c = sym (length-take-le (m (goal.at.slice_bounds-update-end-3 c).In_ok-m).backends
+    (row (goal.at.slice_bounds-update-end-3 c).In_ok-m) (omega (
       arith,
-      some-few (goal.at.slice_bounds-update-end-in-Made-2 c).In-Made,
+      some-few (goal.at.slice_bounds-update-end-3 c).In_ok-m,
       row-long
-          (goal.at.slice_bounds-update-end-in-Made-2 c).In-Made,
+          (goal.at.slice_bounds-update-end-3 c).In_ok-m,
     )))
 
-pub returns-in-Refused : goal.returns-in-Refused
-returns-in-Refused c =
+pub returns-in_err-m : goal.returns-in_err-m
+returns-in_err-m c =
     let a = c.args in
-    let r = c.in-Refused.r in
-    let e = sym c.read_update-read.ensures.answer ∙ c.in-Refused.is in
+    let r = c.in_err-m.field-0.0 in
+    let e = sym c.read_update.ensures.answer ∙ c.in_err-m.was in
+    let x = handed_on _ _ c.from_residual.ensures in
     record {
-      answer = sym (both-refused a.old.now a.sheet.now a.service (length a.rules.now) r e);
-      rules = refl;
-      promise = none-promised a.old.now a.sheet.now a.service r _ a.rules.now e;
+      answer = x ∙ sym (both-refused a.old.now a.sheet.now a.service (length a.rules.now) r e);
+      rules = rw x;
+      promise = rw x (none-promised a.old.now a.sheet.now a.service r _ a.rules.now e);
     }
 
-pub returns-in-Made : goal.returns-in-Made
-returns-in-Made c =
+-- what the call without a text answered, as the one on two texts answers it
+told :
+    (c : After-update) (v : Result Update Refused) → v ≡ of_updated c.update.result
+    → let a = c.args in
+    (v ≡ sheets_answer a.old.now a.sheet.now a.service (length a.rules.now))
+    × ((c.update.new.rules ≡ filled (is_made v) a.rules.now 0 (sheets_numbers a.old.now a.sheet.now a.service))
+    × PromisedBoth a.old.now a.sheet.now a.service v c.update.new.rules)
+told c v is =
     let a = c.args in
-    let e = c.update-updated.ensures in
-    let v = c.of_updated.result in
+    let d = (goal.at.After-update c).In_ok-m in
+    let e = c.update.ensures in
     let long = length-replicate {A = ℕ} list_room 0 in
     let wide = length-replicate {A = ℕ} most_backends 0 in
-    record {
-      answer = text-answer a.old.now a.sheet.now a.service (m (goal.at.returns-in-Made c).In-Made) (X (goal.at.returns-in-Made c).In-Made) list₀
-          (list (goal.at.returns-in-Made c).In-Made) row₀ (names (goal.at.returns-in-Made c).In-Made) row₀ (row (goal.at.returns-in-Made c).In-Made) long wide
-          wide
-          (listed (goal.at.returns-in-Made c).In-Made) (named (goal.at.returns-in-Made c).In-Made) (weighed (goal.at.returns-in-Made c).In-Made)
-          (length a.rules.now) c.update-updated.result e.answer v c.of_updated.ensures;
-      rules = text-buffer a.old.now a.sheet.now a.service (m (goal.at.returns-in-Made c).In-Made) (X (goal.at.returns-in-Made c).In-Made) list₀
-          (list (goal.at.returns-in-Made c).In-Made) row₀ (names (goal.at.returns-in-Made c).In-Made) row₀ (row (goal.at.returns-in-Made c).In-Made) long wide
-          wide
-          (listed (goal.at.returns-in-Made c).In-Made) (named (goal.at.returns-in-Made c).In-Made) (weighed (goal.at.returns-in-Made c).In-Made)
-          (length a.rules.now) c.update-updated.result e.answer v c.of_updated.ensures a.rules.now _ e.rules;
-      promise = text-promised a.old.now a.sheet.now a.service (m (goal.at.returns-in-Made c).In-Made) (X (goal.at.returns-in-Made c).In-Made) list₀
-          (list (goal.at.returns-in-Made c).In-Made) row₀ (names (goal.at.returns-in-Made c).In-Made) row₀ (row (goal.at.returns-in-Made c).In-Made) long wide
-          wide
-          (listed (goal.at.returns-in-Made c).In-Made) (named (goal.at.returns-in-Made c).In-Made) (weighed (goal.at.returns-in-Made c).In-Made)
-          (length a.rules.now) c.update-updated.result e.answer v c.of_updated.ensures _ e.promise;
-    }
+    let room = length a.rules.now in (
+      text-answer a.old.now a.sheet.now a.service (m d) (X d) list₀ (list d) row₀ (names d) row₀ (row d) long wide wide (listed d) (named d) (weighed d)
+          room c.update.result e.answer v is,
+      (
+        text-buffer a.old.now a.sheet.now a.service (m d) (X d) list₀ (list d) row₀ (names d) row₀ (row d) long wide wide (listed d) (named d) (weighed d)
+            room c.update.result e.answer v is a.rules.now _ e.rules,
+        text-promised a.old.now a.sheet.now a.service (m d) (X d) list₀ (list d) row₀ (names d) row₀ (row d) long wide wide (listed d) (named d)
+            (weighed d) room c.update.result e.answer v is _ e.promise,
+      ),
+    )
+
+pub returns-in_err-made : goal.returns-in_err-made
+returns-in_err-made c =
+    let t = told (goal.at.returns-in_err-made c).After-update _
+    (handed_on _ _ c.from_residual-in_err-made.ensures ∙ sym (ap of_updated c.in_err-made.was)) in
+    record { answer = t.0; rules = t.1.0; promise = t.1.1 }
+
+pub returns : goal.returns
+returns c =
+    let t = told (goal.at.returns c).After-update _ (sym (ap of_updated c.in_ok-made.was)) in
+    record { answer = t.0; rules = t.1.0; promise = t.1.1 }

@@ -1,4 +1,5 @@
 -- `updating::update` meets its contract: the answer of the expansion from kept rules, with k.
+use Rattle.std.specs.Prelude.{Err, Ok, Result}
 use Prim.Native.Nat.{ℕ}
 use mathlib.Core.Bool.{Bool}
 use mathlib.Core.List.{List}
@@ -6,22 +7,23 @@ use mathlib.Core.Path.{◌≡◌, refl, ap, sym, ◌∙◌}
 use lib.ListN.{length}
 use Rattle.numerals.specs.Buffer.{filled}
 use Rattle.expansion.specs.Resume.{numbers_resumed, is_resumed}
-use Rattle.expansion.specs.declared.resuming.Resumed.{Resumed}
-use Rattle.expansion.specs.declared.resuming.Resumed.TheVariants as resumed
+use Rattle.numerals.proofs.Exits.{handed_on}
 use Rattle.update.specs.Update.{of_resumed, update_answer, is_made}
 use Rattle.update.specs.Promise.{PromisedFor}
-use Rattle.update.specs.declared.answer.Updated.{Updated}
 use Rattle.update.proofs.Promises.{promised}
 use Rattle.update.proofs.updating.update.Goals as goal
-use Rattle.update.proofs.updating.update.Goals.{After-resume-resumed}
+use Rattle.update.proofs.updating.update.Goals.{After-resume}
+use Rattle.expansion.specs.declared.resuming.Kept.{Kept}
+use Rattle.numerals.specs.declared.refusal.Refusal.{Refusal}
+use Rattle.update.specs.declared.answer.Update.{Update}
 
 -- both answers are of one case
-same_case : (k : ℕ) (r : Resumed) → is_made (of_resumed k r) ≡ is_resumed r
-same_case k (resumed.Made m) = refl
-same_case k (resumed.Refused why) = refl
+same_case : (k : ℕ) (r : (Result Kept Refusal)) → is_made (of_resumed k r) ≡ is_resumed r
+same_case k (Ok m) = refl
+same_case k (Err why) = refl
 
 -- what the expansion answered
-module _ (o : After-resume-resumed) where
+module _ (o : After-resume) where
   abbrev k : ℕ
   k = o.args.k
 
@@ -41,24 +43,24 @@ module _ (o : After-resume-resumed) where
   out = o.args.rules.now
 
   abbrev out' : List ℕ
-  out' = o.resume-resumed.new.rules
+  out' = o.resume.new.rules
 
-  told : (r : Resumed) (u : Updated) → o.resume-resumed.result ≡ r → u ≡ of_resumed k r
+  told : (r : (Result Kept Refusal)) (u : (Result Update Refusal)) → o.resume.result ≡ r → u ≡ of_resumed k r
       → (u ≡ update_answer k tolerance ids ws cs (length out))
       × ((out' ≡ filled (is_made u) out 0 (numbers_resumed k tolerance ids ws cs)) × PromisedFor k tolerance ids ws cs u out')
   unfolding update_answer
   told r u e is =
-      let answer : u ≡ update_answer k tolerance ids ws cs (length out) = is ∙ ap (of_resumed k) (sym e ∙ o.resume-resumed.ensures.answer) in
-      let case : is_resumed o.resume-resumed.result ≡ is_made u = ap is_resumed e ∙ sym (same_case k r) ∙ ap is_made (sym is) in
-      let buffer = o.resume-resumed.ensures.rules ∙ ap (λ (t : Bool). filled t out 0 (numbers_resumed k tolerance ids ws cs)) case in
+      let answer : u ≡ update_answer k tolerance ids ws cs (length out) = is ∙ ap (of_resumed k) (sym e ∙ o.resume.ensures.answer) in
+      let case : is_resumed o.resume.result ≡ is_made u = ap is_resumed e ∙ sym (same_case k r) ∙ ap is_made (sym is) in
+      let buffer = o.resume.ensures.rules ∙ ap (λ (t : Bool). filled t out 0 (numbers_resumed k tolerance ids ws cs)) case in
       (answer, (buffer, promised k tolerance ids ws cs out u out' answer buffer))
 
-pub returns-in-Refused : goal.returns-in-Refused
-returns-in-Refused c =
-    let t = told (goal.at.returns-in-Refused c).After-resume-resumed (resumed.Refused c.in-Refused.why) _ c.in-Refused.is refl in
+pub returns-in_err-m : goal.returns-in_err-m
+returns-in_err-m c =
+    let t = told (goal.at.returns-in_err-m c).After-resume _ _ c.in_err-m.was (handed_on _ _ c.from_residual.ensures) in
     record { answer = t.0; rules = t.1.0; promise = t.1.1 }
 
-pub returns-in-Made : goal.returns-in-Made
-returns-in-Made c =
-    let t = told (goal.at.returns-in-Made c).After-resume-resumed (resumed.Made c.in-Made.m) _ c.in-Made.is refl in
+pub returns : goal.returns
+returns c =
+    let t = told (goal.at.returns c).After-resume _ _ c.in_ok-m.was refl in
     record { answer = t.0; rules = t.1.0; promise = t.1.1 }

@@ -1,2 +1,0 @@
--- What the proofs of the functions that read a text share.
-pub mod Judged
