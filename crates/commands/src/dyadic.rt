@@ -1,4 +1,4 @@
-// Decimals of whole numbers divided by 2^12, exactly.
+// Decimals of whole numbers divided by 2^12, exactly. Into lent buffers, not through Display: no heap, and each byte is proved.
 ghost use Rattle.std.specs.Prelude.{[], ◌∷◌, ◌++◌, ◌+◌, ◌<◌, ◌≤◌, length};
 ghost use Rattle.numerals.specs.Limits.{most_bits, most_suffixes};
 ghost use Rattle.sheets.specs.Inner.Writing.{Wrote};

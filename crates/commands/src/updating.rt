@@ -27,7 +27,7 @@ fn put_head(out: &mut [u8], u: Update) -> usize
     put_pair(out, next, u.rules as u64, u.churn as u64, 10)
 }
 
-// A suffix and a space behind it; the position after them.
+// A suffix and a space behind it; the position after them. As with `put_number`, the one of sheets isn't handed out.
 fn put_suffix(out: &mut [u8], at: usize, len: usize, value: usize) -> usize
     requires { (is_suffix most_bits len value ≡ true) × (at + suffix_room ≤ length out.old) }
     ensures text { Wrote out.old out.new at result (suffix_text len value ++ 32 ∷ []) }

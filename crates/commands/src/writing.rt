@@ -1,4 +1,4 @@
-// The parts of an answer, written one after the other.
+// The parts of an answer, written one after the other. Into lent buffers, not through Display: no heap, and each byte is proved.
 ghost use Rattle.std.specs.Prelude.{[], ◌∷◌, ◌++◌, ◌+◌, ◌≤◌, length};
 ghost use Rattle.numerals.specs.Decimal.{decimal};
 ghost use Rattle.sheets.specs.Inner.Writing.{Wrote};
@@ -16,7 +16,8 @@ pub fn put_bytes(out: &mut [u8], at: usize, text: &[u8]) -> usize
     end
 }
 
-// A number, and a separator behind it; the position after them. No number has more than 20 digits, so it fits.
+// A number, and a separator behind it; the position after them. No number has more than 20 digits, so it fits. The writer of sheets asks
+// for the text's own room and isn't handed out: no call that is may have a `requires`.
 pub fn put_number(out: &mut [u8], at: usize, n: u64, separator: u8) -> usize
     requires { at + 21 ≤ length out.old }
     ensures text { Wrote out.old out.new at result (decimal n ++ separator ∷ []) }
@@ -45,7 +46,7 @@ pub fn put_pair(out: &mut [u8], at: usize, first: u64, second: u64, separator: u
     put_number(out, next, second, separator)
 }
 
-// REFUSED number line, and a separator behind it; the position after them.
+// REFUSED number line, and a separator behind it; the position after them. The room is a clause, not a type: buffers of two sizes come here.
 fn put_refusal(out: &mut [u8], r: Refused, separator: u8) -> usize
     requires { 50 ≤ length out.old }
     ensures text { Wrote out.old out.new 0 result (refusal r ++ separator ∷ []) }

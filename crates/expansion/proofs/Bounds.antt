@@ -4,12 +4,14 @@ use mathlib.Core.List.{List}
 use native.Mathlib.Decide.{dec_lt}
 use native.Mathlib.Nat.{mul-le-mul_right}
 use native.Mathlib.Omega.{arith}
-use lib.ListN.{get_or-eq_default}
+use lib.ListN.{length, get_or, get_or-eq_default}
+use Rattle.numerals.specs.Limits.{unit}
 use Rattle.expansion.specs.FirstMatch.{gives, share}
 use Rattle.expansion.specs.Imbalance.{backends, label, weight, has, wants, excess, shortfall, imbalance, receiver, largest_excess, largest_shortfall}
 use Rattle.expansion.specs.Steps.{reduction_at, Frame}
 use Rattle.expansion.specs.Inner.Sound.{Complete, Sound}
 use Rattle.expansion.specs.declared.rule.Rule.{Rule}
+use Rattle.expansion.specs.declared.service.Service.{Service}
 use Rattle.numerals.proofs.Sums.{sum-le, sum-at, count-le}
 use Rattle.expansion.proofs.Balance.{has-sum}
 use Rattle.expansion.proofs.Reduction.{reduction-le}
@@ -25,6 +27,10 @@ weight-le F S b = go (dec_lt b (backends F.targets))
     go : Dec (b < backends F.targets) → weight F.targets b ≤ F.targets.unit
     go (yes l) = omega (arith, sum-at (backends F.targets) (weight F.targets) b l, S.balanced)
     go (no l) = omega (arith, get_or-eq_default F.targets.weights 0 {n = b} (omega arith))
+
+-- the same of a service
+pub weight-few : (s : Service) (b : ℕ) → b < length s.weights.now → get_or s.weights.now b 0 ≤ unit
+weight-few s b l = omega (arith, sum-at (length s.weights.now) (λ a. get_or s.weights.now a 0) b l, s.valid.balanced)
 
 pub has-le : (F : Frame) (rs : List Rule) (b : ℕ) → has F.targets rs b ≤ F.targets.unit * 2 ^ F.targets.k
 unfolding has

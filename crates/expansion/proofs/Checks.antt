@@ -3,7 +3,7 @@ use Rattle.std.specs.Prelude.{Err, Ok, Result}
 use Prim.Native.Nat.{ℕ, suc, ◌≤◌, ◌<◌}
 use mathlib.Core.Bool.{Bool, true, false}
 use mathlib.Core.List.{List}
-use mathlib.Core.Path.{◌≡◌, refl}
+use mathlib.Core.Path.{◌≡◌, refl, sym, subst}
 use native.Mathlib.Omega.{arith}
 use lib.Dec.{leb, ltb, eqb, lit<}
 use lib.ListN.{length, get_or}
@@ -14,11 +14,15 @@ use Rattle.expansion.specs.Steps.{frame, first_rule}
 use Rattle.expansion.specs.Inner.Sound.{Sound}
 use Rattle.expansion.specs.Answer.{and_then, or_else, in_limits, id_before, is_backend, check_weights, check_call}
 use Rattle.numerals.specs.Limits.{most_bits, most_backends, most_rules, most_id, unit}
+use Rattle.expansion.specs.Inner.Known.{Above}
 use Rattle.expansion.specs.Inner.Run.{Valid, Fits}
+use Rattle.expansion.specs.Inner.Service.{frame_of}
+use Rattle.expansion.specs.declared.service.Service.{Service}
 use Rattle.numerals.specs.declared.refusal.Refusal.{Refusal}
 use Rattle.numerals.specs.declared.refusal.Refusal.TheVariants.{Malformed, BadField, Unbalanced, TooMany}
 use Rattle.expansion.proofs.Base.{first-known, base-sound}
 use Rattle.expansion.proofs.Ids.{Rises, rises-distinct, rises-named}
+use Rattle.expansion.proofs.KnownIds.{rises-above}
 use Rattle.numerals.proofs.Searches.{both_true, all_true, all-false}
 
 -- both checks passed
@@ -109,6 +113,7 @@ module _ (k tolerance budget : ℕ) (ids ws : List ℕ) where
 
 pub call-passed : (k tolerance budget : ℕ) (ids ws : List ℕ) → check_call k tolerance budget ids ws ≡ Ok tt
     → Valid k tolerance ids ws × (1 ≤ budget) × (budget ≤ most_rules) × ((b : ℕ) → b < length ws → get_or ws b 0 ≤ unit)
+    × Above 0 ids
 unfolding check_call
 call-passed k tolerance budget ids ws e =
     let rest = and_then (or_else (in_limits 1 most_rules budget) BadField) (check_weights ids ws) in
@@ -132,21 +137,30 @@ call-passed k tolerance budget ids ws e =
       rules.0,
       rules.1,
       w.each,
+      rises-above ids (subst (Rises ids) (sym w.paired) w.rises),
     )
 
 pub some-unit : 0 < unit
 unfolding unit
 some-unit = lit< tt
 
--- the frame of a call that passed
-module _ (k tolerance : ℕ) (labels ws : List ℕ) (valid : Valid k tolerance labels ws) where
-  pub sound : Sound (frame k unit tolerance labels ws)
-  sound = base-sound k unit tolerance labels ws valid.some_bits some-unit valid.balanced valid.distinct valid.named
+-- the frame of document 01
+module _ (s : Service) where
+  pub sound : Sound (frame_of s)
+  sound =
+      base-sound s.k unit s.tolerance s.labels.now s.weights.now s.valid.some_bits some-unit s.valid.balanced s.valid.distinct s.valid.named
 
-  pub fits : Fits (frame k unit tolerance labels ws)
+  pub fits : Fits (frame_of s)
   unfolding frame backends first_rule
   fits =
-      record { in_unit = refl; few_bits = valid.few_bits; tolerable = valid.tolerable; few = valid.few; labelled = valid.labelled; sound = sound }
+      record {
+        in_unit = refl;
+        few_bits = s.valid.few_bits;
+        tolerable = s.valid.tolerable;
+        few = s.valid.few;
+        labelled = s.valid.labelled;
+        sound = sound;
+      }
 
-  pub first-lt : argmax (λ b. get_or ws b 0) (length ws) < length ws
-  first-lt = first-known k unit tolerance labels ws valid.some_bits some-unit valid.balanced valid.distinct
+  pub first-lt : argmax (λ b. get_or s.weights.now b 0) (length s.weights.now) < length s.weights.now
+  first-lt = first-known s.k unit s.tolerance s.labels.now s.weights.now s.valid.some_bits some-unit s.valid.balanced s.valid.distinct

@@ -23,14 +23,16 @@ use Rattle.expansion.specs.Inner.Hopeless.{is_apart, beyond_to}
 use Rattle.expansion.specs.Inner.Laying.{Starts}
 use Rattle.expansion.specs.Inner.Lists.{newest_first}
 use Rattle.expansion.specs.Inner.Resume.{Ended}
-use Rattle.expansion.specs.Inner.Run.{labelled_by, Made}
+use Rattle.expansion.specs.Inner.Run.{Made}
+use Rattle.expansion.specs.Inner.Service.{targets_for}
 use Rattle.expansion.specs.Inner.Sound.{Sound}
 use Rattle.expansion.specs.declared.rule.Rule.{Rule}
 use Rattle.expansion.specs.declared.rule.Ended.TheVariants.{Within}
 use Rattle.expansion.specs.declared.list.RuleList.{RuleList}
 use Rattle.expansion.specs.declared.run.Run.{Run}
+use Rattle.expansion.specs.declared.service.Service.{Service}
 use Rattle.expansion.proofs.Balance.{giver-lt, receiver-lt}
-use Rattle.expansion.proofs.Bounds.{share-le, weight-le}
+use Rattle.expansion.proofs.Bounds.{share-le}
 use Rattle.expansion.proofs.KeptLists.{sound-kept, within-ended}
 use Rattle.expansion.proofs.KeptStart.{count-is}
 use Rattle.expansion.proofs.Moves.{apart, has_other}
@@ -92,20 +94,28 @@ module _ (F : Frame) (S : Sound F) where
       omega (arith, turns-two x, within_none F (after F x) w)
 
 -- the same of a start, by its weights and shares
-module _ (k tolerance : ℕ) (labels ws : List ℕ) (list : RuleList) (holder shares : List ℕ) (budget : ℕ)
-    (S : Starts k tolerance labels ws list holder shares budget) where
+module _ (s : Service) (list : RuleList) (holder shares : List ℕ) (budget : ℕ) (S : Starts s list holder shares budget) where
+  abbrev k : ℕ
+  k = s.k
+
+  abbrev tolerance : ℕ
+  tolerance = s.tolerance
+
+  abbrev ws : List ℕ
+  ws = s.weights.now
+
   abbrev kept : List Rule
   kept = newest_first list.rules list.count
 
   abbrev F : Frame
-  F = frame_from (labelled_by k labels ws) tolerance kept
+  F = frame_from (targets_for s) tolerance kept
 
   sound : Sound F
-  sound = sound-kept k tolerance labels ws kept S.valid S.proper
+  sound = sound-kept k tolerance s.labels.now ws kept s.valid S.proper
 
-  share-is : (b : ℕ) → b < length ws → get_or shares b 0 ≡ share k kept (label (labelled_by k labels ws) b)
+  share-is : (b : ℕ) → b < length ws → get_or shares b 0 ≡ share k kept (label (targets_for s) b)
   unfolding label
-  share-is b l = S.held.each b (omega (arith, S.valid.labelled))
+  share-is b l = S.held.each b (omega (arith, s.valid.labelled))
 
   beyond-is : beyond_to k tolerance ws shares (length ws) ≡ beyond F F.start
   unfolding frame_from backends has wants weight
@@ -114,17 +124,13 @@ module _ (k tolerance : ℕ) (labels ws : List ℕ) (list : RuleList) (holder sh
       ap (λ (y : ℕ). is_apart (y * unit) (get_or ws b 0 * 2 ^ k) (tolerance * 2 ^ k)) (share-is b l))
 
   -- what the test asks for
-  pub small : (b : ℕ) → b < length ws → (get_or ws b 0 ≤ unit) × (get_or shares b 0 ≤ most_suffixes)
-  unfolding frame_from weight
-  small b l = (
-    weight-le F sound b,
-    omega (arith, share-is b l, share-le k kept (label (labelled_by k labels ws) b), pow-few k S.valid.few_bits),
-  )
+  pub small : (b : ℕ) → b < length ws → get_or shares b 0 ≤ most_suffixes
+  small b l = omega (arith, share-is b l, share-le k kept (label (targets_for s) b), pow-few k s.valid.few_bits)
 
   starts-enough : is_within F (list_of F budget) ≡ true → beyond_to k tolerance ws shares (length ws) ≤ 2 * (budget - list.count)
   unfolding frame_from
   starts-enough w =
-      omega (arith, beyond-is, enough_turns F sound budget w, count-is k tolerance labels ws list holder shares budget S)
+      omega (arith, beyond-is, enough_turns F sound budget w, count-is s list holder shares budget S)
 
   -- a hopeless start
   pub tried-hopeless : ltb (2 * (budget - list.count)) (beyond_to k tolerance ws shares (length ws)) ≡ true → is_within F (list_of F budget) ≡ false
@@ -141,4 +147,4 @@ module _ (k tolerance : ℕ) (labels ws : List ℕ) (list : RuleList) (holder sh
         → Ended F budget list.count old (record { kept = list.count; churn = moved; list = run.list })
     unfolding frame_from
     tried-within e old moved is =
-        record { within = within-ended F (list_of F budget) (sym M.ended ∙ e); few = M.few_rules; number = refl; rules = M.rules; moved = is }
+        record { within = within-ended F (list_of F budget) (sym M.ended ∙ e); number = refl; rules = M.rules; moved = is }

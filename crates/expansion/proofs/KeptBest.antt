@@ -46,7 +46,6 @@ module _ (T : Targets) (tolerance : ℕ) (old : List Rule) where
       came =
           record {
             some = omega (arith, M.number);
-            few = M.few;
             rules = M.rules ∙ ap (list_kept T tolerance old) (sym M.number);
             moved = M.moved ∙ ap cost (sym M.number);
           }

@@ -17,11 +17,12 @@ use Rattle.expansion.specs.Inner.Laying.{Placed, Held, Had, LaidTo, Starts}
 use Rattle.expansion.specs.Inner.Lists.{no_rule, newest_first}
 use Rattle.expansion.specs.Inner.OldList.{rule_at, Known, Proper}
 use Rattle.expansion.specs.Inner.Resume.{Tried}
-use Rattle.expansion.specs.Inner.Run.{labelled_by, Valid}
+use Rattle.expansion.specs.Inner.Service.{targets_for}
 use Rattle.expansion.specs.Inner.Sound.{Lengths, Falling}
 use Rattle.expansion.specs.declared.rule.Rule.{Rule}
 use Rattle.expansion.specs.declared.list.RuleList.{RuleList}
 use Rattle.expansion.specs.declared.resuming.Attempt.{Attempt}
+use Rattle.expansion.specs.declared.service.Service.{Service}
 use Rattle.expansion.proofs.KeptBest.{BestAbove, best-start}
 use Rattle.expansion.proofs.LaidRules.{held-star}
 use Rattle.expansion.proofs.Listing.{newest-more}
@@ -160,51 +161,49 @@ held_first k labels cs few A proper star e to P =
     (held-star k star P.rule few (ap (λ (r : Rule). r.len) (sym is) ∙ first-star k labels cs proper) labels A to P)
 
 -- the search has come down to the rules of a list: of the numbers above, the best, and who held what after the whole old list
-pub record Searched (k tolerance : ℕ) (labels ws cs whole holder shares : List ℕ) (list : RuleList) (had : List ℕ) (best : Option Attempt) : Type 0 where
-  pub laid : LaidTo k labels (rules_from cs) list.count holder shares list.rules had
-  pub full : (all : List ℕ) × Held k labels (rules_from cs) whole all
-  pub above : BestAbove (labelled_by k labels ws) tolerance (rules_from cs) list.count best
+pub record Searched (s : Service) (cs whole holder shares : List ℕ) (list : RuleList) (had : List ℕ) (best : Option Attempt) : Type 0 where
+  pub laid : LaidTo s.k s.labels.now (rules_from cs) list.count holder shares list.rules had
+  pub full : (all : List ℕ) × Held s.k s.labels.now (rules_from cs) whole all
+  pub above : BestAbove (targets_for s) s.tolerance (rules_from cs) list.count best
 
 -- all rules are laid, and none was tried
-pub searched-none : (k tolerance : ℕ) (labels ws cs : List ℕ) → Proper k labels (rules_from cs)
-    → (holder shares : List ℕ) (list : RuleList) (had : List ℕ)
-    → list.count ≡ length (rules_from cs) → LaidTo k labels (rules_from cs) (length (rules_from cs)) holder shares list.rules had
-    → Searched k tolerance labels ws cs holder holder shares list had None
-searched-none k tolerance labels ws cs proper holder shares list had all L =
+pub searched-none : (s : Service) (cs holder shares : List ℕ) (list : RuleList) (had : List ℕ)
+    → list.count ≡ length (rules_from cs)
+    → LaidTo s.k s.labels.now (rules_from cs) (length (rules_from cs)) holder shares list.rules had
+    → Searched s cs holder holder shares list had None
+searched-none s cs holder shares list had all L =
     let R = rules_from cs in
     record {
-      laid = subst (λ (n : ℕ). LaidTo k labels R n holder shares list.rules had) (sym all) L;
-      full = (shares, subst (λ (rs : List Rule). Held k labels rs holder shares) (oldest-all (length R) R (omega arith)) L.held);
-      above =
-          subst (λ (n : ℕ). BestAbove (labelled_by k labels ws) tolerance R n None) (sym all) (best-start (labelled_by k labels ws) tolerance R);
+      laid = subst (λ (n : ℕ). LaidTo s.k s.labels.now R n holder shares list.rules had) (sym all) L;
+      full = (shares, subst (λ (rs : List Rule). Held s.k s.labels.now rs holder shares) (oldest-all (length R) R (omega arith)) L.held);
+      above = subst (λ (n : ℕ). BestAbove (targets_for s) s.tolerance R n None) (sym all) (best-start (targets_for s) s.tolerance R);
     }
 
-module _ (k tolerance : ℕ) (labels ws cs : List ℕ) (valid : Valid k tolerance labels ws) (proper : Proper k labels (rules_from cs))
+module _ (s : Service) (cs : List ℕ) (proper : Proper s.k s.labels.now (rules_from cs))
     (holder shares : List ℕ) (list : RuleList) (had : List ℕ)
-    (laid : LaidTo k labels (rules_from cs) list.count holder shares list.rules had) where
+    (laid : LaidTo s.k s.labels.now (rules_from cs) list.count holder shares list.rules had) where
   abbrev old : List Rule
   old = rules_from cs
 
   abbrev T : Targets
-  T = labelled_by k labels ws
+  T = targets_for s
 
   abbrev c : ℕ
   c = list.count
 
-  pub starts-at : Starts k tolerance labels ws list holder shares (length cs / 3)
+  pub starts-at : Starts s list holder shares (length cs / 3)
   starts-at =
       record {
-        valid = valid;
-        proper = subst (Proper k labels) (sym laid.kept) (oldest-proper k labels c old proper laid.some laid.inside);
-        held = subst (λ (rs : List Rule). Held k labels rs holder shares) (sym laid.kept) laid.held;
+        proper = subst (Proper s.k s.labels.now) (sym laid.kept) (oldest-proper s.k s.labels.now c old proper laid.some laid.inside);
+        held = subst (λ (rs : List Rule). Held s.k s.labels.now rs holder shares) (sym laid.kept) laid.held;
         within = omega (arith, rules-count cs, laid.inside);
         few = omega (arith, rules-count cs, proper.few);
       }
 
   -- the try from where it stands
-  pub tried_here : (tried : Option Attempt) → Tried (frame_from T tolerance (newest_first list.rules c)) (length cs / 3) c old tried
-      → Tried (frame_kept T tolerance old c) (length old) c old tried
+  pub tried_here : (tried : Option Attempt) → Tried (frame_from T s.tolerance (newest_first list.rules c)) (length cs / 3) c old tried
+      → Tried (frame_kept T s.tolerance old c) (length old) c old tried
   unfolding frame_kept
   tried_here tried M =
-      subst (λ (n : ℕ). Tried (frame_from T tolerance (oldest c old)) n c old tried) (sym (rules-count cs))
-      (subst (λ (rs : List Rule). Tried (frame_from T tolerance rs) (length cs / 3) c old tried) laid.kept M)
+      subst (λ (n : ℕ). Tried (frame_from T s.tolerance (oldest c old)) n c old tried) (sym (rules-count cs))
+      (subst (λ (rs : List Rule). Tried (frame_from T s.tolerance rs) (length cs / 3) c old tried) laid.kept M)

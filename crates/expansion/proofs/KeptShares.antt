@@ -24,8 +24,6 @@ use Rattle.expansion.specs.declared.rule.Ended.TheVariants.{Within, NoGain}
 use Rattle.expansion.specs.declared.ledger.Backend.{Backend}
 use Rattle.expansion.specs.declared.ledger.Ledger.{Ledger}
 use Rattle.expansion.specs.declared.rule.Move.{Move}
-use Rattle.expansion.specs.declared.run.Next.{Next}
-use Rattle.expansion.specs.declared.run.Next.TheVariants.{Stop, Go}
 use Rattle.numerals.proofs.Powers.{pow-few}
 use Rattle.numerals.proofs.Sums.{sum-ext}
 use Rattle.numerals.proofs.Searches.{argmax-ext}
@@ -33,21 +31,24 @@ use Rattle.expansion.proofs.Balance.{giver-lt, receiver-lt}
 use Rattle.expansion.proofs.Within.{within-is}
 use Rattle.expansion.proofs.Bounds.{share-le, excess-bound, shortfall-bound}
 use Rattle.expansion.proofs.Signed.{over-sub, under-sub, mag-sides, wants-few, entry-change}
+use Rattle.std.specs.declared.ops.ControlFlow.{ControlFlow}
+use Rattle.expansion.specs.declared.rule.Ended.{Ended}
+use Rattle.std.specs.declared.ops.ControlFlow.TheVariants.{Break, Continue}
 
 -- the move of a turn
 unfoldable pub move_of : Frame → List Rule → Move
 move_of F rs = record { giver = giver F.targets rs; receiver = receiver F.targets rs; index = term F rs }
 
 -- what comes next, by the definitions
-unfoldable pub next_by : Frame → List Rule → Next
-next_by F rs = pick (is_within F rs) (Stop Within) (pick (is_no_gain F rs) (Stop NoGain) (Go (move_of F rs)))
+unfoldable pub next_by : Frame → List Rule → ControlFlow Ended Move
+next_by F rs = pick (is_within F rs) (Break Within) (pick (is_no_gain F rs) (Break NoGain) (Continue (move_of F rs)))
 
 -- what comes next, of plain numbers
-next : (unit slack cap g r o u : ℕ) → Next
+next : (unit slack cap g r o u : ℕ) → ControlFlow Ended Move
 next unit slack cap g r o u =
     let i = lastmax (λ j. reduction u o (2 ^ j * unit)) cap in
-    pick (both (leb o slack) (leb u slack)) (Stop Within)
-    (pick (eqb (reduction u o (2 ^ i * unit)) 0) (Stop NoGain) (Go (record { giver = g; receiver = r; index = i })))
+    pick (both (leb o slack) (leb u slack)) (Break Within)
+    (pick (eqb (reduction u o (2 ^ i * unit)) 0) (Break NoGain) (Continue (record { giver = g; receiver = r; index = i })))
 
 module _ (F : Frame) (rs : List Rule) (L : Ledger) (K : Keeps F.targets rs L) where
   pub kept-share : (b : ℕ) → b < backends F.targets → (entry_at L b).share ≡ share F.targets.k rs (label F.targets b)

@@ -22,10 +22,12 @@ use Rattle.expansion.specs.Inner.Holders.{Holds}
 use Rattle.expansion.specs.Inner.Lists.{no_rule, newest_first, Listed}
 use Rattle.expansion.specs.Inner.OldList.{Known, Proper}
 use Rattle.expansion.specs.Inner.Known.{Among}
-use Rattle.expansion.specs.Inner.Run.{labelled_by, framed, Fits, Shared}
+use Rattle.expansion.specs.Inner.Run.{Fits, Shared}
+use Rattle.expansion.specs.Inner.Service.{targets_for, frame_for}
 use Rattle.expansion.specs.Inner.Laying.{Starts}
 use Rattle.expansion.specs.declared.rule.Rule.{Rule}
 use Rattle.expansion.specs.declared.list.RuleList.{RuleList}
+use Rattle.expansion.specs.declared.service.Service.{Service}
 use Rattle.expansion.proofs.Checks.{some-unit}
 use Rattle.expansion.proofs.FirstMatch.{rule-short, rule-bits, gives-low, lengths-mono}
 use Rattle.expansion.proofs.LaidRules.{no_lows, holds-held}
@@ -81,13 +83,15 @@ first-among k labels (r ∷ q ∷ rs) each some star s =
 pub first-known : (k : ℕ) (labels : List ℕ) (rs : List Rule) → Proper k labels rs → (s : ℕ) → Among (first_match rs s) labels
 first-known k labels rs P = first-among k labels rs P.each P.some P.star
 
-module _ (k tolerance : ℕ) (labels ws : List ℕ) (list : RuleList) (holder shares : List ℕ) (budget : ℕ)
-    (S : Starts k tolerance labels ws list holder shares budget) where
+module _ (s : Service) (list : RuleList) (holder shares : List ℕ) (budget : ℕ) (S : Starts s list holder shares budget) where
+  abbrev k : ℕ
+  k = s.k
+
   abbrev kept : List Rule
   kept = newest_first list.rules list.count
 
   abbrev F : Frame
-  F = framed k (cap_from k kept) tolerance labels ws kept
+  F = frame_for s (cap_from k kept) kept
 
   pub count-is : length kept ≡ list.count
   count-is = length-newest list.rules list.count
@@ -103,26 +107,26 @@ module _ (k tolerance : ℕ) (labels ws : List ℕ) (list : RuleList) (holder sh
 
   pub cap-below : cap_from k kept < k
   unfolding cap_from
-  cap-below = omega (arith, S.valid.some_bits)
+  cap-below = omega (arith, s.valid.some_bits)
 
   short : Lengths (k - cap_from k kept) kept
   unfolding cap_from
   short = lengths-mono (longest kept) (k - min (k - longest kept) (k - 1)) kept (omega (arith, longest-few)) (lengths-longest kept)
 
-  pub holds : Holds (labelled_by k labels ws) kept holder no_lows
-  holds = holds-held k labels ws kept holder shares S.valid.labelled S.held
+  pub holds : Holds (targets_for s) kept holder no_lows
+  holds = holds-held k s.labels.now s.weights.now kept holder shares s.valid.labelled S.held
 
   -- every suffix has a holder
   complete : Complete (label F.targets) (backends F.targets) kept
-  complete s =
-      let v = s % 2 ^ k in
-      let m : v < 2 ^ k = mod-lt s (pow_pos k) in
+  complete x =
+      let v = x % 2 ^ k in
+      let m : v < 2 ^ k = mod-lt x (pow_pos k) in
       let p = place k v in
       let b = get_or holder p 0 in (
         b,
         holds.known p (place-lt k v),
-        sym (gives-low k kept short-all s (label F.targets b))
-            ∙ subst (λ (x : ℕ). gives kept x (label F.targets b) ≡ true) (place-involution k v m) (holds.holders p (place-lt k v)),
+        sym (gives-low k kept short-all x (label F.targets b))
+            ∙ subst (λ (y : ℕ). gives kept y (label F.targets b) ≡ true) (place-involution k v m) (holds.holders p (place-lt k v)),
       )
 
   pub fits : Fits F
@@ -130,16 +134,16 @@ module _ (k tolerance : ℕ) (labels ws : List ℕ) (list : RuleList) (holder sh
   fits =
       record {
         in_unit = refl;
-        few_bits = S.valid.few_bits;
-        tolerable = S.valid.tolerable;
-        few = S.valid.few;
-        labelled = S.valid.labelled;
+        few_bits = s.valid.few_bits;
+        tolerable = s.valid.tolerable;
+        few = s.valid.few;
+        labelled = s.valid.labelled;
         sound =
             record {
               positive = some-unit;
-              balanced = S.valid.balanced;
-              distinct = S.valid.distinct;
-              named = S.valid.named;
+              balanced = s.valid.balanced;
+              distinct = s.valid.distinct;
+              named = s.valid.named;
               below = cap-below;
               short = short;
               complete = complete;
@@ -150,17 +154,16 @@ module _ (k tolerance : ℕ) (labels ws : List ℕ) (list : RuleList) (holder sh
   unfolding backends label
   shared =
       record {
-        long = omega (arith, S.valid.few, S.held.long);
-        each = λ b l. S.held.each b (omega (arith, S.valid.labelled));
+        long = omega (arith, s.valid.few, S.held.long);
+        each = λ b l. S.held.each b (omega (arith, s.valid.labelled));
       }
 
   -- the kept rules, with the imbalance after them
-  pub listed : (sum : ℕ) → sum ≡ imbalance F.targets (after F 0) → length list.stairs ≡ most_rules
-      → Listed F 0 (record { rules = list.rules; stairs = set list.stairs (list.count - 1) sum; count = list.count })
+  pub listed : (few : list.count ≤ most_rules) (sum : ℕ) → sum ≡ imbalance F.targets (after F 0) → length list.stairs ≡ most_rules
+      → Listed F 0 (record { rules = list.rules; stairs = set list.stairs (list.count - 1) sum; count = list.count; few = few })
   unfolding after
-  listed sum e long =
+  listed few sum e long =
       record {
-        few_rules = omega (arith, S.within, S.few);
         count = omega (arith, count-is);
         rules = refl;
         stairs = λ y l.

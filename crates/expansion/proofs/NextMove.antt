@@ -27,8 +27,6 @@ use Rattle.expansion.specs.declared.ledger.Backend.{Backend}
 use Rattle.expansion.specs.declared.ledger.Ledger.{Ledger}
 use Rattle.expansion.specs.declared.ledger.Extreme.{Extreme}
 use Rattle.expansion.specs.declared.rule.Move.{Move}
-use Rattle.expansion.specs.declared.run.Next.{Next}
-use Rattle.expansion.specs.declared.run.Next.TheVariants.{Stop, Go}
 use Rattle.numerals.proofs.Powers.{pow-few}
 use Rattle.numerals.proofs.Searches.{lastmax-is, lastmax-fewer}
 use Rattle.expansion.proofs.Balance.{giver-lt, receiver-lt}
@@ -37,47 +35,49 @@ use Rattle.expansion.proofs.Moves.{Good, some-excess, some-shortfall, apart, pla
 use Rattle.expansion.proofs.Turns.{Going, step-within, step-none, ended-within, ended-none}
 use Rattle.expansion.proofs.KeptShares.{move_of, next_by, kept-change, kept-inside, kept-moved}
 use Rattle.expansion.proofs.Found.{found-lowest, found-holds}
+use Rattle.std.specs.declared.ops.ControlFlow.{ControlFlow}
+use Rattle.std.specs.declared.ops.ControlFlow.TheVariants.{Break, Continue}
 
 -- what it means that the program stops, or goes on
-pub next-stop : (F : Frame) (rs : List Rule) (e : Ended) → next_by F rs ≡ Stop e → (step F rs ≡ rs) × (end_of F rs ≡ e)
+pub next-stop : (F : Frame) (rs : List Rule) (e : Ended) → next_by F rs ≡ Break e → (step F rs ≡ rs) × (end_of F rs ≡ e)
 unfolding next_by
 next-stop F rs e h = go (is_within F rs) refl (is_no_gain F rs) refl h
   where
     go : (w : Bool) → is_within F rs ≡ w → (g : Bool) → is_no_gain F rs ≡ g
-        → pick w (Stop Within) (pick g (Stop NoGain) (Go (move_of F rs))) ≡ Stop e → (step F rs ≡ rs) × (end_of F rs ≡ e)
+        → pick w (Break Within) (pick g (Break NoGain) (Continue (move_of F rs))) ≡ Break e → (step F rs ≡ rs) × (end_of F rs ≡ e)
     go true p g q n = (step-within F rs p, ended-within F rs p ∙ cc)
     go false p true q n = (step-none F rs q, ended-none F rs p q ∙ cc)
     go false p false q n = absurd (let z : ◌≡◌ {A = ℕ} 0 1 = cc in omega arith)
 
-pub next-go : (F : Frame) (rs : List Rule) (m : Move) → next_by F rs ≡ Go m → Going F rs × (m ≡ move_of F rs)
+pub next-go : (F : Frame) (rs : List Rule) (m : Move) → next_by F rs ≡ Continue m → Going F rs × (m ≡ move_of F rs)
 unfolding next_by
 next-go F rs m h = go (is_within F rs) refl (is_no_gain F rs) refl h
   where
     go : (w : Bool) → is_within F rs ≡ w → (g : Bool) → is_no_gain F rs ≡ g
-        → pick w (Stop Within) (pick g (Stop NoGain) (Go (move_of F rs))) ≡ Go m → Going F rs × (m ≡ move_of F rs)
+        → pick w (Break Within) (pick g (Break NoGain) (Continue (move_of F rs))) ≡ Continue m → Going F rs × (m ≡ move_of F rs)
     go true p g q n = absurd (let z : ◌≡◌ {A = ℕ} 0 1 = cc in omega arith)
     go false p true q n = absurd (let z : ◌≡◌ {A = ℕ} 0 1 = cc in omega arith)
     go false p false q n = (record { outside = p; gain = q }, cc)
 
 -- the terms above c are left out, where the move that comes next isn't of one of them
 module _ (give take : Extreme) (k tolerance cap c : ℕ) (less : c ≤ cap)
-    (falls : (w : Move) → next_for give take k tolerance cap ≡ Go w → w.index ≤ c) where
+    (falls : (w : Move) → next_for give take k tolerance cap ≡ Continue w → w.index ≤ c) where
   abbrev gain : ℕ → ℕ
   gain j = reduction (over take.size) (over give.size) (2 ^ j * unit)
 
   abbrev within : Bool
   within = both (leb (over give.size) (tolerance * 2 ^ k)) (leb (over take.size) (tolerance * 2 ^ k))
 
-  abbrev go-by : ℕ → Next
-  go-by i = Go (record { giver = give.backend; receiver = take.backend; index = i })
+  abbrev go-by : ℕ → ControlFlow Ended Move
+  go-by i = Continue (record { giver = give.backend; receiver = take.backend; index = i })
 
   pub next-fewer : next_for give take k tolerance c ≡ next_for give take k tolerance cap
   unfolding next_for
   next-fewer = go within refl (eqb (gain (lastmax gain cap)) 0) refl
     where
       go : (w : Bool) → within ≡ w → (g : Bool) → eqb (gain (lastmax gain cap)) 0 ≡ g
-          → pick within (Stop Within) (pick (eqb (gain (lastmax gain c)) 0) (Stop NoGain) (go-by (lastmax gain c)))
-          ≡ pick within (Stop Within) (pick (eqb (gain (lastmax gain cap)) 0) (Stop NoGain) (go-by (lastmax gain cap)))
+          → pick within (Break Within) (pick (eqb (gain (lastmax gain c)) 0) (Break NoGain) (go-by (lastmax gain c)))
+          ≡ pick within (Break Within) (pick (eqb (gain (lastmax gain cap)) 0) (Break NoGain) (go-by (lastmax gain cap)))
       go true p g q = rw p
       go false p true q =
           let none : gain (lastmax gain c) ≡ 0 =

@@ -8,7 +8,7 @@ use mathlib.Core.Path.{◌≡◌, refl, ap, sym, ◌∙◌, subst}
 use native.Mathlib.Decide.{ℕ_discrete}
 use native.Mathlib.Numerals.{add-one}
 use native.Mathlib.Omega.{arith}
-use lib.Dec.{ltb, eqb, lit<, lit≤}
+use lib.Dec.{ltb, eqb, lit<}
 use lib.ListN.{length, get_or, set, replicate, length-set, length-replicate, get_or-replicate}
 use lib.Seq.{get_or-set_same, get_or-set_other}
 use borrow.Author.Tests.{ltb-true, ltb-false, eqb-true, eq-eqb, ne_eqb}
@@ -24,8 +24,10 @@ use Rattle.expansion.specs.Inner.Ledger.{over, Small, error_at}
 use Rattle.expansion.specs.Inner.Terms.{next_of}
 use Rattle.expansion.specs.Inner.Holders.{Holds, lowered, node_of, Handed}
 use Rattle.expansion.specs.Inner.Lists.{no_rule, newest_first, Listed}
-use Rattle.expansion.specs.Inner.Run.{Valid, Fits, Shared, in_budget, Stands, Adds, Made}
+use Rattle.expansion.specs.Inner.Run.{Fits, Shared, in_budget, Stands, Adds, Made}
+use Rattle.expansion.specs.Inner.Service.{frame_of}
 use Rattle.expansion.specs.declared.rule.Rule.{Rule}
+use Rattle.expansion.specs.declared.service.Service.{Service}
 use Rattle.expansion.specs.declared.rule.Ended.{Ended}
 use Rattle.expansion.specs.declared.rule.Ended.TheVariants.{Budget}
 use Rattle.expansion.specs.declared.ledger.Backend.{Backend}
@@ -33,8 +35,6 @@ use Rattle.expansion.specs.declared.ledger.Ledger.{Ledger}
 use Rattle.expansion.specs.declared.list.RuleList.{RuleList}
 use Rattle.expansion.specs.declared.run.State.{State}
 use Rattle.expansion.specs.declared.rule.Move.{Move}
-use Rattle.expansion.specs.declared.run.Next.{Next}
-use Rattle.expansion.specs.declared.run.Next.TheVariants.{Stop, Go}
 use Rattle.expansion.proofs.Balance.{giver-lt}
 use Rattle.expansion.proofs.Moves.{term-falls}
 use Rattle.expansion.proofs.Turns.{Going, after-suc, step-moves, listed, ended-budget, good-after, oldest-after}
@@ -44,13 +44,17 @@ use Rattle.expansion.proofs.KeptShares.{move_of, next_by, kept_small, kept-imbal
 use Rattle.expansion.proofs.KeptAlong.{kept_move}
 use Rattle.expansion.proofs.Listing.{length-newest, newest-more}
 use Rattle.expansion.proofs.NextMove.{next-stop, next-go, moved_by, Feasible, feasible}
+use Rattle.std.specs.declared.ops.ControlFlow.{ControlFlow}
+use Rattle.std.specs.declared.ops.ControlFlow.TheVariants.{Break, Continue}
 
 -- a move in the budget
-pub in-budget : (x : Next) (c budget : ℕ) (m : Move) → in_budget x c budget ≡ Go m → (x ≡ Go m) × (c < budget)
-in-budget (Stop e) c budget m n = absurd (let z : ◌≡◌ {A = ℕ} 0 1 = cc in omega arith)
-in-budget (Go w) c budget m n = go (ltb c budget) refl n
+pub in-budget : (x : ControlFlow Ended Move) (c budget : ℕ) (m : Move) → in_budget x c budget ≡ Continue m → (x ≡ Continue m) × (c < budget)
+in-budget (Break e) c budget m n = absurd (let z : ◌≡◌ {A = ℕ} 0 1 = cc in omega arith)
+in-budget (Continue w) c budget m n = go (ltb c budget) refl n
   where
-    go : (t : Bool) → ltb c budget ≡ t → pick t (Go w) (Stop Budget) ≡ Go m → (Go w ≡ Go m) × (c < budget)
+    go :
+        (t : Bool) → ltb c budget ≡ t → pick {A = ControlFlow Ended Move} t (Continue w) (Break Budget) ≡ Continue m
+        → (◌≡◌ {A = ControlFlow Ended Move} (Continue w) (Continue m)) × (c < budget)
     go true p q = (q, ltb-true c budget p)
     go false p q = absurd (let z : ◌≡◌ {A = ℕ} 0 1 = cc in omega arith)
 
@@ -92,7 +96,7 @@ module _ (F : Frame) (fits : Fits F) where
   pub stands-start : (L : Ledger) → Keeps F.targets F.start L
       → (holder low : List ℕ) → Holds F.targets F.start holder low → length holder ≡ most_suffixes → length low ≡ most_known
       → (sum : ℕ) → sum ≡ sum_to (backends F.targets) (λ b. over (error_at L b))
-      → (next : Next) → next ≡ next_of L (backends F.targets) F.targets.k F.tolerance F.cap
+      → (next : ControlFlow Ended Move) → next ≡ next_of L (backends F.targets) F.targets.k F.tolerance F.cap
       → (r : Rule)
       → Stands F 0 holder low (record { ledger = L; rule = r; imbalance = sum; next = next })
   unfolding after
@@ -108,13 +112,12 @@ module _ (F : Frame) (fits : Fits F) where
 
   -- the list with one more rule
   pub listed_more : (x : ℕ) (list : RuleList) (r : Rule) (sum : ℕ) → Listed F x list
-      → list.count < most_rules → length list.rules ≡ most_rules → length list.stairs ≡ most_rules
+      → (few : list.count + 1 ≤ most_rules) → length list.rules ≡ most_rules → length list.stairs ≡ most_rules
       → Adds F x r → sum ≡ imbalance F.targets (after F (suc x))
       → Listed F (suc x)
-      (record { rules = set list.rules list.count r; stairs = set list.stairs list.count sum; count = list.count + 1 })
+      (record { rules = set list.rules list.count r; stairs = set list.stairs list.count sum; count = list.count + 1; few = few })
   listed_more x list r sum L few rules stairs adds s =
       record {
-        few_rules = omega arith;
         count = omega (arith, L.count);
         rules =
             ap (newest_first (set list.rules list.count r)) (add-one list.count)
@@ -150,7 +153,6 @@ module _ (F : Frame) (x : ℕ) (holder low : List ℕ) (st : State) (S : Stands 
     unfolding stair list_of
     made budget l is e end =
         record {
-          few_rules = L.few_rules;
           rules = L.rules ∙ sym is;
           stairs = λ c from to.
               let start : ℕ = length F.start in
@@ -162,13 +164,13 @@ module _ (F : Frame) (x : ℕ) (holder low : List ℕ) (st : State) (S : Stands 
           ended = sym (ap (end_of F) is ∙ end);
         }
 
-    made-stopped : (budget : ℕ) → list.count ≤ budget → (e : Ended) → st.next ≡ Stop e
+    made-stopped : (budget : ℕ) → list.count ≤ budget → (e : Ended) → st.next ≡ Break e
         → Made F budget (record { list = list; ended = e; kept = st.ledger })
     made-stopped budget l e n =
         let h = next-stop F (after F x) e (sym stands-next ∙ n) in
         made budget l (listed F x budget (omega (arith, L.count)) h.0) e h.1
 
-    made-spent : (budget : ℕ) → list.count ≡ budget → (m : Move) → st.next ≡ Go m
+    made-spent : (budget : ℕ) → list.count ≡ budget → (m : Move) → st.next ≡ Continue m
         → Made F budget (record { list = list; ended = Budget; kept = st.ledger })
     unfolding list_of
     made-spent budget l m n =
@@ -177,11 +179,11 @@ module _ (F : Frame) (x : ℕ) (holder low : List ℕ) (st : State) (S : Stands 
         made budget (omega arith) (ap (after F) all) Budget (ended-budget F (after F x) h.0.outside h.0.gain)
 
     -- where the run ends, its list is that of the budget
-    pub made-ended : (budget : ℕ) → list.count ≤ budget → (e : Ended) → in_budget st.next list.count budget ≡ Stop e
+    pub made-ended : (budget : ℕ) → list.count ≤ budget → (e : Ended) → in_budget st.next list.count budget ≡ Break e
         → Made F budget (record { list = list; ended = e; kept = st.ledger })
     made-ended budget l e n = go st.next refl n
       where
-        spent : (m : Move) → st.next ≡ Go m → (t : Bool) → ltb list.count budget ≡ t → pick t (Go m) (Stop Budget) ≡ Stop e
+        spent : (m : Move) → st.next ≡ Continue m → (t : Bool) → ltb list.count budget ≡ t → pick t (Continue m) (Break Budget) ≡ Break e
             → Made F budget (record { list = list; ended = e; kept = st.ledger })
         spent m p true r q = absurd (let z : ◌≡◌ {A = ℕ} 0 1 = cc in omega arith)
         spent m p false r q =
@@ -189,13 +191,13 @@ module _ (F : Frame) (x : ℕ) (holder low : List ℕ) (st : State) (S : Stands 
             subst (λ (o : Ended). Made F budget (record { list = list; ended = o; kept = st.ledger })) is
             (made-spent budget (omega (arith, ltb-false list.count budget r)) m p)
 
-        go : (o : Next) → st.next ≡ o → in_budget o list.count budget ≡ Stop e
+        go : (o : ControlFlow Ended Move) → st.next ≡ o → in_budget o list.count budget ≡ Break e
             → Made F budget (record { list = list; ended = e; kept = st.ledger })
-        go (Stop f) p q = made-stopped budget l e (p ∙ q)
-        go (Go m) p q = spent m p (ltb list.count budget) refl q
+        go (Break f) p q = made-stopped budget l e (p ∙ q)
+        go (Continue m) p q = spent m p (ltb list.count budget) refl q
 
   -- the move that comes next can be made, and after it the state stands with its rule
-  module _ (m : Move) (n : st.next ≡ Go m) where
+  module _ (m : Move) (n : st.next ≡ Continue m) where
     going : Going F (after F x) × (m ≡ move_of F (after F x))
     going = next-go F (after F x) m (sym stands-next ∙ n)
 
@@ -209,7 +211,7 @@ module _ (F : Frame) (x : ℕ) (holder low : List ℕ) (st : State) (S : Stands 
 
     -- terms never grow
     pub index-falls : (M : Ledger) → M.at ≡ moved_by st.ledger m
-        → (w : Move) → next_of M (backends F.targets) F.targets.k F.tolerance F.cap ≡ Go w → w.index ≤ m.index
+        → (w : Move) → next_of M (backends F.targets) F.targets.k F.tolerance F.cap ≡ Continue w → w.index ≤ m.index
     unfolding move_of
     index-falls M e w h =
         let rs : List Rule = after F x in
@@ -252,7 +254,7 @@ module _ (F : Frame) (x : ℕ) (holder low : List ℕ) (st : State) (S : Stands 
     pub stands-moved : (value : ℕ) (holder' low' : List ℕ) → Handed F.targets.k m value holder low holder' low'
         → (M : Ledger) → M.at ≡ moved_by st.ledger m
         → (sum : ℕ) → sum ≡ sum_to (backends F.targets) (λ b. over (error_at M b))
-        → (next : Next) → next ≡ next_of M (backends F.targets) F.targets.k F.tolerance F.cap
+        → (next : ControlFlow Ended Move) → next ≡ next_of M (backends F.targets) F.targets.k F.tolerance F.cap
         → (r : Rule)
         → Stands F (suc x) holder' low' (record { ledger = M; rule = r; imbalance = sum; next = next })
     unfolding lowered
@@ -270,12 +272,21 @@ module _ (F : Frame) (x : ℕ) (holder low : List ℕ) (st : State) (S : Stands 
         now = sym after-go
 
 -- the start of document 01: everything goes to the largest weight
-module _ (k tolerance : ℕ) (labels ws : List ℕ) (valid : Valid k tolerance labels ws) (first : ℕ) (e : first ≡ argmax (λ b. get_or ws b 0) (length ws)) where
-  pub shared-first : Shared (frame k unit tolerance labels ws) (set (replicate most_known 0) first (2 ^ k))
+module _ (s : Service) (first : ℕ) (e : first ≡ argmax (λ b. get_or s.weights.now b 0) (length s.weights.now)) where
+  abbrev k : ℕ
+  k = s.k
+
+  abbrev labels : List ℕ
+  labels = s.labels.now
+
+  abbrev ws : List ℕ
+  ws = s.weights.now
+
+  pub shared-first : Shared (frame_of s) (set (replicate most_known 0) first (2 ^ k))
   unfolding frame backends label first_rule
   shared-first =
       record {
-        long = omega (arith, valid.few, length-set (replicate most_known 0) first (2 ^ k), length-replicate {A = ℕ} most_known 0);
+        long = omega (arith, s.valid.few, length-set (replicate most_known 0) first (2 ^ k), length-replicate {A = ℕ} most_known 0);
         each = λ b l. each b l (ℕ_discrete b first) ∙ sym (star-share k (get_or labels most nobody) (get_or labels b nobody));
       }
     where
@@ -287,29 +298,28 @@ module _ (k tolerance : ℕ) (labels ws : List ℕ) (valid : Valid k tolerance l
           → get_or (set (replicate most_known 0) first (2 ^ k)) b 0 ≡ pick (eqb (get_or labels most nobody) (get_or labels b nobody)) (2 ^ k) 0
       each b l (yes d) =
           ap (λ (i : ℕ). get_or (set (replicate most_known 0) first (2 ^ k)) i 0) d
-          ∙ get_or-set_same (replicate most_known 0) first (2 ^ k) 0 (omega (arith, valid.few, length-replicate {A = ℕ} most_known 0))
+          ∙ get_or-set_same (replicate most_known 0) first (2 ^ k) 0 (omega (arith, s.valid.few, length-replicate {A = ℕ} most_known 0))
           ∙ sym (ap (λ (t : Bool). pick t (2 ^ k) 0)
           (eq-eqb (get_or labels most nobody) (get_or labels b nobody) (ap (λ (i : ℕ). get_or labels i nobody) (sym (d ∙ e)))))
       each b l (no d) =
           get_or-set_other (replicate most_known 0) first b (2 ^ k) 0 d
-          ∙ get_or-replicate most_known b 0 0 (omega (arith, valid.few))
+          ∙ get_or-replicate most_known b 0 0 (omega (arith, s.valid.few))
           ∙ sym (ap (λ (t : Bool). pick t (2 ^ k) 0)
           (ne_eqb (get_or labels most nobody) (get_or labels b nobody)
-          (λ is. d (sym (e ∙ valid.distinct most b (first-lt k tolerance labels ws valid) l is)))))
+          (λ is. d (sym (e ∙ s.valid.distinct most b (first-lt s) l is)))))
 
   -- the list of the first rule
-  pub listed-first : (sum : ℕ) → sum ≡ imbalance (frame k unit tolerance labels ws).targets (after (frame k unit tolerance labels ws) 0)
-      → Listed (frame k unit tolerance labels ws) 0
+  pub listed-first : (few : 1 ≤ most_rules) (sum : ℕ) → sum ≡ imbalance (frame_of s).targets (after (frame_of s) 0)
+      → Listed (frame_of s) 0
       (record {
         rules = replicate most_rules (record { len = 0; value = 0; backend = get_or labels first nobody });
         stairs = replicate most_rules sum;
-        count =
-            1;
+        count = 1;
+        few = few;
       })
   unfolding frame after first_rule newest_first
-  listed-first sum s =
+  listed-first few sum is =
       record {
-        few_rules = lit≤ tt;
         count = refl;
         rules =
             ap (λ (o : Rule). o ∷ []) (get_or-replicate most_rules 0 (record { len = 0; value = 0; backend = get_or labels first nobody }) no_rule (lit< tt))
@@ -318,6 +328,6 @@ module _ (k tolerance : ℕ) (labels ws : List ℕ) (valid : Valid k tolerance l
             let none : y ≡ 0 = omega arith in
             ap (λ (i : ℕ). get_or (replicate most_rules sum) (1 + i - 1) 0) none
             ∙ get_or-replicate most_rules 0 sum 0 (lit< tt)
-            ∙ s
-            ∙ ap (λ (i : ℕ). imbalance (frame k unit tolerance labels ws).targets (after (frame k unit tolerance labels ws) i)) (sym none);
+            ∙ is
+            ∙ ap (λ (i : ℕ). imbalance (frame_of s).targets (after (frame_of s) i)) (sym none);
       }

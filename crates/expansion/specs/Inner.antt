@@ -5,6 +5,7 @@ pub mod Terms
 pub mod Holders
 pub mod Lists
 pub mod Run
+pub mod Service
 pub mod OldList
 pub mod Known
 pub mod Laying

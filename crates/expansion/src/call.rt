@@ -1,13 +1,14 @@
 // The expansion without a text, into lent buffers.
 ghost use Rattle.std.specs.Prelude.{◌≡◌, map, suc, ◌+◌, ◌≤◌, min, leb, length, take};
 ghost use Rattle.std.proofs.lemmas.List.Edits.{sets};
-ghost use Rattle.numerals.specs.Limits.{most_rules, most_id, unit};
+ghost use Rattle.numerals.specs.Limits.{most_id, unit};
 ghost use Rattle.numerals.specs.Pick.{both};
 ghost use Rattle.numerals.specs.Buffer.{filled};
 ghost use Rattle.expansion.specs.Answer.{in_limits, check_weights, check_call, answer, is_made, lens_made, values_made, backends_made, stairs_made};
 
 use crate::list::RuleList;
 use crate::rule::Record;
+use crate::service::Service;
 use numerals::{MOST_BACKENDS, MOST_BITS, MOST_ID, MOST_RULES, Refusal, UNIT};
 
 // The backends: 1 to MOST_BACKENDS of them, an id for each weight; ids ascend, and each weight is at most the unit, which they
@@ -83,8 +84,8 @@ fn copy_out(
     backends: &mut [usize],
     stairs: &mut [u64],
 )
-    requires { (list.count ≤ most_rules) × ((at + list.count ≤ length lens.old) × ((at + list.count ≤ length values.old)
-        × ((at + list.count ≤ length backends.old) × (at + list.count ≤ length stairs.old)))) }
+    requires { (at + list.count ≤ length lens.old) × ((at + list.count ≤ length values.old)
+        × ((at + list.count ≤ length backends.old) × (at + list.count ≤ length stairs.old))) }
     ensures lens { lens.new ≡ sets lens.old at (map (λ r. r.len) (take list.count list.rules)) }
     ensures values { values.new ≡ sets values.old at (map (λ r. r.value) (take list.count list.rules)) }
     ensures backends { backends.new ≡ sets backends.old at (map (λ r. r.backend) (take list.count list.rules)) }
@@ -133,7 +134,13 @@ pub fn expand(
         (stairs_made k tolerance budget ids.now weights.now) }
 {
     check_call(k, tolerance, budget, ids, weights)?;
-    let made = crate::run::make_list(k, tolerance, budget, ids, weights);
+    let service = Service {
+        k,
+        tolerance,
+        labels: ids,
+        weights,
+    };
+    let made = crate::run::make_list(&service, budget);
     let list = made.list;
     let ended = made.ended;
     let n = list.count;

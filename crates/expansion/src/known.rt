@@ -1,11 +1,11 @@
 // The backends that an update knows: the ids of the old list's rules and of the new weights, ascending, each with its new
 // weight, which is 0 where it is missing there.
 ghost use Rattle.std.specs.Prelude.{◌≡◌, ◌+◌, ◌≤◌, ◌<◌, eqb, length, get_or, take};
-ghost use Rattle.numerals.specs.Limits.{most_known};
 ghost use Rattle.expansion.specs.OldList.{rules_from};
 ghost use Rattle.expansion.specs.Inner.Known.{place_in, insert_at, Included, Knowable, Knows};
 
 use crate::old_list::PER_RULE;
+use numerals::MOST_KNOWN;
 
 // The place of an id among the first `count`, which ascend, or where it belongs.
 pub fn place_of(ids: &[usize], count: usize, id: usize) -> usize
@@ -56,11 +56,10 @@ pub fn know(
     old: &[usize],
     ids: &[usize],
     weights: &[u64],
-    known: &mut [usize],
-    wanted: &mut [u64],
+    known: &mut [usize; MOST_KNOWN],
+    wanted: &mut [u64; MOST_KNOWN],
 ) -> usize
-    requires knowable { Knowable (rules_from old.now) ids.now weights.now }
-    requires known_len { (length known.old ≡ most_known) × (length wanted.old ≡ most_known) }
+    requires { Knowable (rules_from old.now) ids.now weights.now }
     ensures { Knows (rules_from old.now) ids.now weights.now known.new wanted.new result }
 {
     let mut count = ids.len();

@@ -1,9 +1,10 @@
 // The ledger of a service: weight, share and error of each backend.
 ghost use Rattle.std.specs.Prelude.{◌≡◌, ℕ, ◌≤◌, ◌<◌, pos, length, get_or};
-ghost use Rattle.numerals.specs.Limits.{most_bits, most_suffixes, most_known, unit};
+ghost use Rattle.numerals.specs.Limits.{most_bits, most_suffixes, unit};
 ghost use Rattle.expansion.specs.KeptShares.{entry_at, entry_of};
 ghost use Rattle.expansion.specs.Inner.Ledger as kept;
 
+use crate::service::Service;
 use numerals::{MOST_KNOWN, UNIT};
 
 // The ledger goes by value, so an entry is no wider than it must be.
@@ -47,17 +48,16 @@ pub fn entry(weight: u64, share: u64, k: usize) -> Backend
 }
 
 // The ledger where each backend holds its share of the 2^k suffixes.
-pub fn opened(weights: &[u64], shares: &[u64], k: usize) -> Ledger
-    requires k_le_most_bits { (k ≤ most_bits) × ((length weights.now ≤ most_known) × (length weights.now ≤ length shares.now)) }
-    requires by_index { (b : ℕ) → b < length weights.now → (get_or weights.now b 0 ≤ unit) × (get_or shares.now b 0 ≤ most_suffixes) }
-    ensures { (b : ℕ) → b < length weights.now → entry_at result b
-        ≡ entry_of unit k (get_or weights.now b 0) (get_or shares.now b 0) }
+pub fn opened(service: &Service, shares: &[u64; MOST_KNOWN]) -> Ledger
+    requires { (b : ℕ) → b < length service.now.weights.now → get_or shares.now b 0 ≤ most_suffixes }
+    ensures { let s = service.now in (b : ℕ) → b < length s.weights.now → entry_at result b
+        ≡ entry_of unit s.k (get_or s.weights.now b 0) (get_or shares.now b 0) }
 {
     let mut ledger = Ledger {
         at: [entry(0, 0, 0); MOST_KNOWN],
     };
-    for (b, w) in weights.iter().enumerate() {
-        ledger.at[b] = entry(*w, shares[b], k);
+    for (b, w) in service.weights.iter().enumerate() {
+        ledger.at[b] = entry(*w, shares[b], service.k);
     }
     ledger
 }
@@ -74,12 +74,12 @@ fn raised(best: Extreme, b: usize, size: i64) -> Extreme
     }
 }
 
-// One walk over the first n backends. An error that is above zero is an excess, and otherwise a shortfall.
-pub fn survey_of(ledger: Ledger, n: usize) -> Survey
-    requires n_nonzero { (0 < n) × (n ≤ most_known) }
-    requires by_index { (b : ℕ) → b < n → kept.Small (kept.error_at ledger b) }
-    ensures { kept.Surveyed ledger n result }
+// One walk over the backends. An error that is above zero is an excess, and otherwise a shortfall.
+pub fn survey_of(ledger: Ledger, service: &Service) -> Survey
+    requires { (b : ℕ) → b < length service.now.weights.now → kept.Small (kept.error_at ledger b) }
+    ensures { kept.Surveyed ledger (length service.now.weights.now) result }
 {
+    let n = service.weights.len();
     let mut give = Extreme {
         backend: 0,
         size: 0,

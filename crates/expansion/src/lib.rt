@@ -10,9 +10,11 @@ mod laying;
 mod ledger;
 mod list;
 mod old_list;
+mod places;
 mod resuming;
 mod rule;
 mod run;
+mod service;
 mod term;
 
 pub use call::{check_weights, expand};

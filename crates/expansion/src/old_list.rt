@@ -2,7 +2,7 @@
 // suffix and the id of its backend. It is checked as its sheet would be.
 ghost use Rattle.std.specs.Prelude.{◌≡◌, ◌*◌, ◌/◌, ◌≤◌, ◌<◌, length};
 ghost use Rattle.std.proofs.lemmas.List.Edits.{sets};
-ghost use Rattle.numerals.specs.Limits.{most_bits, most_rules};
+ghost use Rattle.numerals.specs.Limits.{most_bits};
 ghost use Rattle.expansion.specs.OldList.{numbers_of, is_proper, check_rules};
 ghost use Rattle.expansion.specs.Resume.{check_old};
 ghost use Rattle.expansion.specs.Inner.Lists.{newest_first};
@@ -96,7 +96,7 @@ pub fn check_old(
 
 // The rules of a list in numbers, the newest first, into a lent buffer that has room for them.
 pub fn store_rules(list: RuleList, out: &mut [usize])
-    requires { (list.count ≤ most_rules) × (3 * list.count ≤ length out.old) }
+    requires { 3 * list.count ≤ length out.old }
     ensures { out.new ≡ sets out.old 0 (numbers_of (newest_first list.rules list.count)) }
 {
     let n = list.count;

@@ -1,8 +1,6 @@
 // The expansion from kept rules: of an old list the oldest rules are kept, and the steps go on for new weights.
 ghost use Rattle.std.specs.Prelude.{List, ◌≡◌, ℕ, ◌≤◌, length, Ok};
 ghost use Rattle.numerals.specs.Buffer.{filled};
-ghost use Rattle.numerals.specs.Limits.{most_bits, most_suffixes};
-ghost use Rattle.numerals.specs.Suffix.{Places};
 ghost use Rattle.expansion.specs.Steps.{oldest, list_of};
 ghost use Rattle.expansion.specs.KeptShares.{SharesKept};
 ghost use Rattle.expansion.specs.Known.{targets_known};
@@ -11,8 +9,8 @@ ghost use Rattle.expansion.specs.Resume.{frame_from, check_old, numbers_resumed,
 ghost use Rattle.expansion.specs.Inner.Holders.{Holds};
 ghost use Rattle.expansion.specs.Inner.Lists.{newest_first};
 ghost use Rattle.expansion.specs.Inner.OldList.{Proper};
-ghost use Rattle.expansion.specs.Inner.Known.{Ascending};
-ghost use Rattle.expansion.specs.Inner.Run.{labelled_by, Valid, Made};
+ghost use Rattle.expansion.specs.Inner.Run.{Made};
+ghost use Rattle.expansion.specs.Inner.Service.{targets_for};
 ghost use Rattle.expansion.specs.Inner.Laying.{Held, LaidTo, Starts};
 ghost use Rattle.expansion.specs.Inner.Resume.{Found, Tried, is_lower};
 ghost use Rattle.expansion.specs.declared.ledger.Ledger as ledger;
@@ -20,8 +18,10 @@ ghost use Rattle.expansion.specs.declared.rule.Rule as rule;
 
 use crate::list::RuleList;
 use crate::old_list::PER_RULE;
+use crate::places::TreePlaces;
 use crate::rule::Ended;
 use crate::run::Run;
+use crate::service::Service;
 use numerals::{MOST_KNOWN, MOST_RULES, MOST_SUFFIXES, Refusal};
 
 // How many of the oldest rules were kept, how many rules the new list has, and how many of the 2^k suffixes it gives to
@@ -50,68 +50,56 @@ pub struct Attempt {
 
 // The list from kept rules on, for numbers that were checked. Who holds which suffix goes along.
 fn run_kept(
-    holder: &mut [u16],
-    shares: &[u64],
-    places: &[u16],
+    holder: &mut [u16; MOST_SUFFIXES],
+    shares: &[u64; MOST_KNOWN],
+    places: &TreePlaces,
+    service: &Service,
     kept: RuleList,
-    ids: &[usize],
-    weights: &[u64],
-    k: usize,
-    tolerance: u64,
     budget: usize,
 ) -> Run
-    requires { Starts k tolerance ids.now weights.now kept holder.old shares.now budget × Places most_bits places.now }
-    ensures made { Made (frame_from (labelled_by k ids.now weights.now) tolerance
-        (newest_first kept.rules kept.count)) budget result }
-    ensures shares { let F = frame_from (labelled_by k ids.now weights.now) tolerance
+    requires { Starts service.now kept holder.old shares.now budget }
+    ensures made { Made (frame_from (targets_for service.now) service.now.tolerance (newest_first kept.rules kept.count)) budget result }
+    ensures shares { let F = frame_from (targets_for service.now) service.now.tolerance
         (newest_first kept.rules kept.count) in (L : ledger.Ledger) × SharesKept F.targets (list_of F budget) kept.count L result.kept }
-    ensures holds { let F = frame_from (labelled_by k ids.now weights.now) tolerance
+    ensures holds { let F = frame_from (targets_for service.now) service.now.tolerance
         (newest_first kept.rules kept.count) in (low : List ℕ) × Holds F.targets (list_of F budget) holder.new low }
 {
     let mut list = kept;
     let mut low = [0u16; MOST_KNOWN];
-    let cap = crate::laying::cap_from(k, kept);
+    let cap = crate::laying::cap_from(service, kept);
     let last = kept.count - 1;
     let newest = list.rules[last];
-    let state = crate::run::begin(weights, shares, k, tolerance, cap, newest);
+    let state = crate::run::begin(service, shares, cap, newest);
     list.stairs[last] = state.imbalance;
-    crate::run::go_on(
-        holder, &mut low, places, state, list, ids, weights, k, tolerance, budget,
-    )
+    crate::run::go_on(holder, &mut low, places, service, state, list, budget)
 }
 
 // One number of kept rules. Where too many backends are beyond the tolerance, the list can't end within and isn't run. The
 // holders go by value: the next try starts from them again.
 fn try_kept(
-    whole: &[u16],
+    whole: &[u16; MOST_SUFFIXES],
     holder: [u16; MOST_SUFFIXES],
-    shares: &[u64],
-    places: &[u16],
+    shares: &[u64; MOST_KNOWN],
+    places: &TreePlaces,
+    service: &Service,
     list: RuleList,
-    ids: &[usize],
-    weights: &[u64],
-    k: usize,
-    tolerance: u64,
     budget: usize,
 ) -> Option<Attempt>
-    requires starts { Starts k tolerance ids.now weights.now list holder shares.now budget × Places most_bits places.now }
-    requires whole_len { length whole.now ≡ most_suffixes }
-    ensures { (old : List rule.Rule) (held : List ℕ) → Held k ids.now old whole.now held
-        → Tried (frame_from (labelled_by k ids.now weights.now) tolerance (newest_first list.rules list.count)) budget
+    requires { Starts service.now list holder shares.now budget }
+    ensures { (old : List rule.Rule) (held : List ℕ) → Held service.now.k service.now.labels.now old whole.now held
+        → Tried (frame_from (targets_for service.now) service.now.tolerance (newest_first list.rules list.count)) budget
         list.count old result }
 {
     let kept = list.count;
-    if crate::hopeless::is_hopeless(weights, shares, k, tolerance, budget - kept) {
+    if crate::hopeless::is_hopeless(service, shares, budget - kept) {
         return None;
     }
     let mut work = holder;
-    let run = run_kept(
-        &mut work, shares, places, list, ids, weights, k, tolerance, budget,
-    );
+    let run = run_kept(&mut work, shares, places, service, list, budget);
     let ended = run.ended;
     match ended {
         Ended::Within => {
-            let churn = crate::churning::count_unlike(whole, &work, k);
+            let churn = crate::churning::count_unlike(whole, &work, service.k);
             let list = run.list;
             Some(Attempt { kept, churn, list })
         }
@@ -132,18 +120,17 @@ fn is_better(churn: usize, best: &Option<Attempt>) -> bool
 
 // All rules of an old list laid on top of its `*`.
 fn lay_all(
-    holder: &mut [u16],
-    shares: &mut [u64],
-    places: &[u16],
-    k: usize,
-    ids: &[usize],
+    holder: &mut [u16; MOST_SUFFIXES],
+    shares: &mut [u64; MOST_KNOWN],
+    places: &TreePlaces,
+    service: &Service,
     old: &[usize],
 ) -> Laid
-    requires k_le_most_bits { (k ≤ most_bits) × (Ascending ids.now × (Proper k ids.now (rules_from old.now) × Places most_bits places.now)) }
-    requires held { Held k ids.now (oldest 1 (rules_from old.now)) holder.old shares.old }
+    requires proper { Proper service.now.k service.now.labels.now (rules_from old.now) }
+    requires held { Held service.now.k service.now.labels.now (oldest 1 (rules_from old.now)) holder.old shares.old }
     ensures count { result.list.count ≡ length (rules_from old.now) }
     ensures laid { let R = rules_from old.now
-        in LaidTo k ids.now R (length R) holder.new shares.new result.list.rules result.had }
+        in LaidTo service.now.k service.now.labels.now R (length R) holder.new shares.new result.list.rules result.had }
 {
     let n = old.len() / PER_RULE;
     let star = crate::old_list::rule_at(old, n - 1);
@@ -151,41 +138,35 @@ fn lay_all(
     let mut had = [0usize; MOST_RULES];
     for i in 1..n {
         let rule = crate::old_list::rule_at(old, n - 1 - i);
-        had[i] = crate::laying::lay(holder, shares, places, k, ids, rule);
-        list.rules[i] = rule;
+        had[i] = crate::laying::lay(holder, shares, places, service, rule);
+        list.push(rule, 0);
     }
-    list.count = n;
     Laid { list, had }
 }
 
 // Of the numbers of kept rules whose lists end within tolerance, the one with the lowest churn, the largest if equal. All rules
 // are laid, and the newest is taken back before each further try. Nothing is lower than a churn of 0.
-fn search(
-    k: usize,
-    tolerance: u64,
-    old: &[usize],
-    ids: &[usize],
-    weights: &[u64],
-) -> Option<Attempt>
-    requires { Valid k tolerance ids.now weights.now × (Ascending ids.now × Proper k ids.now (rules_from old.now)) }
-    ensures { Found (labelled_by k ids.now weights.now) tolerance (rules_from old.now) result }
+fn search(service: &Service, old: &[usize]) -> Option<Attempt>
+    requires { Proper service.now.k service.now.labels.now (rules_from old.now) }
+    ensures { Found (targets_for service.now) service.now.tolerance (rules_from old.now) result }
 {
+    let k = service.k;
+    let ids = service.labels;
     let n = old.len() / PER_RULE;
-    let places = numerals::all_places();
+    let all = numerals::all_places();
+    let places = TreePlaces { of_twelve: &all };
     let star = crate::old_list::rule_at(old, n - 1);
     let first = crate::known::place_of(ids, ids.len(), star.backend);
     let mut holder = [first as u16; MOST_SUFFIXES];
     let mut shares = [0u64; MOST_KNOWN];
     shares[first] = 1 << k;
-    let laid = lay_all(&mut holder, &mut shares, &places, k, ids, old);
+    let laid = lay_all(&mut holder, &mut shares, &places, service, old);
     let mut list = laid.list;
     let had = laid.had;
     let whole = holder;
     let mut best = None;
     for left in (0..n).rev() {
-        let tried = try_kept(
-            &whole, holder, &shares, &places, list, ids, weights, k, tolerance, n,
-        );
+        let tried = try_kept(&whole, holder, &shares, &places, service, list, n);
         if let Some(tried) = tried {
             let churn = tried.churn;
             if is_better(churn, &best) {
@@ -199,8 +180,8 @@ fn search(
             return best;
         }
         let rule = list.rules[left];
-        crate::laying::take_back(&mut holder, &mut shares, &places, k, rule, had[left]);
-        list.count = left;
+        crate::laying::take_back(&mut holder, &mut shares, &places, service, rule, had[left]);
+        list.keep(left);
     }
     best
 }
@@ -219,7 +200,13 @@ fn find_best(
     let mut known = [0usize; MOST_KNOWN];
     let mut wanted = [0u64; MOST_KNOWN];
     let n = crate::known::know(old, ids, weights, &mut known, &mut wanted);
-    search(k, tolerance, old, &known[..n], &wanted[..n])
+    let service = Service {
+        k,
+        tolerance,
+        labels: &known[..n],
+        weights: &wanted[..n],
+    };
+    search(&service, old)
 }
 
 // Of an old list in numbers, the newest rule first, the oldest rules are kept, and the steps of document 01 go on from there,

@@ -14,7 +14,8 @@ pub struct Term {
     pub reduction: i64,
 }
 
-// The reduction of the term t for the largest shortfall u and the largest excess o, or 0 where it is below.
+// The reduction of the term t for the largest shortfall u and the largest excess o, or 0 where it is below. Sizes are i64, the form that
+// document 01 names for errors, so that none is negative is a clause.
 fn reduction(u: i64, o: i64, t: i64) -> i64
     requires u_value { (u ≡ pos (kept.over u)) × ((o ≡ pos (kept.over o)) × (t ≡ pos (kept.over t))) }
     requires small { kept.Small t }

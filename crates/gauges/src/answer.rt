@@ -1,6 +1,6 @@
 // What the calls answer.
 
-// Which of a backend's two gauges is read.
+// Which of a backend's two gauges is read: two cases, told apart in one place.
 #[derive(Drop)]
 pub enum Gauge {
     Share,

@@ -7,7 +7,7 @@ use gauges::{Gauges, Reading};
 use numerals::Refusal;
 use sheets::Refused;
 
-// The gauges by their numbers, which also mark what was read.
+// The gauges by their numbers, which also mark what was read: C knows no enum of ours.
 pub const SHARE: usize = 1;
 
 pub const LOAD: usize = 2;

@@ -39,7 +39,7 @@ pub fn decimal_width(n: u64) -> usize
     w
 }
 
-// The text of n, written into a lent buffer at a position: the position behind it, or why nothing was written.
+// The text of n, written into a lent buffer at a position (as C lends it; no heap): the position behind it, or why nothing was written.
 pub fn write_number(out: &mut [u8], at: usize, n: u64) -> Result<usize, Refusal>
     ensures answer { result ≡ put_end out.old at (decimal n) }
     ensures buffer { out.new ≡ put out.old at (decimal n) }

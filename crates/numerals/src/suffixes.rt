@@ -56,7 +56,7 @@ pub fn read_suffix(s: &[u8], from: usize, to: usize, k: usize) -> Option<Suffix>
     })
 }
 
-// The text of a suffix of len bits, written into a lent buffer at a position.
+// The text of a suffix of len bits, written into a lent buffer at a position (as C lends it; no heap).
 pub fn write_suffix(out: &mut [u8], at: usize, len: usize, value: usize) -> Result<usize, Refusal>
     ensures answer { result ≡ put_suffix_end out.old at len value }
     ensures buffer { out.new ≡ put_suffix out.old at len value }

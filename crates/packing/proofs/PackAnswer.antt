@@ -1,13 +1,12 @@
 -- What the packing answers, where the lists and the grants are those that the program keeps.
 use Rattle.std.specs.Prelude.{Err, Ok, Result, IfOk}
 use Prim.Native.Nat.{ℕ, ◌*◌, ◌≤◌, ◌<◌}
-use mathlib.Core.Path.{◌≡◌, refl, ap₂, ◌∙◌}
+use mathlib.Core.Path.{◌≡◌, refl, ap₂}
 use mathlib.Core.Bool.{Bool, true, false}
 use mathlib.Core.List.{List}
 use native.Mathlib.Omega.{arith}
 use lib.ListN.{length, get_or}
 use lib.Dec.{leb}
-use Rattle.numerals.specs.Limits.{most_services}
 use Rattle.numerals.specs.Pick.{pick}
 use Rattle.numerals.specs.Sums.{sum_to}
 use Rattle.numerals.specs.declared.refusal.Refusal.{Refusal}
@@ -20,13 +19,13 @@ use Rattle.packing.specs.Count.{services, volume}
 use Rattle.packing.specs.Table.{frame_of, list_for, table, problem, granted, one_each}
 use Rattle.packing.specs.Answer.{services_with, services_of, check_all, lines_made, packed_of, figures_of, cells_of, Demanded, no_buffer, about, figures_buffer}
 use Rattle.packing.specs.Answer.{table_buffer, written, answer}
-use Rattle.packing.specs.Inner.Lists.{places, Listed, Granted}
-use Rattle.packing.specs.Inner.Stored.{stored_total, stored_lines, stored_figures, stored_table, held, AllPayable, Started, Allotted, Counted, Writable}
+use Rattle.packing.specs.Inner.Lists.{Listed, Granted}
+use Rattle.packing.specs.Inner.Stored.{stored_total, stored_lines, stored_figures, stored_table, held, AllPayable, AllFalling, Allotted}
 use Rattle.packing.specs.declared.answer.Packed.{Packed}
-use Rattle.packing.proofs.Demand.{granted-fitting, one-fits, demand}
+use Rattle.packing.proofs.Demand.{one-fits, demand}
 use Rattle.packing.proofs.Checks.{Accepted, balanced, volume-le}
-use Rattle.packing.proofs.StoredCosts.{granted-kept, total_kept, all-payable, all-started, stair-low, stair-down}
-use Rattle.packing.proofs.Written.{table_kept, lines-kept, lines-le, figures-kept, counted}
+use Rattle.packing.proofs.StoredCosts.{granted-kept, total_kept, all-payable, all-falling, stair-low, stair-down}
+use Rattle.packing.proofs.Written.{table_kept, lines-kept, figures-kept}
 use Rattle.packing.specs.declared.answer.NotPacked.{NotPacked}
 
 -- what holds of the table holds of an answer that it was made
@@ -58,43 +57,34 @@ module _ (k tolerance capacity : ℕ) (volumes sizes ids ws : List ℕ) (figures
 
 -- the lists and the grants kept come to this
 pub record Outcome (k tolerance capacity : ℕ) (volumes sizes ids ws lens values backends stairs counts ends grants : List ℕ) : Type 0 where
-  pub payable : AllPayable volumes stairs counts
-  pub counted : Counted (length volumes) grants counts
-  pub writable :
-      (r : ℕ) → r ≡ sum_to (length volumes) (stored_lines grants counts)
-      → Writable (length volumes) r grants counts ends lens values backends
   pub figures : stored_figures grants counts ends (length volumes) ≡ figures_of k tolerance capacity volumes sizes ids ws
   pub table :
       stored_table (stored_lines grants counts) lens values backends (length volumes)
       ≡ cells_of k tolerance capacity volumes sizes ids ws
   pub made :
-      (r t : ℕ) → r ≡ sum_to (length volumes) (stored_lines grants counts) → t ≡ stored_total volumes stairs counts grants
-      → ◌≡◌ {A = Packed} (record { rules = r; total = t }) (packed_of (services_of k volumes sizes ids ws) tolerance capacity)
-  pub demand :
-      (t : ℕ) → t ≡ stored_total volumes stairs counts grants → Demanded k tolerance capacity volumes sizes ids ws t
+      ◌≡◌ {A = Packed}
+      (record { rules = sum_to (length volumes) (stored_lines grants counts); total = stored_total volumes stairs counts grants })
+      (packed_of (services_of k volumes sizes ids ws) tolerance capacity)
+  pub demand : Demanded k tolerance capacity volumes sizes ids ws (stored_total volumes stairs counts grants)
 
 module _ (k tolerance capacity : ℕ) (volumes sizes ids ws lens values backends stairs counts ends : List ℕ)
     (A : Accepted k tolerance capacity volumes sizes ids ws)
     (L : let S = services_of k volumes sizes ids ws in
     Listed (services S) (frame_of S tolerance) (list_for S tolerance) lens values backends stairs counts ends) where
-  pub payable : length stairs ≡ places → length counts ≡ most_services → AllPayable volumes stairs counts
+  pub payable : AllPayable volumes stairs counts
   unfolding services_with services volume
-  payable stored room =
+  payable =
       let S = services_of k volumes sizes ids ws in
       all-payable volumes (frame_of S tolerance) (list_for S tolerance) stairs counts L.stepped
-      (stair-low S tolerance (balanced A) refl A.few_bits) (omega (arith, A.few, A.same)) (volume-le A) stored (omega (arith, A.few, A.same))
+      (stair-low S tolerance (balanced A) refl A.few_bits) (omega (arith, A.few, A.same)) (volume-le A)
 
-  -- grants of one rule each
-  pub started :
-      (grants : List ℕ) → length grants ≡ most_services → ((s : ℕ) → s < length volumes → get_or grants s 0 ≡ 1)
-      → Started volumes stairs counts grants
+  pub falling : AllFalling (length volumes) stairs counts
   unfolding services_with services
-  started grants long ones =
+  falling =
       let S = services_of k volumes sizes ids ws in
-      all-started volumes (frame_of S tolerance) (list_for S tolerance) stairs counts L.stepped grants
-      (omega (arith, A.few, A.same)) (λ s x l from. stair-down S tolerance (balanced A) s x l (omega (arith, ones s l)))
+      all-falling volumes (frame_of S tolerance) (list_for S tolerance) stairs counts L.stepped (stair-down S tolerance (balanced A))
 
-  -- they fit
+  -- grants of one rule each fit
   pub ones-fit :
       (grants : List ℕ) → ((s : ℕ) → s < length volumes → get_or grants s 0 ≡ 1)
       → sum_to (length volumes) (held grants) ≤ capacity
@@ -108,14 +98,11 @@ module _ (k tolerance capacity : ℕ) (volumes sizes ids ws lens values backends
 
   pub outcome :
       (from grants : List ℕ) (r : ℕ) → ((s : ℕ) → s < length volumes → get_or from s 0 ≡ 1)
-      → length lens ≡ places → length values ≡ places → length backends ≡ places
-      → length stairs ≡ places → length counts ≡ most_services → length ends ≡ most_services → length grants ≡ most_services
       → Allotted (held from) capacity volumes stairs counts grants r
       → Outcome k tolerance capacity volumes sizes ids ws lens values backends stairs counts ends grants
   unfolding services_with services volume problem granted table packed_of lines_made
-  outcome from grants r ones e f b h i m j G =
+  outcome from grants r ones G =
       let S = services_of k volumes sizes ids ws in
-      let few : length volumes ≤ most_services = omega (arith, A.few, A.same) in
       let room : sum_to (length volumes) one_each ≤ capacity = one-fits S capacity (omega (arith, A.room, A.same)) in
       let some : 0 < length volumes = omega (arith, A.some, A.same) in
       let frames : ℕ → Frame = frame_of S tolerance in
@@ -127,25 +114,9 @@ module _ (k tolerance capacity : ℕ) (volumes sizes ids ws lens values backends
       lines-kept (length volumes) frames lists lens values backends stairs counts ends L g grants kept in
       let whole : stored_total volumes stairs counts grants ≡ total (problem S tolerance one_each capacity) g =
       total_kept volumes frames lists stairs counts L.stepped one_each capacity grants g kept in
-      let C : Counted (length volumes) grants counts =
-      counted (length volumes) frames lists lens values backends stairs counts ends L grants few (omega arith) (omega arith) in
       record {
-        payable = payable h i;
-        counted = C;
-        writable = λ r p. record {
-          little = omega (
-            arith,
-            p,
-            lines-le (length volumes) frames lists lens values backends stairs counts ends L g grants kept,
-            (granted-fitting S tolerance one_each capacity room).room,
-            A.little-room,
-          );
-          counted = C;
-          ended = omega arith;
-          tabled = λ n l. record { counted = C; all_lens = e; all_values = f; all_backends = b; fits = omega (arith, p) };
-        };
         figures = figures-kept S tolerance lens values backends stairs counts ends L capacity grants kept;
         table = table_kept (length volumes) frames lists lens values backends stairs counts ends L g grants kept;
-        made = λ r t p q. ap₂ (λ (r t : ℕ). record { rules = r; total = t }) (p ∙ lines) (q ∙ whole);
-        demand = λ t p. rw (p ∙ whole) (demand S tolerance (balanced A) one_each capacity (λ s l. omega arith) room);
+        made = ap₂ (λ (r t : ℕ). record { rules = r; total = t }) lines whole;
+        demand = rw whole (demand S tolerance (balanced A) one_each capacity (λ s l. omega arith) room);
       }

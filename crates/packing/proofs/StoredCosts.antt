@@ -20,8 +20,8 @@ use Rattle.packing.specs.Grants.{Problem, Grants, total, packed}
 use Rattle.packing.specs.Count.{Services, services, targets_of}
 use Rattle.packing.specs.Table.{rule_budget, frame_of, list_for}
 use Rattle.packing.specs.Inner.Premises.{Balanced}
-use Rattle.packing.specs.Inner.Lists.{places, place_of, Stepped, Granted}
-use Rattle.packing.specs.Inner.Stored.{stored_cost, stored_problem, stored_total, held, Payable, AllPayable, Started, Allotted}
+use Rattle.packing.specs.Inner.Lists.{place_of, Stepped, Granted}
+use Rattle.packing.specs.Inner.Stored.{stored_cost, stored_problem, stored_total, held, Payable, AllPayable, AllFalling, Allotted}
 use Rattle.packing.proofs.EqualGrants.{packed-agree}
 use Rattle.packing.proofs.Demand.{sound}
 use Rattle.packing.proofs.Listing.{stair-none}
@@ -117,9 +117,9 @@ module _ (volumes : List ℕ) (frames : ℕ → Frame) (lists : ℕ → List Rul
   -- what is paid fits, where the stairs are small
   pub all-payable :
       ((s c : ℕ) → s < length volumes → stairs-of s c < 2 ^ 40)
-      → length volumes ≤ most_services → ((s : ℕ) → s < length volumes → get_or volumes s 0 ≤ most_volume) → length stairs ≡ places
-      → length volumes ≤ length counts → AllPayable volumes stairs counts
-  all-payable small few low stored room = record { few = few; room = room; each = each }
+      → length volumes ≤ most_services → ((s : ℕ) → s < length volumes → get_or volumes s 0 ≤ most_volume)
+      → AllPayable volumes stairs counts
+  all-payable small few low = record { few = few; each = each }
     where
       each : (s : ℕ) → s < length volumes → Payable (get_or volumes s 0) stairs s (get_or counts s 0)
       each s l =
@@ -127,18 +127,14 @@ module _ (volumes : List ℕ) (frames : ℕ → Frame) (lists : ℕ → List Rul
             limit = low s l;
             service = omega arith;
             most = omega (arith, stepped.count s l, stepped.few s l);
-            stored = stored;
             small = λ c m. omega (arith, stepped.step s c l (omega (arith, stepped.count s l)), small s c l);
           }
 
-  -- grants from which on the stairs fall
-  pub all-started :
-      (grants : List ℕ) → length volumes ≤ length grants
-      → ((s x : ℕ) → s < length volumes → get_or grants s 0 ≤ x → stairs-of s (suc x) ≤ stairs-of s x)
-      → Started volumes stairs counts grants
-  all-started grants room down =
+  -- and falls where they do
+  pub all-falling :
+      ((s x : ℕ) → s < length volumes → 1 ≤ x → stairs-of s (suc x) ≤ stairs-of s x) → AllFalling (length volumes) stairs counts
+  all-falling down =
       record {
-        room = room;
         each = λ s l. record {
           falls = λ c from below. omega (
             arith,

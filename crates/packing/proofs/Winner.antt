@@ -5,7 +5,7 @@ use mathlib.Core.Path.{◌≡◌, refl, sym, ap, ap₂, ◌∙◌}
 use mathlib.Core.List.{List}
 use native.Mathlib.Decide.{ℕ_discrete, dec_le, dec_lt}
 use native.Mathlib.Omega.{arith}
-use lib.ListN.{length, get_or, set, replicate, length-set, length-replicate, get_or-replicate}
+use lib.ListN.{length, get_or, set, replicate, length-set, get_or-replicate}
 use lib.Seq.{get_or-set_same, get_or-set_other}
 use Rattle.numerals.specs.Sums.{argmax}
 use Rattle.numerals.proofs.Searches.{IsArgmax, argmax-is, argmax-unique}
@@ -31,11 +31,11 @@ pub record Refilling (start : List ℕ) (i : ℕ) (tree : List ℕ) : Type 0 whe
       → get_or tree p 0 ≡ greater_child tree p
   pub keys : (s : ℕ) → get_or tree (leaves + s) 0 ≡ get_or start (leaves + s) 0
 
-module _ {before : List ℕ} (h : Tournament before) (s key : ℕ) (l : s < leaves) where
+module _ {before : List ℕ} (h : Tournament before) (long : length before ≡ nodes) (s key : ℕ) (l : s < leaves) where
   pub refill-first : Refilling (set before (leaves + s) key) (leaves + s) (set before (leaves + s) key)
   refill-first =
       record {
-        places = length-set before (leaves + s) key ∙ h.places;
+        places = length-set before (leaves + s) key ∙ long;
         low = omega arith;
         high = omega arith;
         node = λ p a b c d. kept before (leaves + s) key p (λ e. omega arith) c d (h.node p a b);
@@ -46,13 +46,12 @@ module _ {before : List ℕ} (h : Tournament before) (s key : ℕ) (l : s < leav
   pub refill-last : (i : ℕ) (tree : List ℕ) → Refilling (set before (leaves + s) key) i tree → i ≤ 1 → Replaced before s key tree
   refill-last i tree c m =
       record {
-        tournament = record {
-          places = c.places;
-          node = λ p a b. c.node p a b (λ e. omega arith) (λ e. omega arith);
-        };
-        here = c.keys s ∙ get_or-set_same before (leaves + s) key 0 (omega (arith, h.places));
+        here = c.keys s ∙ get_or-set_same before (leaves + s) key 0 (omega (arith, long));
         others = λ t _ d. c.keys t ∙ get_or-set_other before (leaves + s) (leaves + t) key 0 (λ e. d (omega arith));
       }
+
+pub refilled : (start : List ℕ) (i : ℕ) (tree : List ℕ) → Refilling start i tree → i ≤ 1 → Tournament tree
+refilled start i tree c m = record { node = λ p a b. c.node p a b (λ e. omega arith) (λ e. omega arith) }
 
 -- the parent is filled
 pub refill-more :
@@ -81,19 +80,15 @@ refill-more start i tree h l =
     go p a b c d (no e) = kept tree (i / 2) v p e c d (h.node p a b (λ x. e (omega arith)) (λ x. e (omega arith)))
 
 -- without a service every key is 0
+zeros : (i : ℕ) → i < nodes → ◌≡◌ {A = ℕ} (get_or (replicate nodes 0) i 0) 0
+zeros i l = get_or-replicate nodes i 0 0 l
+
+pub tournament-none : Tournament (replicate nodes 0)
+tournament-none =
+    record { node = λ i a b. zeros i (omega arith) ∙ sym (ap₂ max (zeros (2 * i) (omega arith)) (zeros (2 * i + 1) (omega arith))) }
+
 pub entered-none : (f : ℕ → ℕ) → Entered f 0 (replicate nodes 0)
-entered-none f =
-    record {
-      tournament = record {
-        places = length-replicate {A = ℕ} nodes 0;
-        node = λ i a b. zeros i (omega arith) ∙ sym (ap₂ max (zeros (2 * i) (omega arith)) (zeros (2 * i + 1) (omega arith)));
-      };
-      key = λ s l. absurd (omega arith);
-      none = λ s _ l. zeros (leaves + s) (omega arith);
-    }
-  where
-    zeros : (i : ℕ) → i < nodes → ◌≡◌ {A = ℕ} (get_or (replicate nodes 0) i 0) 0
-    zeros i l = get_or-replicate nodes i 0 0 l
+entered-none f = record { key = λ s l. absurd (omega arith); none = λ s _ l. zeros (leaves + s) (omega arith) }
 
 -- a service enters, or enters again with another saving
 pub entered-one :
@@ -101,7 +96,6 @@ pub entered-one :
     → n ≤ m → m ≤ leaves → s < m → ((i : ℕ) → i < m → (i ≡ s → ⊥) → (i < n) × (g i ≡ f i)) → Entered g m tree
 entered-one f g n m s before tree h r a b l same =
     record {
-      tournament = r.tournament;
       key = λ i k. go i k (ℕ_discrete i s);
       none = λ i k c. r.others i c (λ e. omega arith) ∙ h.none i (omega arith) c;
     }
@@ -165,15 +159,15 @@ pub record Greatest (f : ℕ → ℕ) (n i v : ℕ) : Type 0 where
 
 -- the root has it
 pub winner :
-    (f : ℕ → ℕ) (n : ℕ) (tree : List ℕ) → Entered f n tree → 0 < n → n ≤ leaves
+    (f : ℕ → ℕ) (n : ℕ) (tree : List ℕ) → Tournament tree → Entered f n tree → 0 < n → n ≤ leaves
     → Greatest f n (leaves - 1 - get_or tree 1 0 % leaves) (get_or tree 1 0 / leaves)
-winner f n tree h some few = go (from-leaf h.tournament (nodes - 1) 1 (omega arith) (omega arith) (omega arith))
+winner f n tree t h some few = go (from-leaf t (nodes - 1) 1 (omega arith) (omega arith) (omega arith))
   where
     top : ℕ
     top = get_or tree 1 0
 
     most : (i : ℕ) → i < n → key_of (f i) i ≤ top
-    most i l = omega (arith, h.key i l, below_root h.tournament (nodes - 1) (leaves + i) (omega arith) (omega arith) (omega arith))
+    most i l = omega (arith, h.key i l, below_root t (nodes - 1) (leaves + i) (omega arith) (omega arith) (omega arith))
 
     first : (j : ℕ) → j < n → top ≡ key_of (f j) j → IsArgmax f n j
     first j l e =

@@ -5,19 +5,18 @@ use mathlib.Core.List.{List, [], ◌∷◌, ◌++◌, reverse, reverse-reverse}
 use native.Mathlib.Omega.{arith}
 use lib.ListN.{length, get_or, drop, length-reverse}
 use lib.Seq.{take_all}
-use Rattle.numerals.specs.Limits.{most_services}
 use Rattle.numerals.specs.Sums.{sum_to}
 use Rattle.expansion.specs.Steps.{Frame, oldest}
 use Rattle.expansion.specs.Inner.Lists.{no_rule, newest_first}
 use Rattle.expansion.specs.declared.rule.Rule.{Rule}
-use Rattle.numerals.proofs.Sums.{sum-ext, sum-le}
+use Rattle.numerals.proofs.Sums.{sum-ext}
 use Rattle.expansion.proofs.Listing.{take-newest, oldest-newest}
 use Rattle.packing.specs.Grants.{Grants}
 use Rattle.packing.specs.Count.{Line, Services, services}
 use Rattle.packing.specs.Table.{frame_of, list_for, lines_of, table_of, granted, one_each}
 use Rattle.packing.specs.Answer.{figures_to, figures_made, cells}
 use Rattle.packing.specs.Inner.Lists.{place_of, rule_at, Listed, Granted}
-use Rattle.packing.specs.Inner.Stored.{stored_lines, stored_figures, stored_cells, stored_table, Counted}
+use Rattle.packing.specs.Inner.Stored.{stored_lines, stored_figures, stored_cells, stored_table}
 use Rattle.packing.proofs.Tables.{length-table}
 
 -- the c oldest rules of a list, by its reverse
@@ -90,20 +89,6 @@ module _ (n : ℕ) (frames : ℕ → Frame) (lists : ℕ → List Rule) (lens va
         sum-ext n (stored_lines grants counts) (λ s. min (g s) (length (lists s)))
         (λ s l. ap₂ min (kept.grant s l) (listed.stepped.count s l))
         ∙ sym (length-table n lists g)
-
-    -- there are no more than grants
-    pub lines-le : sum_to n (stored_lines grants counts) ≤ sum_to n g
-    lines-le = sum-le n (stored_lines grants counts) g (λ s l. omega (arith, kept.grant s l))
-
-  pub counted :
-      (grants : List ℕ) → n ≤ most_services → n ≤ length grants → n ≤ length counts → Counted n grants counts
-  counted grants few long listing =
-      record {
-        few = few;
-        granted = long;
-        listed = listing;
-        most = λ s l. omega (arith, listed.stepped.count s l, listed.stepped.few s l);
-      }
 
 -- the figures are those of document 01's packing
 module _ (S : Services) (tolerance : ℕ) (lens values backends stairs counts ends : List ℕ)

@@ -11,7 +11,7 @@ pub struct Packed {
     pub total: u64,
 }
 
-// Why a packing is refused, and the lent buffer that this is about: figures 1, table 2, or 0 for none.
+// Why a packing is refused, and the lent buffer that this is about: figures 1, table 2, or 0 for none, the numbers that C is told.
 #[derive(Drop)]
 pub struct NotPacked {
     pub why: Refusal,

@@ -4,6 +4,7 @@ ghost use Rattle.numerals.specs.Buffer.{filled};
 ghost use Rattle.packing.specs.Answer as specified;
 
 use crate::answer::{NotPacked, Packed};
+use crate::grants::Priced;
 use crate::lists::PLACES;
 
 // The services' grants and table. `figures` takes three numbers for each service: its grant, the length of its list
@@ -55,19 +56,15 @@ pub fn pack(
         &mut ends,
     );
     let mut grants = [1usize; numerals::MOST_SERVICES]; // each service is granted one rule
-    crate::grants::grant_all(capacity, volumes, &stairs, &counts, &mut grants);
-    let rules = crate::grants::all_lines(volumes.len(), &grants, &counts);
-    let total = crate::grants::total_cost(volumes, &stairs, &counts, &grants);
-    crate::output::write_out(
-        Packed { rules, total },
-        figures,
-        table,
-        volumes.len(),
-        &grants,
-        &counts,
-        &ends,
-        &lens,
-        &values,
-        &backends,
-    )
+    let priced = Priced {
+        volumes,
+        lens: &lens,
+        values: &values,
+        backends: &backends,
+        stairs: &stairs,
+        counts: &counts,
+        ends: &ends,
+    };
+    priced.grant_all(capacity, &mut grants);
+    crate::output::write_out(figures, table, &priced, &grants)
 }

@@ -1,26 +1,14 @@
 // The lists of all services, each made once: service s has the places from STRIDE s on, the first for no rule and the
 // c-th after it for the c-th oldest rule.
-ghost use Rattle.std.specs.Prelude.{◌≡◌, ◌*◌, ◌≤◌, min, length};
-ghost use Rattle.packing.specs.Answer.{end_number};
-ghost use Rattle.packing.specs.Inner.Lists.{stride, Sized, ListedTo};
+ghost use Rattle.std.specs.Prelude.{◌≡◌, length};
+ghost use Rattle.packing.specs.Inner.Lists.{Sized, ListedTo};
 
-use expansion::Ended;
+use numerals::MOST_SERVICES;
 
 // The places of one service, and of all.
 pub const STRIDE: usize = numerals::MOST_RULES + 1;
 
-pub const PLACES: usize = STRIDE * numerals::MOST_SERVICES;
-
-// How a list ended, as a number: within 0, no gain 1, budget 2.
-pub fn end_number(ended: Ended) -> usize
-    ensures { result ≡ end_number ended }
-{
-    match ended {
-        Ended::Within => 0,
-        Ended::NoGain => 1,
-        Ended::Budget => 2,
-    }
-}
+pub const PLACES: usize = STRIDE * MOST_SERVICES;
 
 // The rules and stairs of every list, its number of rules and how it ended. Before any rule no backend has an
 // excess, so that stair is 0.
@@ -30,17 +18,14 @@ pub fn make_lists(
     sizes: &[usize],
     ids: &[usize],
     weights: &[u64],
-    lens: &mut [usize],
-    values: &mut [usize],
-    backends: &mut [usize],
-    stairs: &mut [u64],
-    counts: &mut [usize],
-    ends: &mut [usize],
+    lens: &mut [usize; PLACES],
+    values: &mut [usize; PLACES],
+    backends: &mut [usize; PLACES],
+    stairs: &mut [u64; PLACES],
+    counts: &mut [usize; MOST_SERVICES],
+    ends: &mut [usize; MOST_SERVICES],
 )
-    requires sized { Sized k tolerance sizes.now ids.now weights.now }
-    requires sizes_bound { (stride * length sizes.now
-        ≤ min (min (length lens.old) (length values.old)) (min (length backends.old) (length stairs.old)))
-        × (length sizes.now ≤ min (length counts.old) (length ends.old)) }
+    requires { Sized k tolerance sizes.now ids.now weights.now }
     ensures { ListedTo k tolerance
         sizes.now ids.now weights.now (length sizes.now)
         lens.new values.new backends.new stairs.new
@@ -63,8 +48,8 @@ pub fn make_lists(
         .unwrap();
         stairs[STRIDE * s] = 0;
         counts[s] = list.rules;
-        let ended = list.ended;
-        ends[s] = end_number(ended);
+        // within 0, no gain 1, budget 2: the order of the enum
+        ends[s] = list.ended as usize;
         at += n;
     }
 }

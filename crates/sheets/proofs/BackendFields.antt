@@ -4,11 +4,12 @@ use Prim.Native.Nat.{ℕ, ◌+◌, ◌*◌, ◌^◌, ◌≤◌, ◌<◌}
 use mathlib.Core.Path.{◌≡◌, refl, sym, ap, ◌∙◌}
 use mathlib.Core.Bool.{Bool, true, false}
 use mathlib.Core.List.{List, [], ◌∷◌}
+use native.Mathlib.Nat.{le_refl}
 use native.Mathlib.Numerals.{add-one}
 use native.Mathlib.Omega.{arith}
 use lib.Dec.{leb, ltb, eqb}
-use lib.ListN.{length}
-use lib.Seq.{slice}
+use lib.ListN.{length, take}
+use lib.Seq.{slice, take-length}
 use borrow.Author.Tests.{leb-true, eqb-true, eqb-false, ne_eqb}
 use Rattle.numerals.specs.Pick.{both}
 use Rattle.numerals.specs.Digits.{is_digit, all_digits, value}
@@ -24,6 +25,7 @@ use Rattle.numerals.proofs.Fields.{Free, split-here, split-later, split-some, fr
 use Rattle.sheets.specs.Reading.{got, refused, then, unless, on_field}
 use Rattle.sheets.specs.PercentageSheet.{backend_before, weight_fields}
 use Rattle.sheets.specs.Inner.SheetReader.{Named}
+use Rattle.sheets.proofs.FieldParts.{cut-none}
 
 -- a percentage is at most 100
 
@@ -108,66 +110,68 @@ pub percent-free : (d v : ℕ) (bs : List ℕ) → percentage d bs ≡ Some v �
 unfolding percentage
 percent-free d v bs h = split-free 58 46 bs (λ e. omega arith) (parts_free d v (split 46 bs) h)
 
--- the field between two positions, by the position e at which the search for its colon ends
-module _ (from to e : ℕ) (s : List ℕ) (k : to ≤ length s) (is : e ≡ from + index_of 58 (slice from to s)) (before : ℕ) where
-  pub field-none : to ≤ e → (line : ℕ) (fs : List (List ℕ)) → weight_fields decimals line before (slice from to s ∷ fs) ≡ refused no2 line
+-- a field, by the position e at which the search for its colon ends
+module _ (e : ℕ) (s : List ℕ) (is : e ≡ 0 + index_of 58 (slice 0 (length s) s)) (before : ℕ) where
+  pub field-none : length s ≤ e → (line : ℕ) (fs : List (List ℕ)) → weight_fields decimals line before (s ∷ fs) ≡ refused no2 line
   unfolding weight_fields unless
-  field-none h line fs = rw (cut-last 58 from to e s k is h)
+  field-none h line fs = rw (cut-none 58 e s is h)
 
-  module _ (h : e < to) where
-    parts : split 58 (slice from to s) ≡ slice from e s ∷ split 58 (slice (e + 1) to s)
-    parts = cut 58 from to e s k is h
+  module _ (h : e < length s) where
+    parts : split 58 s ≡ take e s ∷ split 58 (slice (e + 1) (length s) s)
+    parts = sym (ap (split 58) (take-length s)) ∙ cut 58 0 (length s) e s (le_refl (length s)) is h
 
     -- where no other colon stands behind it
     field-two :
-        split 58 (slice (e + 1) to s) ≡ slice (e + 1) to s ∷ [] → (line : ℕ) (fs : List (List ℕ))
-        → weight_fields decimals line before (slice from to s ∷ fs)
-        ≡ on_field (number (before + 1) most_id (slice from e s)) line (λ id.
-        on_field (percentage decimals (slice (e + 1) to s)) line (λ w.
+        split 58 (slice (e + 1) (length s) s) ≡ slice (e + 1) (length s) s ∷ [] → (line : ℕ) (fs : List (List ℕ))
+        → weight_fields decimals line before (s ∷ fs)
+        ≡ on_field (number (before + 1) most_id (take e s)) line (λ id.
+        on_field (percentage decimals (slice (e + 1) (length s) s)) line (λ w.
         then (weight_fields decimals line id fs) (λ ws. got (backend_before id w ws))))
     unfolding weight_fields unless
-    field-two last line fs = rw (parts ∙ ap (λ (ls : List (List ℕ)). slice from e s ∷ ls) last, add-one before)
+    field-two last line fs = rw (parts ∙ ap (λ (ls : List (List ℕ)). take e s ∷ ls) last, add-one before)
 
     -- one of the two parts is none
     field-bad :
         (line : ℕ) (fs : List (List ℕ))
-        → (on_field (number (before + 1) most_id (slice from e s)) line (λ id.
-        on_field (percentage decimals (slice (e + 1) to s)) line (λ w.
+        → (on_field (number (before + 1) most_id (take e s)) line (λ id.
+        on_field (percentage decimals (slice (e + 1) (length s) s)) line (λ w.
         then (weight_fields decimals line id fs) (λ ws. got (backend_before id w ws))))
         ≡ refused no2 line)
-        → weight_fields decimals line before (slice from to s ∷ fs) ≡ refused no2 line
+        → weight_fields decimals line before (s ∷ fs) ≡ refused no2 line
     unfolding weight_fields unless
     field-bad line fs bad =
-        let n : ℕ = e + 1 + index_of 58 (slice (e + 1) to s) in
-        by_less n to
+        let n : ℕ = e + 1 + index_of 58 (slice (e + 1) (length s) s) in
+        by_less n (length s)
         (λ l.
-        let many : length (split 58 (slice from to s)) ≡ 2 → ⊥ =
-        λ two. omega (arith, ap length parts, ap length (cut 58 (e + 1) to n s k refl l), split-some 58 (slice (n + 1) to s)) in
-        rw (ne_eqb (length (split 58 (slice from to s))) 2 many))
-        (λ l. field-two (cut-last 58 (e + 1) to n s k refl l) line fs ∙ bad)
+        let many : length (split 58 s) ≡ 2 → ⊥ =
+        λ two.
+        let second = cut 58 (e + 1) (length s) n s (le_refl (length s)) refl l in
+        omega (arith, ap length parts, ap length second, split-some 58 (slice (n + 1) (length s) s)) in
+        rw (ne_eqb (length (split 58 s)) 2 many))
+        (λ l. field-two (cut-last 58 (e + 1) (length s) n s (le_refl (length s)) refl l) line fs ∙ bad)
 
     pub field-no-id :
-        number (before + 1) most_id (slice from e s) ≡ None → (line : ℕ) (fs : List (List ℕ))
-        → weight_fields decimals line before (slice from to s ∷ fs) ≡ refused no2 line
+        number (before + 1) most_id (take e s) ≡ None → (line : ℕ) (fs : List (List ℕ))
+        → weight_fields decimals line before (s ∷ fs) ≡ refused no2 line
     unfolding on_field
     field-no-id bad line fs = field-bad line fs (rw bad)
 
     pub field-no-weight :
-        (id : ℕ) → number (before + 1) most_id (slice from e s) ≡ Some id → percentage decimals (slice (e + 1) to s) ≡ None
-        → (line : ℕ) (fs : List (List ℕ)) → weight_fields decimals line before (slice from to s ∷ fs) ≡ refused no2 line
+        (id : ℕ) → number (before + 1) most_id (take e s) ≡ Some id → percentage decimals (slice (e + 1) (length s) s) ≡ None
+        → (line : ℕ) (fs : List (List ℕ)) → weight_fields decimals line before (s ∷ fs) ≡ refused no2 line
     unfolding on_field
     field-no-weight id named bad line fs = field-bad line fs (rw (named, bad))
 
     pub field-got :
-        (id w : ℕ) → number (before + 1) most_id (slice from e s) ≡ Some id → percentage decimals (slice (e + 1) to s) ≡ Some w
-        → Named before (slice from to s) id w
+        (id w : ℕ) → number (before + 1) most_id (take e s) ≡ Some id → percentage decimals (slice (e + 1) (length s) s) ≡ Some w
+        → Named before s id w
     unfolding on_field unit
     field-got id w named weighed =
         record {
-          known = (only-text (before + 1) most_id id (slice from e s) named).high;
-          small = percent-limit decimals w (slice (e + 1) to s) weighed;
+          known = (only-text (before + 1) most_id id (take e s) named).high;
+          small = percent-limit decimals w (slice (e + 1) (length s) s) weighed;
           next =
               λ line fs.
-              field-two (free-whole 58 (slice (e + 1) to s) (percent-free decimals w (slice (e + 1) to s) weighed)) line fs
+              field-two (free-whole 58 (slice (e + 1) (length s) s) (percent-free decimals w (slice (e + 1) (length s) s) weighed)) line fs
               ∙ rw (named, weighed);
         }

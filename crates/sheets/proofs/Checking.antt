@@ -6,12 +6,12 @@ use mathlib.Core.Bool.{true, false}
 use mathlib.Core.List.{List, [], ◌∷◌}
 use native.Mathlib.Nat.{le_refl}
 use lib.Dec.{eqb}
-use lib.ListN.{length, replicate, length-replicate}
+use lib.ListN.{length, replicate}
 use lib.Seq.{slice, take_all}
 use borrow.Author.Tests.{eq-eqb, ne_eqb}
 use Rattle.numerals.specs.declared.refusal.Refusal.{Refusal}
 use Rattle.numerals.specs.declared.refusal.Refusal.TheVariants.{Malformed, BadField, Order}
-use Rattle.numerals.specs.Limits.{most_services, most_capacity}
+use Rattle.numerals.specs.Limits.{most_services}
 use Rattle.packing.specs.Count.{Line}
 use Rattle.sheets.specs.Reading.{got, refused, then, unless}
 use Rattle.sheets.specs.RuleSheet.{closed, is_line, check_lines, check_end}
@@ -73,7 +73,7 @@ none-checked k table =
     record {
       before = [];
       passed = refl;
-      behind = (passed_none k (replicate (4 * most_capacity) 0) (length-replicate {A = ℕ} (4 * most_capacity) 0)).behind;
+      behind = (passed_none k table).behind;
       left = ap (λ (cs : List ℕ). checked_from k (length (broken_from table)) [] (lines_from cs))
           (sym (take_all (length table) table (le_refl (length table))));
     }

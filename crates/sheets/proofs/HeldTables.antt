@@ -6,7 +6,7 @@ use mathlib.Core.List.{List}
 use native.Mathlib.Omega.{arith}
 use lib.ListN.{length, take}
 use borrow.Author.Tests.{le-leb, lt-leb}
-use Rattle.numerals.specs.Limits.{most_capacity}
+use Rattle.numerals.specs.Limits.{most_bits, most_capacity}
 use Rattle.numerals.specs.declared.refusal.Refusal.TheVariants.{ShortLoan}
 use Rattle.packing.specs.Answer.{cells}
 use Rattle.sheets.specs.Reading.{Reading, got, refused}
@@ -89,8 +89,14 @@ module _ (text : List ℕ) (h : TableHead) (numbers : List ℕ) (H : TableHeld t
   unfolding read_answer read_in
   read_short e = rw (H.read, lt-leb (4 * length H.table.lines) room (omega (arith, size)))
 
--- it is that table in memory, and what churn asks of it holds
+-- it is that table in memory, with all that a table in memory has
 module _ (text : List ℕ) (h : TableHead) (numbers : List ℕ) (H : TableHeld text h numbers) where
+  pub few-bits : h.k ≤ most_bits
+  few-bits = omega (arith, ap (λ (x : TableHead). x.k) H.head, H.proper.few_bits)
+
+  pub few_held : h.n ≤ most_capacity
+  few_held = omega (arith, ap (λ (x : TableHead). x.n) H.head, H.proper.few)
+
   pub in_memory : table_of h numbers ≡ H.table
   in_memory = rw H.lines (ap (λ (x : TableHead). record { k = x.k; total = x.total; lines = H.table.lines }) H.head)
 

@@ -11,7 +11,7 @@ use lib.ListN.{length, take, drop}
 use lib.Seq.{sets, sets-eq, length-sets, take-append_seam}
 use borrow.Author.Tests.{le-leb, leb-true}
 use Rattle.numerals.specs.Pick.{pick}
-use Rattle.numerals.specs.Limits.{most_services, most_capacity}
+use Rattle.numerals.specs.Limits.{most_bits, most_services, most_capacity}
 use Rattle.numerals.specs.declared.refusal.Refusal.{Refusal}
 use Rattle.numerals.specs.declared.refusal.Refusal.TheVariants.{ShortLoan}
 use Rattle.sheets.specs.Reading.{Reading, got, refused}
@@ -22,6 +22,7 @@ use Rattle.sheets.specs.Calls.{print_text, print_read, sheet_text}
 use Rattle.sheets.specs.Demand.{Demand3Of}
 use Rattle.sheets.specs.FourPlaces.{FourPlaces}
 use Rattle.sheets.specs.Inner.TableNumbers.{lines_in, table_in, RuleLines}
+use Rattle.sheets.specs.Inner.TableReader.{Found}
 use Rattle.sheets.specs.declared.answer.Plan.{Plan}
 use Rattle.sheets.specs.declared.answer.Refused.{Refused as Why}
 use Rattle.sheets.proofs.SheetLimits.{Limits, limits}
@@ -29,6 +30,7 @@ use Rattle.sheets.proofs.TableChecks.{InOrder}
 use Rattle.sheets.proofs.ProperTable.{table-proper}
 use Rattle.sheets.proofs.TableNumbers.{lines-cells, length-cells}
 use Rattle.sheets.proofs.NumbersText.{rule-lines}
+use Rattle.sheets.proofs.FirstMatch.{found}
 use Rattle.sheets.proofs.Prints.{PrintedAs}
 use Rattle.sheets.proofs.DemandThree.{demand-three}
 use Rattle.sheets.proofs.FourPlaces.{four-places}
@@ -120,12 +122,17 @@ module _ (S : Sheet) (L : Limits S) (buffer : List ℕ) (long : length buffer �
   pub ruled-left : RuleLines left n
   ruled-left = rule-lines left n room S.k L.few_bits (rw lines_left sorted)
 
+  pub found-left : (service : ℕ) → Found (lines_in left n) service
+  found-left service = rw lines_left (found (table_for S) (table-proper S L) service)
+
 -- what the one call leaves where it made a plan
 pub record Left (text : List ℕ) (p : Plan) (after : List ℕ) : Type 0 where
   pub sheet : Sheet
   pub read : read_sheet text ≡ got sheet
+  pub few_bits : p.k ≤ most_bits
   pub few : p.rules ≤ most_capacity
   pub ruled : RuleLines after p.rules
+  pub found : (service : ℕ) → Found (lines_in after p.rules) service
   pub table : table_in p.k p.total after p.rules ≡ table_for sheet
 
 left-for :
@@ -136,8 +143,10 @@ left-for text p S buffer after read is long stored =
     record {
       sheet = S;
       read = read;
+      few_bits = rw is L.few_bits;
       few = rw is (few-left S L buffer long);
       ruled = rw (is, stored) (ruled-left S L buffer long);
+      found = λ service. rw (is, stored) (found-left S L buffer long service);
       table = rw (is, stored) (table-left S L buffer long);
     }
 

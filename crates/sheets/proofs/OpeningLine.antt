@@ -3,19 +3,18 @@ use Rattle.std.specs.Prelude.{Option, Some}
 use Prim.Native.Nat.{ℕ, ◌+◌, ◌≤◌, ◌<◌}
 use mathlib.Core.Path.{◌≡◌, refl, ap, ◌∙◌}
 use mathlib.Core.List.{List, [], ◌∷◌}
-use native.Mathlib.Nat.{le_refl}
 use native.Mathlib.Omega.{arith}
-use lib.ListN.{length}
-use lib.Seq.{slice, take-length}
+use lib.ListN.{length, take, drop}
+use lib.Seq.{slice}
 use borrow.Author.Tests.{le-leb, lt-leb, leb-true, eqb-true}
 use Rattle.numerals.specs.Decimal.{number}
 use Rattle.numerals.specs.Text.{split, index_of}
 use Rattle.numerals.specs.Limits.{most_bits, text_limit}
 use Rattle.numerals.specs.declared.refusal.Refusal.TheVariants.{Malformed, TooLong}
-use Rattle.numerals.proofs.Fields.{cut, cut-last, split-some}
+use Rattle.numerals.proofs.Fields.{split-some}
 use Rattle.sheets.specs.Reading.{got, refused, unless, field}
 use Rattle.sheets.specs.FirstLine.{Opening, opening_fields, opening_lines, first_line}
-use Rattle.sheets.specs.Inner.Fields.{lines_at, fields_at}
+use Rattle.sheets.proofs.FieldParts.{cut-first, cut-none}
 use Rattle.sheets.proofs.Readings.{not-got, got_same, unless-got, on_field-got, same_true}
 
 module _ (word : List ℕ) (second third : List ℕ → (Option ℕ)) where
@@ -71,16 +70,17 @@ module _ (word : List ℕ) (second third : List ℕ → (Option ℕ)) where
     too_long h = rw (lt-leb (length text) text_limit h)
 
     module _ (short : length text ≤ text_limit) (end : ℕ) (is : end ≡ 0 + index_of 10 (slice 0 (length text) text)) where
-      whole : first_line word second third text ≡ opening_lines word second third (split 10 (slice 0 (length text) text))
+      whole : first_line word second third text ≡ opening_lines word second third (split 10 text)
       unfolding first_line unless
-      whole = rw (le-leb (length text) text_limit short, take-length text)
+      whole = rw (le-leb (length text) text_limit short)
 
       pub no_end : length text ≤ end → first_line word second third text ≡ refused Malformed 1
       unfolding opening_lines
-      no_end h = whole ∙ ap (opening_lines word second third) (cut-last 10 0 (length text) end text (le_refl (length text)) is h)
+      no_end h = whole ∙ ap (opening_lines word second third) (cut-none 10 end text is h)
 
-      pub ended : end < length text → first_line word second third text ≡ opening_fields word second third (fields_at text 0 end) (lines_at text (end + 1))
+      pub ended : end < length text → first_line word second third text ≡ opening_fields word second third (split 32 (take end text))
+          (split 10 (drop (end + 1) text))
       ended h =
           whole
-          ∙ ap (opening_lines word second third) (cut 10 0 (length text) end text (le_refl (length text)) is h)
-          ∙ lines_more (slice 0 end text) (lines_at text (end + 1)) (split-some 10 (slice (end + 1) (length text) text))
+          ∙ ap (opening_lines word second third) (cut-first 10 end text is h)
+          ∙ lines_more (take end text) (split 10 (drop (end + 1) text)) (split-some 10 (drop (end + 1) text))

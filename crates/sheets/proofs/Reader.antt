@@ -4,18 +4,17 @@ use Prim.Native.Nat.{ℕ, ◌+◌, ◌*◌, ◌≤◌, ◌<◌}
 use mathlib.Core.Path.{◌≡◌, refl, sym, ap, ◌∙◌}
 use mathlib.Core.Bool.{Bool, true, false}
 use mathlib.Core.List.{List, [], ◌∷◌, ◌++◌, reverse, reverse-cons, reverse-reverse}
-use native.Mathlib.Nat.{le_refl}
 use native.Mathlib.Omega.{arith}
 use lib.Dec.{ltb, eqb, eqb-suc-zero}
 use lib.ListN.{length, take, drop, replicate, length-replicate, get_or-replicate, length-reverse, length-append}
-use lib.Seq.{slice, sets, sets-eq, length-sets, take_at, length-take-le}
+use lib.Seq.{slice, sets, sets-eq, take_at, length-take-le}
+use Rattle.std.proofs.lemmas.List.{nil_from_length}
 use Rattle.packing.specs.Count.{Line, own_rules}
 use Rattle.packing.specs.Answer.{cells}
 use Rattle.numerals.specs.declared.refusal.Refusal.{Refusal}
 use Rattle.numerals.specs.declared.refusal.Refusal.TheVariants.{Malformed, NoService, Order, Miscount}
 use Rattle.numerals.specs.Text.{split, index_of}
-use Rattle.numerals.proofs.Slice.{slice-none, slice-length}
-use Rattle.numerals.proofs.Fields.{cut, cut-last, split-some}
+use Rattle.numerals.proofs.Fields.{split-some}
 use Rattle.sheets.specs.Reading.{Reading, got, refused, then, unless}
 use Rattle.numerals.specs.Limits.{most_services, most_capacity}
 use Rattle.sheets.specs.RuleSheet.{Table, count_of, placed, rule_fields, rule_lines, closed, whole_table, is_line, check_lines}
@@ -23,9 +22,9 @@ use Rattle.sheets.specs.Inner.Order.{last_of, Behind, placing}
 use Rattle.sheets.specs.Calls.{about, refused_at}
 use Rattle.sheets.specs.declared.answer.Refused.{Refused as Why}
 use Rattle.sheets.specs.Inner.TableReader.{Passed, Filled, sheet_answer, whole_of, table_from}
-use Rattle.sheets.specs.Inner.Fields.{lines_at, fields_at}
 use Rattle.sheets.specs.declared.rule_sheet.TableHead.{TableHead}
 use Rattle.sheets.specs.declared.order.Last.{Last}
+use Rattle.sheets.proofs.FieldParts.{cut-first, cut-none}
 use Rattle.sheets.proofs.Readings.{not-got, unless-got}
 use Rattle.sheets.proofs.TableChecks.{Follows, in_order_lem, check-lines}
 use Rattle.sheets.proofs.Following.{last-count}
@@ -68,17 +67,17 @@ module _
     stands : Ordered k (l ∷ before)
     stands = ordered-next (follows k before l form may) (checked-ordered k before passed.checked)
 
-    pub passed-room : 4 * last.count + 4 ≤ length table
-    passed-room = omega (arith, few-lines k (l ∷ before) stands, passed.room, passed-count k before last tally table passed)
+    pub passed-room : last.count < most_capacity
+    passed-room = omega (arith, few-lines k (l ∷ before) stands, passed-count k before last tally table passed)
 
     pub passed-next :
-        (last' : Last) (tally' table' : List ℕ) → Behind (l ∷ before) last' tally' → table' ≡ sets table (4 * last.count) (cells (l ∷ []))
+        length table ≡ 4 * most_capacity → (last' : Last) (tally' table' : List ℕ)
+        → Behind (l ∷ before) last' tally' → table' ≡ sets table (4 * last.count) (cells (l ∷ []))
         → Passed k (l ∷ before) last' tally' table'
-    passed-next last' tally' table' behind e =
+    passed-next long last' tally' table' behind e =
         record {
           behind = behind;
           checked = ordered-checked k (l ∷ before) stands;
-          room = ap length e ∙ length-sets table (4 * last.count) (cells (l ∷ [])) ∙ passed.room;
           stored = stored;
         }
       where
@@ -92,16 +91,16 @@ module _
         count = omega (arith, passed-count k before last tally table passed)
 
         fits : at + length new ≤ length table
-        fits = omega (arith, length-cells (l ∷ []), passed-room)
+        fits = omega (arith, long, length-cells (l ∷ []), passed-room)
 
-        long : length (take at table ++ new) ≡ 4 * length (l ∷ before)
-        long = omega (arith, count, length-append (take at table) new, length-take-le at table (omega (arith, fits)), length-cells (l ∷ []))
+        all : length (take at table ++ new) ≡ 4 * length (l ∷ before)
+        all = omega (arith, count, length-append (take at table) new, length-take-le at table (omega (arith, fits)), length-cells (l ∷ []))
 
         stored : take (4 * length (l ∷ before)) table' ≡ cells (reverse (l ∷ before))
         stored =
             ap (take (4 * length (l ∷ before)))
             (e ∙ sets-eq new table at fits)
-            ∙ take_at (take at table ++ new) (drop (at + length new) table) (4 * length (l ∷ before)) long
+            ∙ take_at (take at table ++ new) (drop (at + length new) table) (4 * length (l ∷ before)) all
             ∙ ap (λ (r : List ℕ). r ++ new) (ap (λ (n : ℕ). take n table) count ∙ passed.stored)
             ∙ sym (cells-append (reverse before) (l ∷ []))
             ∙ ap cells (sym (reverse-cons l before))
@@ -169,54 +168,42 @@ unfolding sheet_answer
 refused-by (got t) why line table e = absurd (not-got (sym e))
 refused-by (refused w l) why line table e = (cc, tt)
 
--- none is left at the end of the text
-pub next-none :
-    (h : TableHead) (text : List ℕ) (before : List Line) (start : ℕ) → length text ≤ start
-    → table_from h before (lines_at text start) ≡ whole_of h before
+-- no line is left
+pub next-none : (h : TableHead) (rest : List ℕ) (before : List Line) → length rest ≡ 0 → table_from h before (split 10 rest) ≡ whole_of h before
 unfolding split
-next-none h text before start e = rw (slice-none start (length text) text (omega arith)) (from-none h before [] refl)
+next-none h rest before e = rw (nil_from_length rest e) (from-none h before [] refl)
 
--- between two positions: the line from start on ends at the LF that the search finds
-module _
-    (h : TableHead)
-    (text : List ℕ)
-    (before : List Line)
-    (start end : ℕ)
-    (is : end ≡ start + index_of 10 (slice start (length text) text))
-  where
-    pub next-cut :
-        start < length text → length text ≤ end → table_from h before (lines_at text start) ≡ refused Malformed (length before + 2)
-    next-cut e f =
-        ap (table_from h before) (cut-last 10 start (length text) end text (le_refl (length text)) is f)
-        ∙ from_cut h before (slice start (length text) text) (omega (arith, slice-length start (length text) text))
+-- the first of the lines that are left ends at the LF that the search finds
+module _ (h : TableHead) (rest : List ℕ) (before : List Line) (end : ℕ) (is : end ≡ 0 + index_of 10 (slice 0 (length rest) rest)) where
+  pub next-cut : 0 < length rest → length rest ≤ end → table_from h before (split 10 rest) ≡ refused Malformed (length before + 2)
+  next-cut e f = ap (table_from h before) (cut-none 10 end rest is f) ∙ from_cut h before rest e
 
-    next-line :
-        end < length text
-        → table_from h before (lines_at text start)
-        ≡ then (rule_fields h.k before (length before + 2) (fields_at text start end))
-        (λ l. table_from h (l ∷ before) (lines_at text (end + 1)))
-    next-line e =
-        ap (table_from h before) (cut 10 start (length text) end text (le_refl (length text)) is e)
-        ∙ from_more h before (slice start end text) (lines_at text (end + 1)) (split-some 10 (slice (end + 1) (length text) text))
+  next-line :
+      end < length rest
+      → table_from h before (split 10 rest)
+      ≡ then (rule_fields h.k before (length before + 2) (split 32 (take end rest)))
+      (λ l. table_from h (l ∷ before) (split 10 (drop (end + 1) rest)))
+  next-line e =
+      let behind = drop (end + 1) rest in
+      ap (table_from h before) (cut-first 10 end rest is e) ∙ from_more h before (take end rest) (split 10 behind) (split-some 10 behind)
 
-    pub next-refused :
-        end < length text → (why : Refusal) → rule_fields h.k before (length before + 2) (fields_at text start end) ≡ refused why (length before + 2)
-        → table_from h before (lines_at text start) ≡ refused why (length before + 2)
-    unfolding then
-    next-refused e why f = next-line e ∙ rw f
+  pub next-refused :
+      end < length rest → (why : Refusal) → rule_fields h.k before (length before + 2) (split 32 (take end rest)) ≡ refused why (length before + 2)
+      → table_from h before (split 10 rest) ≡ refused why (length before + 2)
+  unfolding then
+  next-refused e why f = next-line e ∙ rw f
 
-    pub next-got :
-        end < length text → (l : Line) → rule_fields h.k before (length before + 2) (fields_at text start end) ≡ got l
-        → table_from h before (lines_at text start) ≡ table_from h (l ∷ before) (lines_at text (end + 1))
-    unfolding then
-    next-got e l f = next-line e ∙ rw f
+  pub next-got :
+      end < length rest → (l : Line) → rule_fields h.k before (length before + 2) (split 32 (take end rest)) ≡ got l
+      → table_from h before (split 10 rest) ≡ table_from h (l ∷ before) (split 10 (drop (end + 1) rest))
+  unfolding then
+  next-got e l f = next-line e ∙ rw f
 
 -- before the first line
 pub passed_none :
-    (k : ℕ) (table : List ℕ) → length table ≡ 4 * most_capacity → Passed k [] (record { count = 0; service = 0; len = 0 }) (replicate (1 + most_services) 0)
-    table
+    (k : ℕ) (table : List ℕ) → Passed k [] (record { count = 0; service = 0; len = 0 }) (replicate (1 + most_services) 0) table
 unfolding last_of count_of own_rules check_lines cells
-passed_none k table e =
+passed_none k table =
     record {
       behind =
           record {
@@ -226,6 +213,5 @@ passed_none k table e =
                 (omega arith);
           };
       checked = refl;
-      room = e;
       stored = refl;
     }

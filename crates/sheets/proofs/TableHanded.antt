@@ -18,8 +18,10 @@ use Rattle.sheets.specs.RuleSheet.{Table, closed, check_lines, check_end, check_
 use Rattle.sheets.specs.Inner.Premises.{check_table}
 use Rattle.sheets.specs.Calls.{lines_from, broken_from, handed_text, table_handed}
 use Rattle.sheets.specs.Inner.TableNumbers.{lines_in, table_in, RuleLines}
+use Rattle.sheets.specs.Inner.TableReader.{Found}
 use Rattle.sheets.specs.Inner.Writing.{CheckedAs, checked_from, checked_cells, handed}
 use Rattle.sheets.proofs.NumbersText.{count-lines, count-broken, rule-lines}
+use Rattle.sheets.proofs.FirstMatch.{found}
 use Rattle.sheets.proofs.Readings.{unless-got}
 use Rattle.sheets.proofs.TableChecks.{proper, check-same}
 use Rattle.numerals.specs.declared.refusal.Refusal.{Refusal}
@@ -88,9 +90,11 @@ module _ (k total : ℕ) (cs : List ℕ) where
 pub record Accepted (k total : ℕ) (cs : List ℕ) : Type 0 where
   pub whole : length (broken_from cs) ≡ 0
   pub checked : check_table (handed k total cs) ≡ got (handed k total cs)
+  pub few_bits : k ≤ most_bits
   pub few : length cs / 4 ≤ most_capacity
   pub ruled : RuleLines cs (length cs / 4)
   pub table : table_in k total cs (length cs / 4) ≡ handed k total cs
+  pub found : (n : ℕ) → Found (lines_in cs (length cs / 4)) n
 
 pub accepted : (k total : ℕ) (cs : List ℕ) (u : Table) → table_handed k total cs ≡ got u → Accepted k total cs
 unfolding table_handed check_table
@@ -105,7 +109,9 @@ accepted k total cs u h =
     record {
       whole = same.1;
       checked = passed;
+      few_bits = P.few_bits;
       few = omega (arith, count-lines cs, P.few);
       ruled = rule-lines cs (length cs / 4) (omega arith) k P.few_bits (rw all P.sorted);
       table = rw all;
+      found = λ n. rw all (found t P n);
     }

@@ -1,7 +1,7 @@
 -- Two texts compared byte by byte.
 use Prim.Native.Nat.{ℕ}
-use mathlib.Core.Path.{◌≡◌, refl}
-use mathlib.Core.Bool.{true, false}
+use mathlib.Core.Path.{◌≡◌, refl, sym, ap, ◌∙◌}
+use mathlib.Core.Bool.{Bool, true, false, not}
 use mathlib.Core.List.{List, [], ◌∷◌}
 use native.Mathlib.Omega.{arith}
 use lib.Dec.{eqb}
@@ -38,3 +38,11 @@ same-is [] [] = refl
 same-is [] (c ∷ cs) = refl
 same-is (b ∷ bs) [] = refl
 same-is (b ∷ bs) (c ∷ cs) = rw (same-is bs cs) (elim (eqb b c) [ true ↦ refl | false ↦ refl ])
+
+-- and what `!=` does
+pub same-not : (l m : List ℕ) (t : Bool) → t ≡ not (bytes_eq l m) → same l m ≡ not t
+same-not l m t e = same-is l m ∙ sym (ap not e ∙ not-not (bytes_eq l m))
+  where
+    not-not : (b : Bool) → not (not b) ≡ b
+    not-not true = refl
+    not-not false = refl

@@ -2,6 +2,7 @@
 pub mod Fields
 pub mod FirstLine
 pub mod SheetReader
+pub mod HeldTable
 pub mod Order
 pub mod TableNumbers
 pub mod TableReader

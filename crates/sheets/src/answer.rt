@@ -6,7 +6,8 @@ use numerals::Refusal;
 use packing::NotPacked;
 
 // Why a sheet, a call or a buffer is refused; the line from 1, or 0 where the line isn't the reason; and of two sheets, or
-// of the one call's two lent buffers (figures 1, table 2), the one that it is about, or 0 where it is about neither.
+// of the one call's two lent buffers (figures 1, table 2), the one that it is about, or 0 where it is about neither. Numbers, as C
+// and the printed refusal have them.
 #[derive(Clone, Copy)]
 pub struct Refused {
     pub why: Refusal,

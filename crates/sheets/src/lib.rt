@@ -4,10 +4,12 @@
 mod answer;
 mod fields;
 mod first_line;
+mod held_sheet;
 mod order;
 mod percentage_sheet;
 mod planning;
 mod printing;
+mod rule_lines;
 mod rule_sheet;
 mod shares;
 mod tables;

@@ -19,6 +19,7 @@ pub struct Last {
 // The places of a tally of lines by their service.
 pub const TALLY: usize = 1 + numerals::MOST_SERVICES;
 
+// The bound of the count is a clause, not a type: the count that is answered is one more.
 // A line behind these: the 33rd rule of its service, in order or not, then the order. `tally` has the number of lines
 // of each service.
 pub fn place_line(

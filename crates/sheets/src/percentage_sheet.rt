@@ -1,14 +1,14 @@
 // The reader of the percentage sheet, into memory of the library's own: the volume of each service, how many backends it
 // has, and the ids and the weights of all in a row each, at the same places.
 ghost use Rattle.std.specs.Prelude.{◌≡◌, ◌+◌, ◌*◌, ◌≤◌, ◌<◌, length};
-ghost use Rattle.std.proofs.Math.Seq.{slice};
 ghost use Rattle.numerals.specs.Limits.{most_backends, most_id, most_services};
+ghost use Rattle.numerals.specs.Text.{split};
 ghost use Rattle.sheets.specs.PercentageSheet.{read_sheet};
-ghost use Rattle.sheets.specs.Inner.Fields.{lines_at, fields_at};
 ghost use Rattle.sheets.specs.Inner.SheetReader.{BackendOf, WeightsOf, VolumeOf, ServiceOf, LineOf, SheetOf, sheet_from, finished};
 
 use crate::answer::{Refused, refused_at};
 use crate::first_line::Form;
+use crate::planning::WEIGHTS;
 use numerals::Refusal;
 
 // The fields of a service's line: its word, its volume and the weights.
@@ -36,11 +36,11 @@ pub struct LineWeights {
     pub sum: u64,
 }
 
-// A line of a service in the text: how many weights it has, and where the next line begins.
+// A line of a service in the text: how many weights it has, and the lines behind it.
 #[derive(Clone, Copy)]
-pub struct ServiceLine {
+pub struct ServiceLine<'a> {
     pub count: usize,
-    pub next: usize,
+    pub behind: &'a [u8],
 }
 
 // A whole sheet in memory: line 1, the number of services, and the number of all their backends.
@@ -51,47 +51,43 @@ pub struct SheetInMemory {
     pub row: usize,
 }
 
-// The backend between two positions, id:percentage (58 is ':'), behind one with the id `before`.
-fn read_backend(text: &[u8], from: usize, to: usize, before: usize) -> Option<Backend>
-    requires { (from ≤ to) × ((to ≤ length text.now) × (before ≤ most_id)) }
-    ensures { BackendOf result before (slice from to text.now) }
+// The backend of a field, id:percentage (58 is ':'), behind one with the id `before`.
+fn read_backend(field: &[u8], before: usize) -> Option<Backend>
+    requires { before ≤ most_id }
+    ensures { BackendOf result before field.now }
 {
-    let colon = numerals::find(text, from, to, 58);
-    if to <= colon {
+    let colon = numerals::find(field, 0, field.len(), 58);
+    if field.len() <= colon {
         return None;
     }
     let least = (before + 1) as u64;
-    let id = numerals::read_number(text, from, colon, least, numerals::MOST_ID as u64)?;
-    let weight = numerals::read_percentage(text, colon + 1, to)?;
+    let id = numerals::read_number(field, 0, colon, least, numerals::MOST_ID as u64)?;
+    let weight = numerals::read_percentage(field, colon + 1, field.len())?;
     Some(Backend {
         id: id as usize,
         weight,
     })
 }
 
-// The backends between two positions, each read into the two rows from place `at` on.
+// The backends of fields one after the other, each read into the two rows from place `at` on.
 fn read_weights(
-    text: &[u8],
-    from: usize,
-    to: usize,
-    ids: &mut [usize],
-    weights: &mut [u64],
+    fields: &[u8],
+    ids: &mut [usize; WEIGHTS],
+    weights: &mut [u64; WEIGHTS],
     at: usize,
 ) -> Result<LineWeights, Refusal>
-    requires from_le_to { (from ≤ to) × (to ≤ length text.now) }
-    requires to_len_bound { (length (fields_at text.now from to) ≤ most_backends)
-        × ((at + most_backends ≤ length ids.old) × (at + most_backends ≤ length weights.old)) }
-    ensures { WeightsOf result ids.old ids.new weights.old weights.new
-        at (fields_at text.now from to) }
+    requires few { length (split 32 fields.now) ≤ most_backends }
+    requires room { at + most_backends ≤ most_services * most_backends }
+    ensures { WeightsOf result ids.old ids.new weights.old weights.new at (split 32 fields.now) }
 {
-    let mut start = from;
+    let mut start = 0;
     let mut before = 0;
     let mut count = 0;
     let mut sum: u64 = 0;
     // a `while`, since it goes from field to field by the position at which each ends
-    while start <= to {
-        let end = numerals::find(text, start, to, 32);
-        let backend = read_backend(text, start, end, before).ok_or(Refusal::BadField)?;
+    while start <= fields.len() {
+        let end = numerals::find(fields, start, fields.len(), 32);
+        let backend = read_backend(&fields[start..end], before).ok_or(Refusal::BadField)?;
         ids[at + count] = backend.id;
         weights[at + count] = backend.weight;
         before = backend.id;
@@ -103,48 +99,40 @@ fn read_weights(
 }
 
 // The line of service i up to its weights: SERVICE volume, and the number of its fields.
-fn read_volume(text: &[u8], from: usize, to: usize, i: usize) -> Result<u64, Refusal>
-    requires { (from ≤ to) × (to ≤ length text.now) }
-    ensures { VolumeOf result i (fields_at text.now from to) }
+fn read_volume(line: &[u8], i: usize) -> Result<u64, Refusal>
+    ensures { VolumeOf result i (split 32 line.now) }
 {
-    let word = crate::fields::field_at(text, from, to, 0);
-    if !crate::fields::is_word(text, word.from, word.to, b"SERVICE") {
+    if crate::fields::field_at(line, 0) != b"SERVICE".as_slice() {
         return Err(Refusal::Malformed);
     }
     if numerals::MOST_SERVICES <= i {
         return Err(Refusal::TooMany);
     }
-    let count = numerals::count_fields(text, from, to, 32);
+    let count = numerals::count_fields(line, 0, line.len(), 32);
     if count < 3 {
         return Err(Refusal::Malformed);
     }
     if MOST_FIELDS < count {
         return Err(Refusal::TooMany);
     }
-    crate::fields::number_in(text, from, to, 1, 0, numerals::MOST_VOLUME).ok_or(Refusal::BadField)
+    crate::fields::number_in(line, 1, 0, numerals::MOST_VOLUME).ok_or(Refusal::BadField)
 }
 
 // The line of service i: SERVICE volume id1:p1 .. idM:pM.
 fn read_service(
-    text: &[u8],
-    from: usize,
-    to: usize,
+    line: &[u8],
     i: usize,
-    volumes: &mut [u64],
-    ids: &mut [usize],
-    weights: &mut [u64],
+    volumes: &mut [u64; numerals::MOST_SERVICES],
+    ids: &mut [usize; WEIGHTS],
+    weights: &mut [u64; WEIGHTS],
     at: usize,
 ) -> Result<usize, Refusal>
-    requires from_le_to { (from ≤ to) × (to ≤ length text.now) }
-    requires most_services_in_bounds { (most_services ≤ length volumes.old)
-        × ((most_services * most_backends ≤ length ids.old) × (most_services * most_backends ≤ length weights.old)) }
-    requires at_bound { at ≤ most_backends * i }
+    requires { at ≤ most_backends * i }
     ensures { ServiceOf result volumes.old volumes.new ids.old ids.new
-        weights.old weights.new at i (fields_at text.now from to) }
+        weights.old weights.new at i (split 32 line.now) }
 {
-    let volume = read_volume(text, from, to, i)?;
-    let first = crate::fields::field_at(text, from, to, 2);
-    let read = read_weights(text, first.from, to, ids, weights, at)?;
+    let volume = read_volume(line, i)?;
+    let read = read_weights(crate::fields::rest_after(line, 2), ids, weights, at)?;
     if read.sum != numerals::UNIT {
         return Err(Refusal::Unbalanced);
     }
@@ -152,31 +140,28 @@ fn read_service(
     Ok(read.count)
 }
 
-// The line of service i that begins at a position.
-fn read_line(
-    text: &[u8],
-    start: usize,
+// The line of service i, the first of these.
+fn read_line<'a>(
+    lines: &'a [u8],
     i: usize,
-    volumes: &mut [u64],
-    ids: &mut [usize],
-    weights: &mut [u64],
+    volumes: &mut [u64; numerals::MOST_SERVICES],
+    ids: &mut [usize; WEIGHTS],
+    weights: &mut [u64; WEIGHTS],
     at: usize,
-) -> Result<ServiceLine, Refusal>
-    requires start_in_bounds { start < length text.now }
-    requires most_services_in_bounds { (most_services ≤ length volumes.old)
-        × ((most_services * most_backends ≤ length ids.old) × (most_services * most_backends ≤ length weights.old)) }
+) -> Result<ServiceLine<'a>, Refusal>
+    requires some { 0 < length lines.now }
     requires at_bound { at ≤ most_backends * i }
-    ensures { LineOf result text.now volumes.old volumes.new ids.old ids.new
-        weights.old weights.new at i start }
+    ensures { LineOf result lines.now volumes.old volumes.new ids.old ids.new
+        weights.old weights.new at i }
 {
-    let end = numerals::find(text, start, text.len(), 10);
-    if text.len() <= end {
+    let end = numerals::find(lines, 0, lines.len(), 10);
+    if lines.len() <= end {
         return Err(Refusal::Malformed);
     }
-    let count = read_service(text, start, end, i, volumes, ids, weights, at)?;
+    let count = read_service(&lines[..end], i, volumes, ids, weights, at)?;
     Ok(ServiceLine {
         count,
-        next: end + 1,
+        behind: &lines[end + 1..],
     })
 }
 
@@ -197,29 +182,24 @@ fn finish(head: Head, services: usize, row: usize) -> Result<SheetInMemory, Refu
     })
 }
 
-// The lines of the services, from a position on.
+// The lines of the services.
 fn read_services(
-    text: &[u8],
+    lines: &[u8],
     head: Head,
-    from: usize,
-    volumes: &mut [u64],
-    sizes: &mut [usize],
-    ids: &mut [usize],
-    weights: &mut [u64],
+    volumes: &mut [u64; numerals::MOST_SERVICES],
+    sizes: &mut [usize; numerals::MOST_SERVICES],
+    ids: &mut [usize; WEIGHTS],
+    weights: &mut [u64; WEIGHTS],
 ) -> Result<SheetInMemory, Refused>
-    requires from_in_bounds { from ≤ length text.now }
-    requires most_services_in_bounds { (most_services ≤ length volumes.old)
-        × ((most_services ≤ length sizes.old)
-        × ((most_services * most_backends ≤ length ids.old) × (most_services * most_backends ≤ length weights.old))) }
-    ensures { SheetOf result (sheet_from head (lines_at text.now from))
+    ensures { SheetOf result (sheet_from head (split 10 lines.now))
         volumes.new sizes.new ids.new weights.new }
 {
-    let mut start = from;
+    let mut rest = lines;
     let mut i = 0;
     let mut at = 0;
-    // a `while`, since each line that is read tells where the next one begins
-    while start < text.len() {
-        let read = read_line(text, start, i, volumes, ids, weights, at);
+    // a `while`, since each line that is read tells what stands behind it
+    while !rest.is_empty() {
+        let read = read_line(rest, i, volumes, ids, weights, at);
         match read {
             Err(why) => {
                 return Err(refused_at(why, i + 2));
@@ -227,7 +207,7 @@ fn read_services(
             Ok(line) => {
                 sizes[i] = line.count;
                 at += line.count;
-                start = line.next;
+                rest = line.behind;
             }
         }
         i += 1;
@@ -238,14 +218,11 @@ fn read_services(
 // A percentage sheet.
 pub fn read_sheet(
     text: &[u8],
-    volumes: &mut [u64],
-    sizes: &mut [usize],
-    ids: &mut [usize],
-    weights: &mut [u64],
+    volumes: &mut [u64; numerals::MOST_SERVICES],
+    sizes: &mut [usize; numerals::MOST_SERVICES],
+    ids: &mut [usize; WEIGHTS],
+    weights: &mut [u64; WEIGHTS],
 ) -> Result<SheetInMemory, Refused>
-    requires { (most_services ≤ length volumes.old)
-        × ((most_services ≤ length sizes.old)
-        × ((most_services * most_backends ≤ length ids.old) × (most_services * most_backends ≤ length weights.old))) }
     ensures { SheetOf result (read_sheet text.now)
         volumes.new sizes.new ids.new weights.new }
 {
@@ -263,5 +240,5 @@ pub fn read_sheet(
         tolerance: line.second,
         capacity: line.third as usize,
     };
-    read_services(text, head, line.next, volumes, sizes, ids, weights)
+    read_services(line.behind, head, volumes, sizes, ids, weights)
 }

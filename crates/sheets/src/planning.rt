@@ -6,6 +6,7 @@ ghost use Rattle.sheets.specs.Demand.{Demand3Of};
 ghost use Rattle.sheets.specs.FourPlaces.{FourPlaces};
 
 use crate::answer::{Plan, Refused};
+use crate::rule_lines::{HeldTable, TableLines};
 use crate::rule_sheet::CELLS;
 
 // The backends of all services: as many ids, and as many weights.
@@ -68,5 +69,13 @@ pub fn split_sheet(text: &[u8], out: &mut [u8]) -> Result<usize, Refused>
     let mut figures = [0usize; FIGURES];
     let mut table = [1usize; CELLS];
     let p = plan(text, &mut figures, &mut table)?;
-    crate::printing::print(p.k, p.total, &table, p.rules, out)
+    let table = HeldTable {
+        k: p.k,
+        total: p.total,
+        lines: TableLines {
+            cells: &table,
+            n: p.rules,
+        },
+    };
+    crate::printing::print(&table, out)
 }

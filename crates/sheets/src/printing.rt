@@ -1,16 +1,19 @@
-// The writer of the rule sheet.
+// The writer of the rule sheet. Into lent buffers, not through Display: no heap, and each byte is proved.
 ghost use Rattle.std.specs.Prelude.{◌≡◌, true, [], ◌∷◌, ◌++◌, ◌+◌, ◌*◌, ◌/◌, ◌^◌, ◌≤◌, ◌<◌, leb, length};
 ghost use Rattle.std.proofs.Math.Seq.{slice};
 ghost use Rattle.numerals.specs.Limits.{most_bits, most_services, most_capacity};
 ghost use Rattle.numerals.specs.Decimal.{decimal};
 ghost use Rattle.numerals.specs.Suffix.{suffix_text};
 ghost use Rattle.sheets.specs.RuleSheet.{head_text, line_text, table_text, is_line, put_line, put_line_end};
-ghost use Rattle.sheets.specs.Inner.TableNumbers.{line, line_at, table_in, RuleLines};
+ghost use Rattle.sheets.specs.Inner.TableNumbers.{line_at};
+ghost use Rattle.sheets.specs.Inner.TableReader.{line_of};
+ghost use Rattle.sheets.specs.Inner.HeldTable.{table_of};
 ghost use Rattle.sheets.specs.Inner.Writing.{Wrote, Before, end_at, line_width, counted, CheckedAs, checked_cells, Checking, handed};
 ghost use Rattle.sheets.specs.Calls as calls;
 
 use crate::answer::{Refused, refused_at};
 use crate::order::{Last, TALLY};
+use crate::rule_lines::{HeldTable, RuleLine, TableLines};
 use numerals::Refusal;
 
 // One byte more than a text may have. Widths are counted up to it, so that no sum wraps.
@@ -24,33 +27,33 @@ fn add_width(a: usize, b: usize) -> usize
 }
 
 // How many bytes the text of a line has.
-fn line_width(service: usize, len: usize, backend: usize) -> usize
-    ensures { result ≡ counted (line_width service len backend) }
+fn line_width(line: &RuleLine) -> usize
+    ensures { result ≡ counted (line_width line.now.service line.now.len line.now.backend) }
 {
     add_width(
-        len,
-        numerals::decimal_width(service as u64) + numerals::decimal_width(backend as u64) + 4,
+        line.len,
+        numerals::decimal_width(line.service as u64)
+            + numerals::decimal_width(line.backend as u64)
+            + 4,
     )
 }
 
-// How many bytes the text has that the numbers before a position make, whatever they are.
-pub fn text_width(k: usize, total: u64, table: &[usize], to: usize) -> usize
-    requires { to ≤ length table.now }
-    ensures { result ≡ counted (length (calls.handed_text k total (slice 0 to table.now))) }
+// How many bytes the text has that numbers make, whatever they are.
+fn text_width(k: usize, total: u64, cells: &[usize]) -> usize
+    ensures { result ≡ counted (length (calls.handed_text k total cells.now)) }
 {
     let mut width = 9
         + numerals::decimal_width(k as u64)
-        + numerals::decimal_width(to.div_ceil(4) as u64)
+        + numerals::decimal_width(cells.len().div_ceil(4) as u64)
         + numerals::decimal_width(total);
-    let lines = to / 4;
+    let lines = cells.len() / 4;
     for i in 0..lines {
-        let c = 4 * i;
-        width = add_width(width, line_width(table[c], table[c + 1], table[c + 3]));
+        width = add_width(width, line_width(&RuleLine::at(cells, i)));
     }
-    if to % 4 == 0 {
+    if cells.len() % 4 == 0 {
         return width;
     }
-    add_width(width, numerals::decimal_width(table[4 * lines] as u64) + 1)
+    add_width(width, numerals::decimal_width(cells[4 * lines] as u64) + 1)
 }
 
 // A separator behind a text that was written; the position after it.
@@ -93,102 +96,92 @@ fn put_head(out: &mut [u8], k: usize, n: usize, total: u64) -> usize
 }
 
 // A rule line: service suffix backend.
-fn put_line(
-    out: &mut [u8],
-    at: usize,
-    service: usize,
-    len: usize,
-    value: usize,
-    backend: usize,
-) -> usize
-    requires { (is_line most_bits (line service len value backend) ≡ true) × (at + line_width service len backend ≤ length out.old) }
-    ensures { Wrote out.old out.new at result (line_text (line service len value backend)) }
+fn put_line(out: &mut [u8], at: usize, line: &RuleLine) -> usize
+    requires { (is_line most_bits (line_of line.now) ≡ true)
+        × (at + line_width line.now.service line.now.len line.now.backend ≤ length out.old) }
+    ensures { Wrote out.old out.new at result (line_text (line_of line.now)) }
 {
-    let a = put_number(out, at, service as u64, 32);
-    let b = put_suffix(out, a, len, value);
-    put_number(out, b, backend as u64, 10)
+    let a = put_number(out, at, line.service as u64, 32);
+    let b = put_suffix(out, a, line.len, line.value);
+    put_number(out, b, line.backend as u64, 10)
 }
 
 // The text of a table, into a buffer that has room for it; how many bytes it has.
-pub fn put_table(out: &mut [u8], k: usize, total: u64, table: &[usize], n: usize) -> usize
-    requires { (n ≤ most_capacity) × (RuleLines table.now n × (length (table_text (table_in k total table.now n)) ≤ length out.old)) }
-    ensures { Wrote out.old out.new 0 result (table_text (table_in k total table.now n)) }
+fn put_table(out: &mut [u8], table: &HeldTable) -> usize
+    requires { length (table_text (table_of table.now)) ≤ length out.old }
+    ensures { Wrote out.old out.new 0 result (table_text (table_of table.now)) }
 {
-    let mut at = put_head(out, k, n, total);
+    let n = table.lines.n;
+    let mut at = put_head(out, table.k, n, table.total);
     for i in 0..n {
-        let c = 4 * i;
-        at = put_line(out, at, table[c], table[c + 1], table[c + 2], table[c + 3]);
+        at = put_line(out, at, &table.lines.line(i));
     }
     at
 }
 
-// Whether the text of a table whose lines are proper fits into so many bytes. It never has more than a text may, so where
-// there is room for that it isn't counted.
-fn fits(k: usize, total: u64, table: &[usize], n: usize, room: usize) -> bool
-    requires { (n ≤ most_capacity) × RuleLines table.now n }
-    ensures { result ≡ leb (length (table_text (table_in k total table.now n))) room }
+// Whether the text of a table fits into so many bytes. It never has more than a text may, so where there is room for
+// that it isn't counted.
+fn fits(table: &HeldTable, room: usize) -> bool
+    ensures { result ≡ leb (length (table_text (table_of table.now))) room }
 {
     if numerals::TEXT_LIMIT <= room {
         return true;
     }
-    text_width(k, total, table, 4 * n) <= room
+    let lines = table.lines;
+    text_width(table.k, table.total, &lines.cells[..4 * lines.n]) <= room
 }
 
-// The text of a table whose lines are proper, into a lent buffer.
-pub fn print(
-    k: usize,
-    total: u64,
-    table: &[usize],
-    n: usize,
-    out: &mut [u8],
-) -> Result<usize, Refused>
-    requires { (n ≤ most_capacity) × RuleLines table.now n }
-    ensures answer { result ≡ calls.print_text (table_text (table_in k total table.now n)) (length out.old) }
+// The text of a table, into a lent buffer.
+pub fn print(table: &HeldTable, out: &mut [u8]) -> Result<usize, Refused>
+    ensures answer { result ≡ calls.print_text (table_text (table_of table.now)) (length out.old) }
     ensures buffer { out.new ≡ calls.afterwards (calls.is_value result) out.old
-        (table_text (table_in k total table.now n)) }
+        (table_text (table_of table.now)) }
 {
-    if !fits(k, total, table, n, out.len()) {
+    if !fits(table, out.len()) {
         return Err(refused_at(Refusal::ShortLoan, 0));
     }
-    Ok(put_table(out, k, total, table, n))
+    Ok(put_table(out, table))
 }
 
 // A line of numbers has the form and the limits of a rule line.
-fn is_line(k: usize, service: usize, len: usize, value: usize, backend: usize) -> bool
+fn is_line(k: usize, line: &RuleLine) -> bool
     requires { k ≤ most_bits }
-    ensures { result ≡ is_line k (line service len value backend) }
+    ensures { result ≡ is_line k (line_of line.now) }
 {
-    (1..=numerals::MOST_SERVICES).contains(&service)
-        && len <= k
-        && value < 1 << len
-        && (1..=numerals::MOST_ID).contains(&backend)
+    (1..=numerals::MOST_SERVICES).contains(&line.service)
+        && line.len <= k
+        && line.value < 1 << line.len
+        && (1..=numerals::MOST_ID).contains(&line.backend)
 }
 
-// Line i of a table that is no text, behind those before it.
-fn check_line(
+// A table that is no text, whose k and number of whole lines keep their limits.
+#[derive(Clone, Copy)]
+struct HandedTable<'a> {
     k: usize,
-    table: &[usize],
-    i: usize,
+    cells: &'a [usize],
+    ghost few_bits: { k ≤ most_bits },
+    ghost few: { length cells.now / 4 ≤ most_capacity },
+}
+
+// A line of it, behind those before it.
+fn check_line(
+    table: &HandedTable,
+    line: &RuleLine,
     last: Last,
-    tally: &mut [usize],
+    tally: &mut [usize; TALLY],
 ) -> Result<Last, Refusal>
-    requires { (k ≤ most_bits) × ((4 * i + 3 < length table.now)
-        × ((last.count ≤ most_capacity) × (length tally.old ≡ 1 + most_services))) }
-    ensures { Checking k last (line_at table.now i) tally.old result tally.new }
+    requires { last.count ≤ most_capacity }
+    ensures { Checking table.now.k last (line_of line.now) tally.old result tally.new }
 {
-    let c = 4 * i;
-    let service = table[c];
-    let len = table[c + 1];
-    if !is_line(k, service, len, table[c + 2], table[c + 3]) {
+    if !is_line(table.k, line) {
         return Err(Refusal::BadField);
     }
-    crate::order::place_line(last, tally, service, len)
+    crate::order::place_line(last, tally, line.service, line.len)
 }
 
-// The lines of a table that is no text, in their order; numbers left over are a last line of too few fields.
-fn check_lines(k: usize, table: &[usize]) -> Result<(), Refusal>
-    requires { (k ≤ most_bits) × (length table.now / 4 ≤ most_capacity) }
-    ensures { CheckedAs result (checked_cells k table.now) (tt {0}) }
+// Its lines, in their order; numbers left over are a last line of too few fields.
+fn check_lines(table: &HandedTable) -> Result<(), Refusal>
+    ensures { CheckedAs result (checked_cells table.now.k table.now.cells.now) (tt {0}) }
 {
     let mut tally = [0usize; TALLY];
     let mut last = Last {
@@ -196,10 +189,10 @@ fn check_lines(k: usize, table: &[usize]) -> Result<(), Refusal>
         service: 0,
         len: 0,
     };
-    for i in 0..table.len() / 4 {
-        last = check_line(k, table, i, last, &mut tally)?;
+    for i in 0..table.cells.len() / 4 {
+        last = check_line(table, &RuleLine::at(table.cells, i), last, &mut tally)?;
     }
-    if table.len() % 4 != 0 {
+    if table.cells.len() % 4 != 0 {
         return Err(Refusal::Malformed);
     }
     if last.len == 0 {
@@ -213,7 +206,7 @@ fn check_lines(k: usize, table: &[usize]) -> Result<(), Refusal>
 fn check_table(k: usize, total: u64, table: &[usize]) -> Result<(), Refusal>
     ensures { CheckedAs result (calls.table_handed k total table.now) (handed k total table.now) }
 {
-    if numerals::TEXT_LIMIT < text_width(k, total, table, table.len()) {
+    if numerals::TEXT_LIMIT < text_width(k, total, table) {
         return Err(Refusal::TooLong);
     }
     if !(1..=numerals::MOST_BITS).contains(&k) {
@@ -227,7 +220,7 @@ fn check_table(k: usize, total: u64, table: &[usize]) -> Result<(), Refusal>
     if numerals::TOTAL_LIMIT < total {
         return Err(Refusal::BadField);
     }
-    check_lines(k, table)
+    check_lines(&HandedTable { k, cells: table })
 }
 
 // The rule sheet of a table: four numbers for each line, its service, the length and the value of its suffix, and the
@@ -238,7 +231,15 @@ pub fn write_table(k: usize, total: u64, table: &[usize], out: &mut [u8]) -> Res
         (calls.values_of (calls.table_handed k total table.now) table_text) }
 {
     check_table(k, total, table)?;
-    print(k, total, table, table.len() / 4, out)
+    let table = HeldTable {
+        k,
+        total,
+        lines: TableLines {
+            cells: table,
+            n: table.len() / 4,
+        },
+    };
+    print(&table, out)
 }
 
 // The text of a rule line of at most 12 bits, written into a lent buffer at a position: 2 for a number out of its limits,
@@ -256,14 +257,20 @@ pub fn write_line(
     ensures buffer { out.new ≡ put_line out.old at
         (record { service = service; rule = record { len = len; value = value; backend = backend } }) }
 {
-    if !is_line(numerals::MOST_BITS, service, len, value, backend) {
+    let line = RuleLine {
+        service,
+        len,
+        value,
+        backend,
+    };
+    if !is_line(numerals::MOST_BITS, &line) {
         return Err(Refusal::BadField);
     }
     if out.len() < at {
         return Err(Refusal::ShortLoan);
     }
-    if out.len() - at < line_width(service, len, backend) {
+    if out.len() - at < line_width(&line) {
         return Err(Refusal::ShortLoan);
     }
-    Ok(put_line(out, at, service, len, value, backend))
+    Ok(put_line(out, at, &line))
 }

@@ -1,17 +1,19 @@
 // The reader of the rule sheet, into memory of the library's own: four numbers for each line.
-ghost use Rattle.std.specs.Prelude.{◌≡◌, List, [], ◌∷◌, ◌+◌, ◌*◌, ◌≤◌, length};
+ghost use Rattle.std.specs.Prelude.{◌≡◌, List, [], ◌∷◌, ◌*◌, ◌<◌, ◌≤◌};
 ghost use Rattle.std.proofs.lemmas.List.Edits.{sets};
 ghost use Rattle.numerals.specs.Limits.{most_capacity};
+ghost use Rattle.numerals.specs.Text.{split};
 ghost use Rattle.packing.specs.Count.{Line as RuleOf};
 ghost use Rattle.packing.specs.Answer.{cells};
 ghost use Rattle.sheets.specs.RuleSheet.{read_table};
-ghost use Rattle.sheets.specs.Inner.Fields.{lines_at, fields_at};
 ghost use Rattle.sheets.specs.Inner.Order.{last_of};
 ghost use Rattle.sheets.specs.Inner.TableReader.{line_of, LineAs, Passed, Taking, sheet_answer, Filled, whole_of, table_from};
 
 use crate::answer::{Refused, refused_at};
+use crate::fields::{field_at, number_in};
 use crate::first_line::Form;
 use crate::order::{Last, TALLY};
+use crate::rule_lines::RuleLine;
 use numerals::{MOST_ID, MOST_SERVICES, Refusal};
 
 // The places of a table in numbers.
@@ -25,31 +27,17 @@ pub struct TableHead {
     pub total: u64,
 }
 
-// A line: the service by its number, the backend by its id.
-#[derive(Drop)]
-pub struct RuleLine {
-    pub service: usize,
-    pub len: usize,
-    pub value: usize,
-    pub backend: usize,
-}
-
 // A rule line by its fields: service suffix backend.
-fn read_line(text: &[u8], from: usize, to: usize, k: usize) -> Result<RuleLine, Refusal>
-    requires { (from ≤ to) × (to ≤ length text.now) }
-    ensures { LineAs result k (fields_at text.now from to) }
+fn read_line(line: &[u8], k: usize) -> Result<RuleLine, Refusal>
+    ensures { LineAs result k (split 32 line.now) }
 {
-    if numerals::count_fields(text, from, to, 32) != 3 {
+    if numerals::count_fields(line, 0, line.len(), 32) != 3 {
         return Err(Refusal::Malformed);
     }
-    let service = crate::fields::number_in(text, from, to, 0, 1, MOST_SERVICES as u64).ok_or(
-        Refusal::BadField,
-    )?;
-    let f = crate::fields::field_at(text, from, to, 1);
-    let suffix = numerals::read_suffix(text, f.from, f.to, k).ok_or(Refusal::BadField)?;
-    let backend = crate::fields::number_in(text, from, to, 2, 1, MOST_ID as u64).ok_or(
-        Refusal::BadField,
-    )?;
+    let service = number_in(line, 0, 1, MOST_SERVICES as u64).ok_or(Refusal::BadField)?;
+    let field = field_at(line, 1);
+    let suffix = numerals::read_suffix(field, 0, field.len(), k).ok_or(Refusal::BadField)?;
+    let backend = number_in(line, 2, 1, MOST_ID as u64).ok_or(Refusal::BadField)?;
     Ok(RuleLine {
         service: service as usize,
         len: suffix.len,
@@ -59,8 +47,8 @@ fn read_line(text: &[u8], from: usize, to: usize, k: usize) -> Result<RuleLine, 
 }
 
 // The numbers of line i.
-fn store_line(table: &mut [usize], i: usize, line: RuleLine)
-    requires { 4 * i + 4 ≤ length table.old }
+fn store_line(table: &mut [usize; CELLS], i: usize, line: RuleLine)
+    requires { i < most_capacity }
     ensures { table.new ≡ sets table.old (4 * i) (cells (line_of line ∷ [])) }
 {
     let at = 4 * i;
@@ -70,24 +58,20 @@ fn store_line(table: &mut [usize], i: usize, line: RuleLine)
     table[at + 3] = line.backend;
 }
 
-// The line between two positions, behind those so far: read, placed and stored.
+// A line behind those so far: read, placed and stored.
 fn take_line(
-    text: &[u8],
-    from: usize,
-    to: usize,
+    line: &[u8],
     k: usize,
     last: Last,
     tally: &mut [usize],
-    table: &mut [usize],
+    table: &mut [usize; CELLS],
 ) -> Result<Last, Refusal>
-    requires from_le_to { (from ≤ to) × (to ≤ length text.now) }
-    requires passed { (before : List RuleOf) × Passed k before last tally.old table.old }
-    ensures { Taking k last (fields_at text.now from to)
-        tally.old table.old result tally.new table.new }
+    requires { (before : List RuleOf) × Passed k before last tally.old table.old }
+    ensures { Taking k last (split 32 line.now) tally.old table.old result tally.new table.new }
 {
-    let line = read_line(text, from, to, k)?;
-    let next = crate::order::place_line(last, tally, line.service, line.len)?;
-    store_line(table, last.count, line);
+    let rule = read_line(line, k)?;
+    let next = crate::order::place_line(last, tally, rule.service, rule.len)?;
+    store_line(table, last.count, rule);
     Ok(next)
 }
 
@@ -108,16 +92,14 @@ fn finish(head: TableHead, last: Last) -> Result<TableHead, Refused>
     Ok(head)
 }
 
-// The rule lines, from a position on.
+// The rule lines.
 fn read_lines(
-    text: &[u8],
+    lines: &[u8],
     head: TableHead,
-    from: usize,
-    table: &mut [usize],
+    table: &mut [usize; CELLS],
 ) -> Result<TableHead, Refused>
-    requires { (from ≤ length text.now) × (length table.old ≡ 4 * most_capacity) }
-    ensures answer { result ≡ sheet_answer (table_from head [] (lines_at text.now from)) }
-    ensures buffer { Filled (table_from head [] (lines_at text.now from)) table.new }
+    ensures answer { result ≡ sheet_answer (table_from head [] (split 10 lines.now)) }
+    ensures buffer { Filled (table_from head [] (split 10 lines.now)) table.new }
 {
     let mut tally = [0usize; TALLY];
     let mut last = Last {
@@ -125,14 +107,15 @@ fn read_lines(
         service: 0,
         len: 0,
     };
-    let mut start = from;
+    let mut rest = lines;
     // each turn goes on behind the newline that ended its line
-    while start < text.len() {
-        let end = numerals::find(text, start, text.len(), 10);
-        if text.len() <= end {
+    while !rest.is_empty() {
+        let end = numerals::find(rest, 0, rest.len(), 10);
+        if rest.len() <= end {
             return Err(refused_at(Refusal::Malformed, last.count + 2));
         }
-        let placed = take_line(text, start, end, head.k, last, &mut tally, table);
+        let line = &rest[..end];
+        let placed = take_line(line, head.k, last, &mut tally, table);
         match placed {
             Err(why) => {
                 return Err(refused_at(why, last.count + 2));
@@ -141,14 +124,13 @@ fn read_lines(
                 last = next;
             }
         }
-        start = end + 1;
+        rest = &rest[end + 1..];
     }
     finish(head, last)
 }
 
 // A rule sheet.
-pub fn read_sheet_lines(text: &[u8], table: &mut [usize]) -> Result<TableHead, Refused>
-    requires { length table.old ≡ 4 * most_capacity }
+pub fn read_sheet_lines(text: &[u8], table: &mut [usize; CELLS]) -> Result<TableHead, Refused>
     ensures answer { result ≡ sheet_answer (read_table text.now) }
     ensures buffer { Filled (read_table text.now) table.new }
 {
@@ -169,5 +151,5 @@ pub fn read_sheet_lines(text: &[u8], table: &mut [usize]) -> Result<TableHead, R
         n: line.second as usize,
         total: line.third,
     };
-    read_lines(text, head, line.next, table)
+    read_lines(line.behind, head, table)
 }

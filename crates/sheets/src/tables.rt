@@ -1,16 +1,13 @@
 // Calls on rule sheets: their table, lookup and churn.
-ghost use Rattle.std.specs.Prelude.{◌≡◌, ◌≤◌, length};
-ghost use Rattle.numerals.specs.Limits.{most_bits};
-ghost use Rattle.expansion.specs.FirstMatch.{first_match};
-ghost use Rattle.packing.specs.Count.{own_rules};
+ghost use Rattle.std.specs.Prelude.{◌≡◌, length};
 ghost use Rattle.packing.specs.Answer.{cells};
 ghost use Rattle.sheets.specs.RuleSheet.{read_table};
 ghost use Rattle.sheets.specs.Calls as calls;
-ghost use Rattle.sheets.specs.Inner.TableNumbers.{lines_in, RuleLines};
-ghost use Rattle.sheets.specs.Inner.TableReader.{Found, table_of};
+ghost use Rattle.sheets.specs.Inner.HeldTable.{lines_of, table_of};
 
 use crate::answer::{Refused, TableRecord, refused_at};
-use crate::rule_sheet::{CELLS, TableHead};
+use crate::rule_lines::{HeldTable, TableLines};
+use crate::rule_sheet::CELLS;
 use numerals::Refusal;
 
 // The table of a rule sheet, four numbers for each line, into a lent buffer.
@@ -34,30 +31,17 @@ pub fn read_table(text: &[u8], table: &mut [usize]) -> Result<TableRecord, Refus
     })
 }
 
-// The id of the backend of the first line of a service that matches an address; 0 where there is none.
-pub fn first_backend(table: &[usize], n: usize, service: usize, address: usize) -> usize
-    requires { RuleLines table.now n }
-    ensures { result ≡ first_match (own_rules service (lines_in table.now n)) address }
-{
-    for i in 0..n {
-        let at = 4 * i;
-        if table[at] == service {
-            let all: usize = 1 << table[at + 1];
-            if address % all == table[at + 2] {
-                return table[at + 3];
-            }
-        }
-    }
-    0
-}
-
 // The id of the backend that the rule sheet gives a service's address to.
 pub fn lookup(text: &[u8], service: usize, address: u32) -> Result<usize, Refused>
     ensures { result ≡ calls.lookup_answer text.now service address }
 {
-    let mut lines = [0usize; CELLS];
-    let head = crate::rule_sheet::read_sheet_lines(text, &mut lines)?;
-    let b = first_backend(&lines, head.n, service, address as usize);
+    let mut cells = [0usize; CELLS];
+    let head = crate::rule_sheet::read_sheet_lines(text, &mut cells)?;
+    let lines = TableLines {
+        cells: &cells,
+        n: head.n,
+    };
+    let b = lines.first_backend(service, address as usize);
     if b == 0 {
         return Err(refused_at(Refusal::UnknownService, 0));
     }
@@ -65,20 +49,12 @@ pub fn lookup(text: &[u8], service: usize, address: u32) -> Result<usize, Refuse
 }
 
 // How many of the suffixes below `all` the two tables give to backends of unlike ids.
-fn count_moved(
-    old: &[usize],
-    n: usize,
-    new: &[usize],
-    m: usize,
-    service: usize,
-    all: usize,
-) -> usize
-    requires { (RuleLines old.now n) × (RuleLines new.now m) }
-    ensures { result ≡ calls.moved all (lines_in old.now n) (lines_in new.now m) service }
+fn count_moved(old: &TableLines, new: &TableLines, service: usize, all: usize) -> usize
+    ensures { result ≡ calls.moved all (lines_of old.now) (lines_of new.now) service }
 {
     let mut moved = 0;
     for s in 0..all {
-        if first_backend(old, n, service, s) != first_backend(new, m, service, s) {
+        if old.first_backend(service, s) != new.first_backend(service, s) {
             moved += 1;
         }
     }
@@ -86,36 +62,28 @@ fn count_moved(
 }
 
 // What churn finds between two tables that were read.
-fn compare(
-    old: &[usize],
-    a: TableHead,
-    new: &[usize],
-    b: TableHead,
-    service: usize,
-) -> Result<usize, Refused>
-    requires rule_lines { (RuleLines old.now a.n) × ((RuleLines new.now b.n) × (a.k ≤ most_bits)) }
-    requires found { (Found (lines_in old.now a.n) service) × (Found (lines_in new.now b.n) service) }
-    ensures { result ≡ calls.churn_of (table_of a old.now) (table_of b new.now) service }
+fn compare(old: &HeldTable, new: &HeldTable, service: usize) -> Result<usize, Refused>
+    ensures { result ≡ calls.churn_of (table_of old.now) (table_of new.now) service }
 {
-    if first_backend(old, a.n, service, 0) == 0 {
+    if old.lines.first_backend(service, 0) == 0 {
         return Err(Refused {
             why: Refusal::UnknownService,
             line: 0,
             of: 1,
         });
     }
-    if first_backend(new, b.n, service, 0) == 0 {
+    if new.lines.first_backend(service, 0) == 0 {
         return Err(Refused {
             why: Refusal::UnknownService,
             line: 0,
             of: 2,
         });
     }
-    if a.k != b.k {
+    if old.k != new.k {
         return Err(refused_at(Refusal::Depth, 0));
     }
-    let all: usize = 1 << a.k;
-    Ok(count_moved(old, a.n, new, b.n, service, all))
+    let all: usize = 1 << old.k;
+    Ok(count_moved(&old.lines, &new.lines, service, all))
 }
 
 // How many suffixes of a service have another backend in the new rule sheet than in the old.
@@ -126,5 +94,21 @@ pub fn churn(old: &[u8], new: &[u8], service: usize) -> Result<usize, Refused>
     let a = crate::rule_sheet::read_sheet_lines(old, &mut first).map_err(|r| r.about(1))?;
     let mut second = [0usize; CELLS];
     let b = crate::rule_sheet::read_sheet_lines(new, &mut second).map_err(|r| r.about(2))?;
-    compare(&first, a, &second, b, service)
+    let old = HeldTable {
+        k: a.k,
+        total: a.total,
+        lines: TableLines {
+            cells: &first,
+            n: a.n,
+        },
+    };
+    let new = HeldTable {
+        k: b.k,
+        total: b.total,
+        lines: TableLines {
+            cells: &second,
+            n: b.n,
+        },
+    };
+    compare(&old, &new, service)
 }

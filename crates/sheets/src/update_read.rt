@@ -1,23 +1,20 @@
 // What an update reads: of a rule sheet the rules of a service, of a percentage sheet its new weights with their ids, and
 // the tolerance.
-ghost use Rattle.std.specs.Prelude.{◌≡◌, ◌+◌, ◌*◌, ◌-◌, ◌^◌, ◌≤◌, ◌<◌, length, get_or};
-ghost use Rattle.std.proofs.lemmas.List.Edits.{sets};
-ghost use Rattle.numerals.specs.Limits.{most_backends, most_services};
+ghost use Rattle.std.specs.Prelude.{◌≡◌, length};
 ghost use Rattle.numerals.specs.Refusals.{no8};
 ghost use Rattle.expansion.specs.OldList.{numbers_of};
-ghost use Rattle.packing.specs.Count.{own_rules};
-ghost use Rattle.sheets.specs.PercentageSheet.{read_sheet, sum};
-ghost use Rattle.sheets.specs.RuleSheet.{read_table, count_of};
+ghost use Rattle.sheets.specs.PercentageSheet.{read_sheet};
+ghost use Rattle.sheets.specs.RuleSheet.{read_table};
 ghost use Rattle.sheets.specs.Calls as calls;
 ghost use Rattle.sheets.specs.Update.{old_rules, new_ids, new_weights, update_in, update_read_answer, is_read};
-ghost use Rattle.sheets.specs.Inner.TableNumbers.{lines_in};
-ghost use Rattle.sheets.specs.Inner.TableReader.{table_of};
-ghost use Rattle.sheets.specs.Inner.Update.{judged, sheet_in};
+ghost use Rattle.sheets.specs.Inner.HeldTable.{table_of};
+ghost use Rattle.sheets.specs.Inner.Update.{judged, sheet_of};
 
 use crate::answer::{Refused, UpdateRecord, refused_at};
-use crate::percentage_sheet::Head;
+use crate::held_sheet::HeldSheet;
 use crate::planning::WEIGHTS;
-use crate::rule_sheet::{CELLS, TableHead};
+use crate::rule_lines::{HeldTable, TableLines};
+use crate::rule_sheet::CELLS;
 use expansion::PER_RULE;
 use numerals::Refusal;
 
@@ -41,27 +38,33 @@ pub fn read_update(
         (calls.values_of (read_sheet sheet.now) (λ S. new_weights S service)) }
 {
     // what stands there first means nothing; ones are stored by the word, zeros by the byte
-    let mut lines = [1usize; CELLS];
-    let table = crate::rule_sheet::read_sheet_lines(old, &mut lines).map_err(|r| r.about(1))?;
-    read_second(table, &lines, sheet, service, rules, ids, weights)
+    let mut cells = [1usize; CELLS];
+    let head = crate::rule_sheet::read_sheet_lines(old, &mut cells).map_err(|r| r.about(1))?;
+    let table = HeldTable {
+        k: head.k,
+        total: head.total,
+        lines: TableLines {
+            cells: &cells,
+            n: head.n,
+        },
+    };
+    read_second(&table, sheet, service, rules, ids, weights)
 }
 
 // The same, once the rule sheet is in memory.
 fn read_second(
-    table: TableHead,
-    lines: &[usize],
+    table: &HeldTable,
     sheet: &[u8],
     service: usize,
     rules: &mut [usize],
     ids: &mut [usize],
     weights: &mut [u64],
 ) -> Result<UpdateRecord, Refused>
-    requires { 4 * table.n ≤ length lines.now }
     ensures answer { result ≡ calls.answered Err 2 (read_sheet sheet.now)
-        (λ S. update_in (table_of table lines.now) S service
+        (λ S. update_in (table_of table.now) S service
         (length rules.old) (length ids.old) (length weights.old)) }
     ensures rules { rules.new ≡ calls.afterwards (is_read result) rules.old
-        (numbers_of (old_rules (table_of table lines.now) service)) }
+        (numbers_of (old_rules (table_of table.now) service)) }
     ensures ids { ids.new ≡ calls.afterwards (is_read result) ids.old
         (calls.values_of (read_sheet sheet.now) (λ S. new_ids S service)) }
     ensures weights { weights.new ≡ calls.afterwards (is_read result) weights.old
@@ -72,76 +75,60 @@ fn read_second(
     // what stands there first means nothing; ones are stored by the word
     let mut named = [1usize; WEIGHTS];
     let mut all = [1u64; WEIGHTS];
-    let new = crate::percentage_sheet::read_sheet(
+    let read = crate::percentage_sheet::read_sheet(
         sheet,
         &mut volumes,
         &mut sizes,
         &mut named,
         &mut all,
     ).map_err(|r| r.about(2))?;
-    select(
-        table,
-        lines,
-        new.head,
-        &sizes[..new.services],
-        &named[..new.row],
-        &all[..new.row],
-        service,
-        rules,
-        ids,
-        weights,
-    )
+    let new = HeldSheet {
+        head: read.head,
+        sizes: &sizes[..read.services],
+        ids: &named[..read.row],
+        weights: &all[..read.row],
+    };
+    select(table, &new, service, rules, ids, weights)
 }
 
 // The same, once both sheets are in memory: judged first, since a refusal writes nothing.
 fn select(
-    table: TableHead,
-    lines: &[usize],
-    head: Head,
-    sizes: &[usize],
-    named: &[usize],
-    row: &[u64],
+    table: &HeldTable,
+    new: &HeldSheet,
     service: usize,
     rules: &mut [usize],
     ids: &mut [usize],
     weights: &mut [u64],
 ) -> Result<UpdateRecord, Refused>
-    requires n_in_bounds { 4 * table.n ≤ length lines.now }
-    requires sizes_value { (sum sizes.now ≡ length named.now)
-        × ((sum sizes.now ≡ length row.now) × (length row.now ≤ most_services * most_backends)) }
-    ensures answer { result ≡ update_in (table_of table lines.now)
-        (sheet_in head sizes.now named.now row.now) service
+    ensures answer { result ≡ update_in (table_of table.now) (sheet_of new.now) service
         (length rules.old) (length ids.old) (length weights.old) }
     ensures rules { rules.new ≡ calls.afterwards (is_read result) rules.old
-        (numbers_of (old_rules (table_of table lines.now) service)) }
-    ensures ids { ids.new ≡ calls.afterwards (is_read result) ids.old
-        (new_ids (sheet_in head sizes.now named.now row.now) service) }
+        (numbers_of (old_rules (table_of table.now) service)) }
+    ensures ids { ids.new ≡ calls.afterwards (is_read result) ids.old (new_ids (sheet_of new.now) service) }
     ensures weights { weights.new ≡ calls.afterwards (is_read result) weights.old
-        (new_weights (sheet_in head sizes.now named.now row.now) service) }
+        (new_weights (sheet_of new.now) service) }
 {
-    let own = lines_of(lines, table.n, service);
-    let backends = size_of(sizes, service);
+    let backends = new.size_of(service);
     let found = UpdateRecord {
         k: table.k,
-        tolerance: head.tolerance,
-        rules: own,
+        tolerance: new.head.tolerance,
+        rules: table.lines.count_of(service),
         backends,
     };
-    let services = sizes.len();
     let made = judge(
         found,
-        head.k,
-        services,
+        new.head.k,
+        new.sizes.len(),
         service,
         rules.len(),
         ids.len(),
         weights.len(),
     )?;
-    store_own(lines, table.n, service, rules);
-    let from: usize = sizes[..service - 1].iter().sum();
+    table.lines.store_own(service, rules);
+    let from: usize = new.sizes[..service - 1].iter().sum();
     let to = from + backends;
-    ids[..backends].copy_from_slice(&named[from..to]);
-    weights[..backends].copy_from_slice(&row[from..to]);
+    ids[..backends].copy_from_slice(&new.ids[from..to]);
+    weights[..backends].copy_from_slice(&new.weights[from..to]);
     Ok(made)
 }
 
@@ -155,7 +142,6 @@ fn judge(
     ids: usize,
     weights: usize,
 ) -> Result<UpdateRecord, Refused>
-    requires { 3 * found.rules < 2 ^ 64 }
     ensures { result ≡ judged found k services service rules ids weights }
 {
     if found.rules == 0 {
@@ -167,7 +153,8 @@ fn judge(
     if found.k != k {
         return Err(refused_at(Refusal::Depth, 0));
     }
-    if rules < PER_RULE * found.rules || ids < found.backends || weights < found.backends {
+    // a quotient never wraps, as the product might
+    if rules / PER_RULE < found.rules || ids < found.backends || weights < found.backends {
         return Err(refused_at(Refusal::ShortLoan, 0));
     }
     Ok(found)
@@ -182,43 +169,4 @@ fn lacking(of: usize) -> Refused
         line: 0,
         of,
     }
-}
-
-// How many lines a service has.
-fn lines_of(table: &[usize], n: usize, service: usize) -> usize
-    requires { 4 * n ≤ length table.now }
-    ensures few { result ≤ n }
-    ensures count { result ≡ count_of service (lines_in table.now n) }
-{
-    let mut count = 0;
-    for i in 0..n {
-        if table[4 * i] == service {
-            count += 1;
-        }
-    }
-    count
-}
-
-// The rules of a service, into a lent buffer that is long enough.
-fn store_own(table: &[usize], n: usize, service: usize, rules: &mut [usize])
-    requires { (4 * n ≤ length table.now) × (3 * count_of service (lines_in table.now n) ≤ length rules.old) }
-    ensures { rules.new ≡ sets rules.old 0 (numbers_of (own_rules service (lines_in table.now n))) }
-{
-    let mut at = 0;
-    for i in 0..n {
-        if table[4 * i] == service {
-            rules[at] = table[4 * i + 1];
-            rules[at + 1] = table[4 * i + 2];
-            rules[at + 2] = table[4 * i + 3];
-            at += PER_RULE;
-        }
-    }
-}
-
-// How many backends a service has, where there is one of that number.
-fn size_of(sizes: &[usize], service: usize) -> usize
-    ensures { (1 ≤ service) → (service ≤ length sizes.now) → result ≡ get_or sizes.now (service - 1) 0 }
-{
-    // 0 is no service's number: one less is then a place that no row has
-    sizes.get(service.wrapping_sub(1)).copied().unwrap_or(0)
 }

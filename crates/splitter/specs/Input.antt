@@ -10,7 +10,7 @@ abbrev pub stopped : Error → ErrorKind → Option (Result ℕ Error)
 stopped e kind.Interrupted = None
 stopped e _ = Some (Err e)
 
--- what a read's answer counts for: only 0 is the end of the input; an error is a failure, or an interruption by a signal
+-- what a read's answer counts for: a number of bytes, 0 at the end of the input; an error is a failure, or nothing where a signal interrupted the read
 abbrev pub judged : Result ℕ Error → Option (Result ℕ Error)
 judged (Ok n) = Some (Ok n)
 judged (Err e) = stopped e (error_kind e)

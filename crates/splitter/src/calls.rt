@@ -113,7 +113,7 @@ struct Question<'a> {
     command: Command,
 }
 
-// The answer about a service, the fourth argument, of up to N bytes.
+// The answer about a service, the fourth argument, of up to N bytes. The bound of N is what an array of that length asks.
 // Not inlined, as `ask_stages`: a call would pay at entry for the room of the longest words, and `churn` took a fifth more time.
 #[inline(never)]
 fn ask_service<const N: usize>(rt: &HostRuntime, of: &Question) -> ExitCode

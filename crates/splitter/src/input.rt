@@ -51,6 +51,7 @@ fn read_some<R: io::Read>(file: &mut R, text: &mut [u8]) -> io::Result<usize>
 }
 
 // Reads until the end of the input was seen or the buffer is full: the first n bytes are then all that was left, or as many of it as there is room for.
+// No range leads this loop: how far a turn goes is what the read answers.
 fn read_whole<R: io::Read>(file: &mut R, text: &mut [u8]) -> io::Result<usize>
     ensures bound { IfOk result (λ n. n ≤ length text.new) }
     ensures rest { IfOk result (λ n. IfSome (R.remaining file.old) (λ xs. take n text.new ≡ take (length text.new) xs)) }

@@ -9,20 +9,17 @@ use native.Mathlib.Decide.{ℕ_discrete}
 use native.Mathlib.Nat.{zero-add, mul-one}
 use native.Mathlib.Numerals.{add-one}
 use native.Mathlib.Omega.{arith}
-use lib.Dec.{ltb}
 use lib.ListN.{length, get_or, drop, set, length-append}
 use lib.Pow.{pow_pos}
 use lib.Seq.{sets, length-sets}
 use borrow.Author.Tests.{lt-ltb, le-ltb}
 use Rattle.std.proofs.lemmas.List.{drop_all, drop_more}
 use Rattle.numerals.specs.Limits.{most_suffixes, most_capacity}
-use Rattle.numerals.specs.Pick.{pick}
 use Rattle.numerals.specs.Refusals.{no2, no14}
 use Rattle.expansion.specs.Answer.{in_limits}
 use Rattle.sheets.proofs.Writes.{sets-append}
-use Rattle.stages.specs.Inner.Nodes.{leaves, cut_at, lines_at, Nodes}
+use Rattle.stages.specs.Inner.Nodes.{cut_at, lines_at, Nodes}
 use Rattle.stages.specs.Inner.Row.{unlike, moved_to, cuts_to, row_of, crowded_at, judged}
-use Rattle.stages.proofs.NodeLaws.{node-inside, lines-ext}
 use Rattle.stages.proofs.Rows.{moved-zero, cuts-zero, moved-alike, cuts-alike, moved_more, cuts-kept, moved-cut, cuts-cut}
 
 module _ (d : ℕ → Bool) (limit : ℕ) where
@@ -144,34 +141,13 @@ module _ (k : ℕ) (old new : ℕ → ℕ) (limit : ℕ) where
       ∙ sym (sets-append first 0 (cuts_to (unlike old new) limit (2 ^ k)) (2 ^ k ∷ []))
 
 -- the leaves of filled nodes are the backends
-
-module _ (k : ℕ) (g : ℕ → ℕ) (held lines : List ℕ) (N : Nodes k g 1 held lines) where
-  pub nodes-leaf : (p : ℕ) → p < 2 ^ k → g p ≡ leaves k held p
-  nodes-leaf p l =
-      let all : k - 0 ≡ k = omega arith in
-      let low : p < 2 ^ (k - 0) = subst (λ (x : ℕ). p < 2 ^ x) (sym all) l in
-      let one : p * 2 ^ 0 ≡ p = mul-one p in
-      sym (subst (λ (x : ℕ). get_or held (2 ^ x + p) 0 ≡ g p) all
-      (N.lowest 0 p (omega arith) low (omega (arith, pow_pos (k - 0))) ∙ ap g one))
-
-  pub nodes-leaves : Nodes k (leaves k held) 1 held lines
-  nodes-leaves =
-      record {
-        held_long = N.held_long;
-        lines_long = N.lines_long;
-        lowest = λ n q l m f. N.lowest n q l m f ∙ nodes-leaf (q * 2 ^ n) (omega (arith, node-inside k n q 0 l m (pow_pos n)));
-        count = λ n q l m f. N.count n q l m f
-            ∙ lines-ext g (leaves k held) n q (λ i o. nodes-leaf (q * 2 ^ n + i) (node-inside k n q i l m o));
-      }
-
--- stages over the same backends have the same lines
-pub stage-lines : (k p : ℕ) (old new old' new' : ℕ → ℕ) → ((q : ℕ) → q < 2 ^ k → old q ≡ old' q) → ((q : ℕ) → q < 2 ^ k → new q ≡ new' q)
-    → lines_at (cut_at p old new) k 0 ≡ lines_at (cut_at p old' new') k 0
-unfolding cut_at
-stage-lines k p old new old' new' o n =
-    lines-ext (cut_at p old new) (cut_at p old' new') k 0 (λ i l.
-    let low : 0 * 2 ^ k + i < 2 ^ k = omega arith in
-    ap₂ (pick (ltb (0 * 2 ^ k + i) p)) (n (0 * 2 ^ k + i) low) (o (0 * 2 ^ k + i) low))
+pub nodes-leaf : (k : ℕ) (g : ℕ → ℕ) (held lines : List ℕ) → Nodes k g 1 held lines → (p : ℕ) → p < 2 ^ k → get_or held (2 ^ k + p) 0 ≡ g p
+nodes-leaf k g held lines N p l =
+    let all : k - 0 ≡ k = omega arith in
+    let low : p < 2 ^ (k - 0) = subst (λ (x : ℕ). p < 2 ^ x) (sym all) l in
+    let one : p * 2 ^ 0 ≡ p = mul-one p in
+    subst (λ (x : ℕ). get_or held (2 ^ x + p) 0 ≡ g p) all
+    (N.lowest 0 p (omega arith) low (omega (arith, pow_pos (k - 0))) ∙ ap g one)
 
 -- the crowded test, a place more
 

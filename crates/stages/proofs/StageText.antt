@@ -8,7 +8,7 @@ use native.Mathlib.Decide.{dec_lt, ℕ_discrete}
 use native.Mathlib.Nat.{div-add-mod', mod-lt}
 use native.Mathlib.Omega.{arith}
 use lib.Arith.{digits_div}
-use lib.ListN.{length, get_or, take, drop, set, length-append}
+use lib.ListN.{length, get_or, take, drop, set, length-append, length-set}
 use lib.Pow.{pow_pos, pow_mono}
 use lib.Seq.{sets, sets-eq, take_at, get_or-set_same, get_or-set_other}
 use Rattle.numerals.specs.Limits.{most_bits, most_suffixes, most_capacity, most_services, most_id}
@@ -32,12 +32,15 @@ use Rattle.stages.proofs.NodeLaws.{starts_none, starts-suc, start-here, start-no
 use Rattle.numerals.specs.declared.refusal.Refusal.{Refusal}
 
 -- one place more of what a listing is to have
-pub listed_more : (f : ℕ → ℕ) (s : List ℕ) (q v : ℕ) → q < length s → ((y : ℕ) → y < q → get_or s y 0 ≡ f y) → v ≡ f q
-    → (y : ℕ) → y < q + 1 → get_or (set s q v) y 0 ≡ f y
-listed_more f s q v l h e y m = go (ℕ_discrete y q)
+pub listed_more : (f : ℕ → ℕ) (s t : List ℕ) (q v : ℕ) → t ≡ set s q v → q < length t → ((y : ℕ) → y < q → get_or s y 0 ≡ f y) → v ≡ f q
+    → (y : ℕ) → y < q + 1 → get_or t y 0 ≡ f y
+listed_more f s t q v is l h e y m = ap (λ (x : List ℕ). get_or x y 0) is ∙ go (ℕ_discrete y q)
   where
+    inside : q < length s
+    inside = omega (arith, ap length is, length-set s q v)
+
     go : Dec (y ≡ q) → get_or (set s q v) y 0 ≡ f y
-    go (yes d) = rw d (get_or-set_same s q v 0 l ∙ e)
+    go (yes d) = rw d (get_or-set_same s q v 0 inside ∙ e)
     go (no d) = get_or-set_other s q y v 0 d ∙ h y (omega arith)
 
 -- both tables of a service have ids, so a stage has

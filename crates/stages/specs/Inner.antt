@@ -4,3 +4,4 @@ pub mod Nodes
 pub mod Row
 pub mod Both
 pub mod Handed
+pub mod Changes

@@ -1,65 +1,54 @@
 // The two calls of a change in stages, on two rule sheets.
-ghost use Rattle.std.specs.Prelude.{◌≡◌, ℕ, ◌-◌, ◌≤◌, length, get_or, take, Ok};
-ghost use Rattle.numerals.specs.Limits.{most_bits, most_suffixes};
+ghost use Rattle.std.specs.Prelude.{◌≡◌, ℕ, ◌-◌, length, get_or, take, Ok};
 ghost use Rattle.sheets.specs.Calls as calls;
 ghost use Rattle.stages.specs.Calls.{places_answer, places_written, lines_answer, lines_written};
 ghost use Rattle.stages.specs.Promise.{PromisedRow, PromisedStage};
-ghost use Rattle.stages.specs.Inner.Nodes.{at};
-ghost use Rattle.stages.specs.Inner.Row.{row_of, judged, Served};
-ghost use Rattle.stages.specs.Inner.Handed.{handed, text_at};
+ghost use Rattle.stages.specs.Inner.Changes.{row_in, judged_in, text_in, ChangeOf};
+ghost use Rattle.stages.specs.Inner.Handed.{handed};
 
+use crate::change::Change;
 use crate::reading::read_both;
-use crate::row::{cut, judge};
 use numerals::{MOST_SUFFIXES, Refusal};
 use sheets::Refused;
 
 // The row of a change, into a lent buffer. Stage 1 is in every row. It is cut a second time, straight into the buffer, once it
 // is known to be answered: nothing lent is written on a refusal.
 fn hand_row(
-    old: &[u16],
-    new: &[u16],
-    k: usize,
+    change: Change,
     limit: usize,
     capacity: usize,
     places: &mut [usize],
 ) -> Result<usize, Refused>
-    requires { (k ≤ most_bits) × ((length old.now ≡ most_suffixes) × (length new.now ≡ most_suffixes)) }
-    ensures answer { result ≡ handed (judged k (at old.now) (at new.now) limit capacity 1)
-        (row_of k (at old.now) (at new.now) limit) (length places.old) }
-    ensures buffer { places.new ≡ calls.afterwards (calls.is_value result) places.old
-        (row_of k (at old.now) (at new.now) limit) }
+    ensures answer { result ≡ handed (judged_in change.entry limit capacity 1) (row_in change.entry limit) (length places.old) }
+    ensures buffer { places.new ≡ calls.afterwards (calls.is_value result) places.old (row_in change.entry limit) }
 {
     let mut row = [1usize; MOST_SUFFIXES];
-    let n = judge(old, new, k, limit, capacity, 1, &mut row)?;
+    let n = change.judge(limit, capacity, 1, &mut row)?;
     if places.len() < n {
         return Err(Refusal::ShortLoan.into());
     }
-    cut(old, new, k, limit, places);
+    change.cut(limit, places);
     Ok(n)
 }
 
 // The text of one stage of a change, into a lent buffer.
 fn hand_stage(
-    old: &[u16],
-    new: &[u16],
-    k: usize,
+    change: Change,
     service: usize,
     limit: usize,
     capacity: usize,
     number: usize,
     out: &mut [u8],
 ) -> Result<usize, Refused>
-    requires { (k ≤ most_bits) × (Served k service old.now × Served k service new.now) }
-    ensures answer { result ≡ handed (judged k (at old.now) (at new.now) limit capacity number)
-        (text_at k (at old.now) (at new.now) service
-        (get_or (row_of k (at old.now) (at new.now) limit) (number - 1) 0)) (length out.old) }
+    requires { ChangeOf change service }
+    ensures answer { result ≡ handed (judged_in change.entry limit capacity number)
+        (text_in change.entry service (get_or (row_in change.entry limit) (number - 1) 0)) (length out.old) }
     ensures buffer { out.new ≡ calls.afterwards (calls.is_value result) out.old
-        (text_at k (at old.now) (at new.now) service
-        (get_or (row_of k (at old.now) (at new.now) limit) (number - 1) 0)) }
+        (text_in change.entry service (get_or (row_in change.entry limit) (number - 1) 0)) }
 {
     let mut row = [1usize; MOST_SUFFIXES];
-    judge(old, new, k, limit, capacity, number, &mut row)?;
-    crate::printing::print_stage(old, new, k, service, row[number - 1], out)
+    change.judge(limit, capacity, number, &mut row)?;
+    change.print_stage(service, row[number - 1], out)
 }
 
 // The places at which a change from one rule sheet's table to another's is cut into stages, for a service: each stage moves
@@ -82,7 +71,12 @@ pub fn stage_places(
     let mut before = [0u16; MOST_SUFFIXES];
     let mut after = [0u16; MOST_SUFFIXES];
     let k = read_both(old, new, service, &mut before, &mut after)?;
-    hand_row(&before, &after, k, limit, capacity, places)
+    let change = Change {
+        old: &before,
+        new: &after,
+        k,
+    };
+    hand_row(change, limit, capacity, places)
 }
 
 // One of these stages by its number, from 1: a list for the switch, `service suffix backend` lines, into a lent buffer. How
@@ -106,5 +100,10 @@ pub fn stage_lines(
     let mut before = [0u16; MOST_SUFFIXES];
     let mut after = [0u16; MOST_SUFFIXES];
     let k = read_both(old, new, service, &mut before, &mut after)?;
-    hand_stage(&before, &after, k, service, limit, capacity, number, out)
+    let change = Change {
+        old: &before,
+        new: &after,
+        k,
+    };
+    hand_stage(change, service, limit, capacity, number, out)
 }

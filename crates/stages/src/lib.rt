@@ -2,10 +2,12 @@
 #![tactic(auto)]
 
 mod calls;
+mod change;
 mod nodes;
 mod printing;
 mod reading;
 mod row;
 mod spreading;
+mod tree;
 
 pub use calls::{stage_lines, stage_places};

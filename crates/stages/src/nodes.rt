@@ -1,9 +1,10 @@
 // Nodes of the tree, numbered as a heap is: node 1 has all places, the halves of node i are 2i and 2i + 1, and place p is
 // node 2^k + p. Of each node: the backend of its lowest place, and how many lines it has.
-ghost use Rattle.std.specs.Prelude.{◌≡◌, ℕ, ◌+◌, ◌^◌, ◌≤◌, ◌<◌, List, length};
-ghost use Rattle.numerals.specs.Limits.{most_bits, most_suffixes};
-ghost use Rattle.stages.specs.Inner.Nodes.{at, leaves, cut_at, lines_at, joined, node_count, Nodes, height_at};
+ghost use Rattle.std.specs.Prelude.{◌≡◌, ◌+◌, ◌^◌, ◌≤◌, ◌<◌};
+ghost use Rattle.numerals.specs.Limits.{most_bits};
+ghost use Rattle.stages.specs.Inner.Nodes.{at, cut_at, lines_at, joined, height_at};
 
+use crate::tree::Tree;
 use numerals::MOST_SUFFIXES;
 
 pub const NODES: usize = 2 * MOST_SUFFIXES;
@@ -16,11 +17,16 @@ fn join(a: u16, b: u16, same: bool) -> u16
     if same && a + b == 2 { 1 } else { a + b }
 }
 
-// The nodes over the holders of 2^k places, the lowest node last.
-pub fn fill(holder: &[u16], k: usize, held: &mut [u16], lines: &mut [u16])
-    requires k_le_most_bits { (k ≤ most_bits) × (length holder.now ≡ most_suffixes) }
-    requires held_len { (length held.old ≡ node_count) × (length lines.old ≡ node_count) }
-    ensures { Nodes k (at holder.now) 1 held.new lines.new }
+// The nodes over the holders of 2^k places, in two lent heaps, the lowest node last.
+pub fn fill<'a>(
+    holder: &'a [u16; MOST_SUFFIXES],
+    k: usize,
+    held: &'a mut [u16; NODES],
+    lines: &'a mut [u16; NODES],
+) -> Tree<'a>
+    requires { k ≤ most_bits }
+    ensures holder { result.holder.now ≡ holder.now }
+    ensures k { result.k ≡ k }
 {
     let all: usize = 1 << k;
     for i in (1..2 * all).rev() {
@@ -35,52 +41,51 @@ pub fn fill(holder: &[u16], k: usize, held: &mut [u16], lines: &mut [u16])
             lines[i] = n;
         }
     }
+    Tree {
+        holder,
+        k,
+        held,
+        lines,
+    }
 }
 
-// How many lines the stage at place p has, p above 0: up the one path from the last place below p, where what is left of
-// the path is new and what is right of it is old.
-pub fn count_lines(
-    old: &[u16],
-    old_lines: &[u16],
-    new: &[u16],
-    new_lines: &[u16],
-    k: usize,
-    p: usize,
-) -> u16
-    requires k_le_most_bits { (k ≤ most_bits) × ((0 < p) × (p ≤ 2 ^ k)) }
-    requires nodes { Nodes k (leaves k old.now) 1 old.now old_lines.now }
-    requires nodes_2 { Nodes k (leaves k new.now) 1 new.now new_lines.now }
-    ensures { result ≡ lines_at (cut_at p (leaves k old.now) (leaves k new.now)) k 0 }
-{
-    let all: usize = 1 << k;
-    let mut i = all + p - 1;
-    let backend = new[i];
-    let mut n: u16 = 1;
-    // it goes to the node above, and counts no index
-    while 1 < i {
-        if i % 2 == 0 {
-            n = join(n, old_lines[i + 1], backend == old[i + 1]);
-        } else {
-            n = join(n, new_lines[i - 1], backend == new[i - 1]);
+impl Tree<'_> {
+    // How many lines the stage at place p has, p above 0, new below it and old from it on: up the one path from the last place
+    // below p, where what is left of the path is new and what is right of it is old.
+    pub fn count_lines(self, new: Tree, p: usize) -> u16
+        requires { (self.k ≡ new.k) × ((0 < p) × (p ≤ 2 ^ self.k)) }
+        ensures { result ≡ lines_at (cut_at p (at self.entry.holder.now) (at new.entry.holder.now)) self.entry.k 0 }
+    {
+        let all: usize = 1 << self.k;
+        let mut i = all + p - 1;
+        let backend = new.held[i];
+        let mut n: u16 = 1;
+        // it goes to the node above, and counts no index
+        while 1 < i {
+            if i % 2 == 0 {
+                n = join(n, self.lines[i + 1], backend == self.held[i + 1]);
+            } else {
+                n = join(n, new.lines[i - 1], backend == new.held[i - 1]);
+            }
+            i = i / 2;
         }
-        i = i / 2;
+        n
     }
-    n
-}
 
-// The height of the largest node around a place that one backend has.
-pub fn height(lines: &[u16], k: usize, p: usize) -> usize
-    requires { (k ≤ most_bits) × ((p < 2 ^ k) × (length lines.now ≡ node_count)) }
-    ensures few { result ≤ k }
-    ensures height { (g : ℕ → ℕ) (held : List ℕ) → Nodes k g 1 held lines.now → result ≡ height_at g k p }
-{
-    let all: usize = 1 << k;
-    let mut i = all + p;
-    let mut n = 0;
-    // it goes to the node above, and counts no index
-    while 1 < i && lines[i / 2] == 1 {
-        i = i / 2;
-        n += 1;
+    // The height of the largest node around a place that one backend has.
+    pub fn height(self, p: usize) -> usize
+        requires { p < 2 ^ self.k }
+        ensures few { result ≤ self.entry.k }
+        ensures height { result ≡ height_at (at self.entry.holder.now) self.entry.k p }
+    {
+        let all: usize = 1 << self.k;
+        let mut i = all + p;
+        let mut n = 0;
+        // it goes to the node above, and counts no index
+        while 1 < i && self.lines[i / 2] == 1 {
+            i = i / 2;
+            n += 1;
+        }
+        n
     }
-    n
 }

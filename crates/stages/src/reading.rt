@@ -6,14 +6,14 @@ ghost use Rattle.sheets.specs.Calls.{about};
 ghost use Rattle.stages.specs.Inner.Spread.{LoadedAs};
 ghost use Rattle.stages.specs.Inner.Both.{compared, BothAs};
 
-use numerals::{MOST_CAPACITY, Refusal};
+use numerals::{MOST_CAPACITY, MOST_SUFFIXES, Refusal};
 use sheets::Refused;
 
 // The numbers of the largest table, four for each line.
 const CELLS: usize = 4 * MOST_CAPACITY;
 
 // A rule sheet read, and a service's suffixes in it spread over a listing in which nobody has any.
-fn load(text: &[u8], service: usize, holder: &mut [u16]) -> Result<usize, Refused>
+fn load(text: &[u8], service: usize, holder: &mut [u16; MOST_SUFFIXES]) -> Result<usize, Refused>
     requires { holder.old ≡ replicate most_suffixes nobody }
     ensures { LoadedAs text.now service result holder.new }
 {
@@ -53,8 +53,8 @@ pub fn read_both(
     old: &[u8],
     new: &[u8],
     service: usize,
-    before: &mut [u16],
-    after: &mut [u16],
+    before: &mut [u16; MOST_SUFFIXES],
+    after: &mut [u16; MOST_SUFFIXES],
 ) -> Result<usize, Refused>
     requires { (before.old ≡ replicate most_suffixes nobody) × (after.old ≡ replicate most_suffixes nobody) }
     ensures { BothAs old.now new.now service result before.new after.new }

@@ -6,9 +6,9 @@ use Rattle.expansion.specs.FirstMatch.{nobody, is_rule, first_match, share}
 use Rattle.expansion.specs.Steps.{is_whole, oldest}
 use Rattle.expansion.specs.Inner.Lists.{no_rule, newest_first}
 use Rattle.expansion.specs.Inner.OldList.{Proper}
-use Rattle.expansion.specs.Inner.Run.{Valid}
 use Rattle.expansion.specs.declared.rule.Rule.{Rule}
 use Rattle.expansion.specs.declared.list.RuleList.{RuleList}
+use Rattle.expansion.specs.declared.service.Service.{Service}
 
 -- how many suffixes each backend holds, by its place, after `size` of them went from one to another
 abbrev pub passed_on : List ℕ → ℕ → ℕ → ℕ → List ℕ
@@ -51,10 +51,9 @@ pub record LaidTo (k : ℕ) (labels : List ℕ) (R : List Rule) (i : ℕ) (holde
   pub kept : newest_first rules i ≡ oldest i R
   pub before : (j : ℕ) → 1 ≤ j → j < i → Had k labels (oldest j R) (get_or rules j no_rule) (get_or had j 0)
 
--- a start that the run can be taken up from: what was checked, the kept rules in memory, who holds what after them, and how much
-pub record Starts (k tolerance : ℕ) (labels ws : List ℕ) (list : RuleList) (holder shares : List ℕ) (budget : ℕ) : Type 0 where
-  pub valid : Valid k tolerance labels ws
-  pub proper : Proper k labels (newest_first list.rules list.count)
-  pub held : Held k labels (newest_first list.rules list.count) holder shares
+-- a start that the run for a service can be taken up from: the kept rules in memory, who holds what after them, and how much
+pub record Starts (s : Service) (list : RuleList) (holder shares : List ℕ) (budget : ℕ) : Type 0 where
+  pub proper : Proper s.k s.labels.now (newest_first list.rules list.count)
+  pub held : Held s.k s.labels.now (newest_first list.rules list.count) holder shares
   pub within : list.count ≤ budget
   pub few : budget ≤ most_rules

@@ -1,6 +1,5 @@
 -- The list that the program keeps: the rules of a run, the oldest first, and the imbalance after each.
 use Rattle.std.specs.Prelude.{ℕ, zero, suc, ◌+◌, ◌-◌, ◌≤◌, ◌≡◌, List, [], ◌∷◌, length, get_or}
-use Rattle.numerals.specs.Limits.{most_rules}
 use Rattle.expansion.specs.Imbalance.{imbalance}
 use Rattle.expansion.specs.Steps.{Frame, after}
 use Rattle.expansion.specs.declared.rule.Rule.{Rule}
@@ -16,7 +15,6 @@ newest_first rs (suc c) = get_or rs c no_rule ∷ newest_first rs c
 
 -- the list after x turns that each added a rule: the rules, and the imbalance after the start and after each turn
 pub record Listed (F : Frame) (x : ℕ) (list : RuleList) : Type 0 where
-  pub few_rules : list.count ≤ most_rules
   pub count : list.count ≡ length F.start + x
   pub rules : newest_first list.rules list.count ≡ after F x
   pub stairs : (y : ℕ) → y ≤ x → get_or list.stairs (length F.start + y - 1) 0 ≡ imbalance F.targets (after F y)

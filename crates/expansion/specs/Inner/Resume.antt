@@ -1,6 +1,5 @@
 -- What the search for a number of kept rules has found.
-use Rattle.std.specs.Prelude.{ℕ, ◌≤◌, ◌<◌, Bool, true, false, ◌≡◌, List, Option, None, Some, IfSome, MatchOption, ltb}
-use Rattle.numerals.specs.Limits.{most_rules}
+use Rattle.std.specs.Prelude.{ℕ, ◌<◌, Bool, true, false, ◌≡◌, List, Option, None, Some, IfSome, MatchOption, ltb}
 use Rattle.expansion.specs.Imbalance.{Targets}
 use Rattle.expansion.specs.Steps.{Frame, is_within, list_of}
 use Rattle.expansion.specs.FirstMatch.{churn}
@@ -12,7 +11,6 @@ use Rattle.expansion.specs.declared.resuming.Attempt.{Attempt}
 -- an attempt is what its number of kept rules, from 1 on, comes to: the list and the churn
 pub record Comes (T : Targets) (tolerance : ℕ) (old : List Rule) (a : Attempt) : Type 0 where
   pub some : 0 < a.kept
-  pub few : a.list.count ≤ most_rules
   pub rules : newest_first a.list.rules a.list.count ≡ list_kept T tolerance old a.kept
   pub moved : a.churn ≡ churn_kept T tolerance old a.kept
 
@@ -29,7 +27,6 @@ pub record Found (T : Targets) (tolerance : ℕ) (old : List Rule) (best : Optio
 -- the expansion from so many kept rules ended within: its number, its list and its churn from the old list
 pub record Ended (F : Frame) (budget kept : ℕ) (old : List Rule) (a : Attempt) : Type 0 where
   pub within : is_within F (list_of F budget) ≡ true
-  pub few : a.list.count ≤ most_rules
   pub number : a.kept ≡ kept
   pub rules : newest_first a.list.rules a.list.count ≡ list_of F budget
   pub moved : a.churn ≡ churn F.targets.k old (list_of F budget)

@@ -1,6 +1,6 @@
 -- The run of the program, from any start and with any cap: what it keeps after so many turns, and the list that it comes to.
 use Rattle.std.specs.Prelude.{ℕ, suc, ◌-◌, ◌≤◌, ◌<◌, ◌≡◌, List, ◌∷◌, ltb, length, get_or}
-use Rattle.numerals.specs.Limits.{most_bits, most_known, most_rules, most_suffixes, unit}
+use Rattle.numerals.specs.Limits.{most_bits, most_known, most_suffixes, unit}
 use Rattle.numerals.specs.Pick.{pick}
 use Rattle.numerals.specs.Sums.{sum_to}
 use Rattle.expansion.specs.FirstMatch.{nobody, share}
@@ -15,8 +15,10 @@ use Rattle.expansion.specs.declared.rule.Rule.{Rule}
 use Rattle.expansion.specs.declared.rule.Ended.TheVariants.{Budget}
 use Rattle.expansion.specs.declared.run.State.{State}
 use Rattle.expansion.specs.declared.run.Run.{Run}
-use Rattle.expansion.specs.declared.run.Next.{Next}
-use Rattle.expansion.specs.declared.run.Next.TheVariants.{Stop, Go}
+use Rattle.std.specs.declared.ops.ControlFlow.{ControlFlow}
+use Rattle.expansion.specs.declared.rule.Ended.{Ended}
+use Rattle.expansion.specs.declared.rule.Move.{Move}
+use Rattle.std.specs.declared.ops.ControlFlow.TheVariants.{Break, Continue}
 
 -- backends with these labels and weights in parts of the unit
 abbrev pub labelled_by : ℕ → List ℕ → List ℕ → Targets
@@ -54,9 +56,9 @@ pub record Shared (F : Frame) (shares : List ℕ) : Type 0 where
   pub each : (b : ℕ) → b < backends F.targets → get_or shares b 0 ≡ share F.targets.k F.start (label F.targets b)
 
 -- step 5: a move comes after c rules only where the budget has room for one more
-abbrev pub in_budget : Next → ℕ → ℕ → Next
-in_budget (Stop e) c budget = Stop e
-in_budget (Go m) c budget = pick (ltb c budget) (Go m) (Stop Budget)
+abbrev pub in_budget : ControlFlow Ended Move → ℕ → ℕ → ControlFlow Ended Move
+in_budget (Break e) c budget = Break e
+in_budget (Continue m) c budget = pick (ltb c budget) (Continue m) (Break Budget)
 
 -- the state after x turns: the ledger and the holders of the rules so far, their imbalance, and what comes next
 pub record Stands (F : Frame) (x : ℕ) (holder low : List ℕ) (st : State) : Type 0 where
@@ -73,7 +75,6 @@ pub record Adds (F : Frame) (x : ℕ) (r : Rule) : Type 0 where
 
 -- the list of a budget that a run came to: its rules, its stairs from the start on and how it ended
 pub record Made (F : Frame) (budget : ℕ) (r : Run) : Type 0 where
-  pub few_rules : r.list.count ≤ most_rules
   pub rules : newest_first r.list.rules r.list.count ≡ list_of F budget
   pub stairs :
       (c : ℕ) → length F.start ≤ c → c ≤ r.list.count

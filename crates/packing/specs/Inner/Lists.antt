@@ -11,13 +11,9 @@ use Rattle.packing.specs.Table.{rule_budget, frame_of, list_for}
 use Rattle.packing.specs.Answer.{services_of, end_number}
 use Rattle.expansion.specs.declared.rule.Rule.{Rule}
 
--- the places of one service; src/lists.rt has the same names as constants
+-- the places of one service; src/lists.rt has the same name as a constant
 abbrev pub stride : ℕ
 stride = most_rules + 1
-
--- the places of all services
-abbrev pub places : ℕ
-places = stride * most_services
 
 -- place c of service s
 abbrev pub place_of : ℕ → ℕ → ℕ

@@ -2,10 +2,10 @@
 -- and the cells of the table. `proofs/StoredCosts.antt` and `proofs/Written.antt` show that they are those of document 01 where the lists are.
 use Rattle.std.specs.Prelude.{ℕ, zero, suc, ◌-◌, ◌*◌, ◌^◌, ◌≤◌, ◌<◌, min, ◌≡◌, List, [], ◌∷◌, ◌++◌, ltb, length, get_or}
 use Rattle.numerals.specs.Pick.{pick}
-use Rattle.numerals.specs.Limits.{most_services, most_rules, most_capacity, most_volume}
+use Rattle.numerals.specs.Limits.{most_services, most_rules, most_volume}
 use Rattle.numerals.specs.Sums.{sum_to}
 use Rattle.packing.specs.Grants.{Problem, Grants, packed}
-use Rattle.packing.specs.Inner.Lists.{place_of, places}
+use Rattle.packing.specs.Inner.Lists.{place_of}
 
 -- what service s costs at the grant x: its volume × the stair after so many rules; past the end of its list it stays at the last stair
 unfoldable pub stored_cost : List ℕ → List ℕ → List ℕ → ℕ → ℕ → ℕ
@@ -64,12 +64,11 @@ stored_table lines lens values backends zero = []
 stored_table lines lens values backends (suc n) =
     stored_table lines lens values backends n ++ stored_cells lens values backends n (lines n)
 
--- a service whose stairs, before any rule and after each of `count` rules, stand there and are so small that no cost wraps
+-- a service whose stairs, before any rule and after each of `count` rules, are so small that no cost wraps
 pub record Payable (volume : ℕ) (stairs : List ℕ) (s count : ℕ) : Type 0 where
   pub limit : volume ≤ most_volume
   pub service : s < most_services
   pub most : count ≤ most_rules
-  pub stored : length stairs ≡ places
   pub small : (c : ℕ) → c ≤ count → get_or stairs (place_of s c) 0 < 2 ^ 40
 
 -- its stairs fall from a grant on
@@ -79,37 +78,17 @@ pub record Falls (stairs : List ℕ) (s count grant : ℕ) : Type 0 where
 -- all services are so
 pub record AllPayable (volumes stairs counts : List ℕ) : Type 0 where
   pub few : length volumes ≤ most_services
-  pub room : length volumes ≤ length counts
   pub each : (s : ℕ) → s < length volumes → Payable (get_or volumes s 0) stairs s (get_or counts s 0)
 
--- a grant for each service, from which on its stairs fall
-pub record Started (volumes stairs counts grants : List ℕ) : Type 0 where
-  pub room : length volumes ≤ length grants
-  pub each : (s : ℕ) → s < length volumes → Falls stairs s (get_or counts s 0) (get_or grants s 0)
+-- the stairs of n services fall from a first rule on
+pub record AllFalling (n : ℕ) (stairs counts : List ℕ) : Type 0 where
+  pub each : (s : ℕ) → s < n → Falls stairs s (get_or counts s 0) 1
+
+-- each of n services is granted a rule
+pub record AllGranted (n : ℕ) (grants : List ℕ) : Type 0 where
+  pub each : (s : ℕ) → s < n → 0 < get_or grants s 0
 
 -- the grants of the packing over these least grants, and their sum
 pub record Allotted (least : Grants) (capacity : ℕ) (volumes stairs counts grants : List ℕ) (r : ℕ) : Type 0 where
   pub grant : (s : ℕ) → s < length volumes → get_or grants s 0 ≡ packed (stored_problem least capacity volumes stairs counts) s
   pub sum : r ≡ sum_to (length volumes) (packed (stored_problem least capacity volumes stairs counts))
-
--- a grant and the length of its list for each of n services
-pub record Counted (n : ℕ) (grants counts : List ℕ) : Type 0 where
-  pub few : n ≤ most_services
-  pub granted : n ≤ length grants
-  pub listed : n ≤ length counts
-  pub most : (s : ℕ) → s < n → get_or counts s 0 ≤ most_rules
-
--- what is written into the table stands there, and the table has the room
-pub record Tabled (n : ℕ) (grants counts lens values backends : List ℕ) (room : ℕ) : Type 0 where
-  pub counted : Counted n grants counts
-  pub all_lens : length lens ≡ places
-  pub all_values : length values ≡ places
-  pub all_backends : length backends ≡ places
-  pub fits : 4 * sum_to n (stored_lines grants counts) ≤ room
-
--- what is written into both lent buffers stands there: the grants of n services, with so many lines in all
-pub record Writable (n lines : ℕ) (grants counts ends lens values backends : List ℕ) : Type 0 where
-  pub little : lines ≤ most_capacity
-  pub counted : Counted n grants counts
-  pub ended : n ≤ length ends
-  pub tabled : (room : ℕ) → 4 * lines ≤ room → Tabled n grants counts lens values backends room

@@ -3,11 +3,11 @@
 use Rattle.std.specs.Prelude.{ℕ, ◌+◌, ◌*◌, ◌≤◌, ◌<◌, ◌≡◌, List, [], ◌∷◌, ◌++◌, leb, ltb, eqb, length, take, drop, Err, None, Ok, Option, Result, Some}
 use Rattle.numerals.specs.Pick.{pick}
 use Rattle.numerals.specs.Limits.{most_backends, most_id, most_services, unit, decimals}
+use Rattle.numerals.specs.Text.{split}
 use Rattle.numerals.specs.Refusals.{no2, no3, no5, no6}
 use Rattle.sheets.specs.Reading.{Reading, got, refused, then, unless}
 use Rattle.sheets.specs.PercentageSheet.{Sheet, Service, Weights, backend_before, weight_fields, service_fields, service_lines, sum, whole}
 use Rattle.sheets.specs.Calls.{refused_at}
-use Rattle.sheets.specs.Inner.Fields.{lines_at}
 use Rattle.sheets.specs.Inner.FirstLine.{RefusedAs}
 use Rattle.sheets.specs.declared.percentage_sheet.Head.{Head}
 use Rattle.sheets.specs.declared.percentage_sheet.Backend.{Backend}
@@ -78,19 +78,18 @@ abbrev pub ServiceOf : Result ℕ Refusal → List ℕ → List ℕ → List ℕ
 ServiceOf (Ok n) vs vs' ids ids' ws ws' at i fs = Served vs vs' ids ids' ws ws' at i fs n
 ServiceOf (Err why) vs vs' ids ids' ws ws' at i fs = service_fields decimals unit i fs ≡ refused why (i + 2)
 
--- the line of service i, the one at position `start`, was read and stored; the next one begins at `next`
-pub record Followed (text vs vs' ids ids' ws ws' : List ℕ) (at i start count next : ℕ) : Type 0 where
+-- the line of service i, the first of these, was read and stored; `behind` is what stands behind it
+pub record Followed (lines vs vs' ids ids' ws ws' : List ℕ) (at i count : ℕ) (behind : List ℕ) : Type 0 where
   pub service : Service
   pub read :
-      service_lines decimals unit i (lines_at text start)
-      ≡ then (service_lines decimals unit (i + 1) (lines_at text next)) (λ ss. got (service ∷ ss))
-  pub after : start < next
-  pub within : next ≤ length text
+      service_lines decimals unit i (split 10 lines)
+      ≡ then (service_lines decimals unit (i + 1) (split 10 behind)) (λ ss. got (service ∷ ss))
+  pub shorter : length behind < length lines
   pub stored : Stored service vs vs' ids ids' ws ws' at i count
 
-abbrev pub LineOf : Result ServiceLine Refusal → List ℕ → List ℕ → List ℕ → List ℕ → List ℕ → List ℕ → List ℕ → ℕ → ℕ → ℕ → Type 0
-LineOf (Ok l) text vs vs' ids ids' ws ws' at i start = Followed text vs vs' ids ids' ws ws' at i start l.count l.next
-LineOf (Err why) text vs vs' ids ids' ws ws' at i start = service_lines decimals unit i (lines_at text start) ≡ refused why (i + 2)
+abbrev pub LineOf : Result ServiceLine Refusal → List ℕ → List ℕ → List ℕ → List ℕ → List ℕ → List ℕ → List ℕ → ℕ → ℕ → Type 0
+LineOf (Ok l) lines vs vs' ids ids' ws ws' at i = Followed lines vs vs' ids ids' ws ws' at i l.count l.behind.now
+LineOf (Err why) lines vs vs' ids ids' ws ws' at i = service_lines decimals unit i (split 10 lines) ≡ refused why (i + 2)
 
 -- how many numbers each service has, and all of them in one row
 unfoldable pub sizes_of : List (List ℕ) → List ℕ

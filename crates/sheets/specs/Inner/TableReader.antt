@@ -1,6 +1,5 @@
 -- What the reader of the rule sheet answers and keeps: the table in numbers, four of each line, and the lines so far.
 use Rattle.std.specs.Prelude.{ℕ, ◌+◌, ◌*◌, ◌≡◌, true, List, [], ◌∷◌, reverse, ltb, length, take, Err, Ok, Result}
-use Rattle.numerals.specs.Limits.{most_capacity}
 use Rattle.expansion.specs.FirstMatch.{first_match}
 use Rattle.packing.specs.Count.{Line as RuleOf, own_rules}
 use Rattle.packing.specs.Answer.{cells}
@@ -11,7 +10,7 @@ use Rattle.sheets.specs.Inner.TableNumbers.{line, table_in}
 use Rattle.sheets.specs.Inner.Order.{Behind}
 use Rattle.sheets.specs.declared.order.Last.{Last}
 use Rattle.sheets.specs.declared.rule_sheet.TableHead.{TableHead}
-use Rattle.sheets.specs.declared.rule_sheet.RuleLine.{RuleLine}
+use Rattle.sheets.specs.declared.rule_lines.RuleLine.{RuleLine}
 use Rattle.numerals.specs.declared.refusal.Refusal.{Refusal}
 use Rattle.sheets.specs.declared.answer.Refused.{Refused}
 
@@ -46,7 +45,6 @@ LineAs (Err why) k fs = (before : List RuleOf) (at : ℕ) → rule_fields k befo
 pub record Passed (k : ℕ) (before : List RuleOf) (last : Last) (tally table : List ℕ) : Type 0 where
   pub behind : Behind before last tally
   pub checked : check_lines k [] (reverse before) ≡ got before
-  pub room : length table ≡ 4 * most_capacity
   pub stored : take (4 * length before) table ≡ cells (reverse before)
 
 -- one line more

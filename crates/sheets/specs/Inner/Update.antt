@@ -7,6 +7,7 @@ use Rattle.packing.specs.Answer.{chunks}
 use Rattle.sheets.specs.PercentageSheet.{Sheet}
 use Rattle.sheets.specs.Calls.{about, refused_at}
 use Rattle.sheets.specs.declared.percentage_sheet.Head.{Head}
+use Rattle.sheets.specs.declared.held_sheet.HeldSheet.{HeldSheet}
 use Rattle.sheets.specs.declared.answer.UpdateRecord.{UpdateRecord}
 use Rattle.sheets.specs.declared.answer.Refused.{Refused}
 
@@ -33,3 +34,6 @@ sheet_in h sizes named row =
       ids = chunks sizes named;
       weights = chunks sizes row;
     }
+
+abbrev pub sheet_of : HeldSheet → Sheet
+sheet_of s = sheet_in s.head s.sizes.now s.ids.now s.weights.now

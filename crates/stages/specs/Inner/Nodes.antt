@@ -6,12 +6,9 @@ use Rattle.numerals.specs.Suffix.{place}
 use Rattle.numerals.specs.Sums.{all_to, largest_to}
 use Rattle.expansion.specs.declared.rule.Rule.{Rule}
 
--- the backends of a listing by place, and of the last level of a heap
+-- the backends of a listing by place
 abbrev pub at : List ℕ → ℕ → ℕ
 at holder p = get_or holder p 0
-
-abbrev pub leaves : ℕ → List ℕ → ℕ → ℕ
-leaves k held p = get_or held (2 ^ k + p) 0
 
 -- the backends of a stage: new below a place, old from it on
 unfoldable pub cut_at : ℕ → (ℕ → ℕ) → (ℕ → ℕ) → ℕ → ℕ

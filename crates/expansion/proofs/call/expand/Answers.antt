@@ -42,11 +42,17 @@ passed : (c : In_ok-check_call)
     a.ids.now a.weights.now ≡ Ok tt
 passed c = sym c.check_call.ensures ∙ c.in_ok-check_call.was
 
+pub invariant_of-service : goal.invariant_of-service
+invariant_of-service c =
+    let a = c.args in
+    let v = call-passed a.k a.tolerance a.budget a.ids.now a.weights.now (passed (goal.at.invariant_of-service c).In_ok-check_call) in
+    record { valid = v.0; ascending = v.4 }
+
 pub make_list-made-requires : goal.make_list-made-requires
 make_list-made-requires c =
     let a = c.args in
-    let v = call-passed a.k a.tolerance a.budget a.ids.now a.weights.now (passed c) in
-    (v.0, (v.1, v.2))
+    let v = call-passed a.k a.tolerance a.budget a.ids.now a.weights.now (passed (goal.at.make_list-made-requires c).In_ok-check_call) in
+    (v.1, v.2)
 
 -- the test is one of the shortest buffer
 room-is : (c : After-has_room) → c.has_room.result ≡ leb (c.args.at + c.make_list-made.result.list.count) (room (goal.at.After-has_room c).Start)
@@ -79,7 +85,7 @@ fits c =
 pub copy_out-requires : goal.copy_out-requires
 copy_out-requires c =
     let f = fits (goal.at.copy_out-requires c).Else-not-has_room in
-    (c.make_list-made.ensures.made.few_rules, (omega arith, (omega arith, (omega arith, omega arith))))
+    (omega arith, (omega arith, (omega arith, omega arith)))
 
 -- the arrays of the list
 rules-long : (c : After-make_list-made) → length c.make_list-made.result.list.rules ≡ most_rules
@@ -94,8 +100,8 @@ returns c =
     let a = c.args in
     let r = c.make_list-made.result in
     let M = c.make_list-made.ensures.made in
-    let rules : r.list.count ≤ length r.list.rules = omega (arith, rules-long (goal.at.returns c).After-make_list-made, M.few_rules) in
-    let stairs : r.list.count ≤ length r.list.stairs = omega (arith, stairs-long (goal.at.returns c).After-make_list-made, M.few_rules) in
+    let rules : r.list.count ≤ length r.list.rules = omega (arith, rules-long (goal.at.returns c).After-make_list-made, r.list.few) in
+    let stairs : r.list.count ≤ length r.list.stairs = omega (arith, stairs-long (goal.at.returns c).After-make_list-made, r.list.few) in
     let column : (f : Rule → ℕ)
     → map f (take r.list.count r.list.rules) ≡ map f (reverse (list_made a.k a.tolerance a.budget a.ids.now a.weights.now)) =
     λ f. made-column a.k a.tolerance a.budget a.ids.now a.weights.now r M f rules in

@@ -28,16 +28,16 @@ loop-p-init c = (omega arith, omega (arith, sum-none (λ (i : ℕ). pick (differ
 
 -- the place is one of all
 inside : (c : In-loop-p) → c.loop-p.p < 2 ^ c.args.k
-inside c = omega (arith, shifted c.args.k c.requires.0)
+inside c = omega (arith, shifted c.args.k c.requires)
 
 below : (c : In-loop-p) → c.loop-p.p < most_suffixes
-below c = omega (arith, inside c, pow-few c.args.k c.requires.0)
+below c = omega (arith, inside c, pow-few c.args.k c.requires)
 
 pub bounds-before-p : goal.bounds-before-p
-bounds-before-p c = omega (arith, below (goal.at.bounds-before-p c).In-loop-p, c.requires.1.0)
+bounds-before-p c = omega (arith, below (goal.at.bounds-before-p c).In-loop-p)
 
 pub bounds-after-p : goal.bounds-after-p
-bounds-after-p c = omega (arith, below (goal.at.bounds-after-p c).In-loop-p, c.requires.1.1)
+bounds-after-p c = omega (arith, below (goal.at.bounds-after-p c).In-loop-p)
 
 pub overflow_add-same : goal.overflow_add-same
 overflow_add-same c = omega (arith, below (goal.at.overflow_add-same c).In-loop-p, c.loop-p.invariant.1)
@@ -57,18 +57,18 @@ loop-p-preserved c =
 pub overflow_cast-result : goal.overflow_cast-result
 overflow_cast-result c =
     let l = c.loop-p in
-    omega (arith, pow-few c.args.k c.requires.0, l.invariant.0, l.invariant.1)
+    omega (arith, pow-few c.args.k c.requires, l.invariant.0, l.invariant.1)
 
 -- all places were looked at
 all_seen : (c : After-loop-p) → c.loop-p.p ≡ 2 ^ c.args.k
-all_seen c = omega (arith, shifted c.args.k c.requires.0)
+all_seen c = omega (arith, shifted c.args.k c.requires)
 
 pub overflow_sub-result : goal.overflow_sub-result
-overflow_sub-result c = omega (arith, shifted c.args.k c.requires.0, all_seen c, c.loop-p.invariant.1)
+overflow_sub-result c = omega (arith, shifted c.args.k c.requires, all_seen c, c.loop-p.invariant.1)
 
 pub returns : goal.returns
 returns c =
     let a = c.args in
     let test = differs a.before.now a.after.now in
     let same : count_to c.loop-p.p test ≡ count_to (2 ^ a.k) test = ap (λ (n : ℕ). count_to n test) (all_seen c) in
-    omega (arith, shifted a.k c.requires.0, all_seen c, c.loop-p.invariant.1, same)
+    omega (arith, shifted a.k c.requires, all_seen c, c.loop-p.invariant.1, same)

@@ -24,9 +24,6 @@ size_is s = shifted s.args.m.index (omega arith)
 all-is : (s : Start) → 2 ^ (s.args.k - s.args.m.index) * 2 ^ s.args.m.index ≤ most_suffixes
 all-is s = omega (arith, pow-split s.args.m.index s.args.k s.requires.k_le_most_bits.1.0, pow-few s.args.k s.requires.k_le_most_bits.0)
 
-pub overflow_cast-from : goal.overflow_cast-from
-overflow_cast-from c = omega (arith, c.slice_known-3-1.given c.args.m.giver)
-
 -- a node of more than two suffixes has a multiple of four
 fours : (i : ℕ) → 2 < 2 ^ i → 2 ^ i % 4 ≡ 0
 fours zero l = absurd (omega arith)
@@ -65,7 +62,7 @@ overflow_mul-at c = rw (size_is (goal.at.overflow_mul-at c).Start) (omega (arith
 
 pub give-requires : goal.give-requires
 give-requires c =
-    rw (size_is (goal.at.give-requires c).Start) (omega (arith, inside (goal.at.give-requires c).After-lowest_whole-node, c.requires.holder_len.0))
+    rw (size_is (goal.at.give-requires c).Start) (omega (arith, inside (goal.at.give-requires c).After-lowest_whole-node))
 
 pub overflow_add-at : goal.overflow_add-at
 overflow_add-at c =
@@ -89,9 +86,8 @@ note_lows-requires c =
       ),
     )
 
-pub suffix_at-value-requires : goal.suffix_at-value-requires
-suffix_at-value-requires c =
-    (omega arith, (omega (arith, found (goal.at.suffix_at-value-requires c).After-lowest_whole-node, c.requires.low_bound), c.requires.holder_len.1.1))
+pub suffix-value-requires : goal.suffix-value-requires
+suffix-value-requires c = (omega arith, omega (arith, found (goal.at.suffix-value-requires c).After-lowest_whole-node, c.requires.low_bound))
 
 pub returns : goal.returns
 returns c =
@@ -105,5 +101,5 @@ returns c =
           subst (λ (x : ℕ). c.note_lows.new.low ≡ lowered a.low.now a.m.giver a.m.receiver (x * 2 ^ i) (x * 2 ^ i + 2 ^ i))
           (found (goal.at.returns c).After-lowest_whole-node)
           (simp (size_is (goal.at.returns c).Start) at c.note_lows.ensures);
-      is = c.suffix_at-value.ensures ∙ ap (place (a.k - i)) (found (goal.at.returns c).After-lowest_whole-node);
+      is = c.suffix-value.ensures ∙ ap (place (a.k - i)) (found (goal.at.returns c).After-lowest_whole-node);
     }

@@ -25,15 +25,17 @@ copied-long n m xs front out few e long less = rw e (omega (arith, length-append
 pub loop-i-init : goal.loop-i-init
 loop-i-init c =
     let a = c.args in
-    let K = c.requires.knowable in
+    let K = c.requires in
     let n = length a.ids.now in
     let k = c.copy_from_slice.new.self in
     let w = c.copy_from_slice-2.new.self in
     let none = rules-end a.old.now (length a.old.now / 3) (omega arith) in
     let less : n ≤ most_known = omega (arith, K.few_ids) in
+    let known-long : length a.known.now ≡ most_known = omega arith in
+    let wanted-long : length a.wanted.now ≡ most_known = omega arith in
     rw none (knows-first a.ids.now a.weights.now _ _ K.above K.paired (
-      copied-long n most_known a.ids.now k a.known.now refl c.copy_from_slice.ensures.after c.requires.known_len.0 less,
-      copied-long n most_known a.weights.now w a.wanted.now (sym K.paired) c.copy_from_slice-2.ensures.after c.requires.known_len.1 less,
+      copied-long n most_known a.ids.now k a.known.now refl c.copy_from_slice.ensures.after known-long less,
+      copied-long n most_known a.weights.now w a.wanted.now (sym K.paired) c.copy_from_slice-2.ensures.after wanted-long less,
     )
     (copied n a.ids.now k a.known.now refl c.copy_from_slice.ensures.after)
     (copied n a.weights.now w a.wanted.now (sym K.paired) c.copy_from_slice-2.ensures.after))
@@ -45,12 +47,12 @@ named q =
     let i : ℕ = q.loop-i.i - 1 in
     let inside : i < length cs / 3 = omega arith in
     let is : get_or (rules_from cs) i no_rule ≡ q.rule_at-rule.result = rule-is cs i inside ∙ sym q.rule_at-rule.ensures in
-    subst (λ (r : Rule). 1 ≤ r.backend) is (q.requires.knowable.named i (omega (arith, rules-count cs)))
+    subst (λ (r : Rule). 1 ≤ r.backend) is (q.requires.named i (omega (arith, rules-count cs)))
 
 room : (q : After-rule_at-rule) → q.loop-i.count < most_known
 room q =
     let cs = q.args.old.now in
-    let K = q.requires.knowable in
+    let K = q.requires in
     omega (
       arith,
       q.loop-i.invariant.inside,

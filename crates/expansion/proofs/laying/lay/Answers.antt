@@ -15,19 +15,19 @@ use Rattle.expansion.specs.Inner.OldList.{Known}
 use Rattle.expansion.specs.Inner.Sound.{Lengths}
 use Rattle.expansion.specs.declared.rule.Rule.{Rule}
 use Rattle.expansion.proofs.FirstMatch.{rule-short}
-use Rattle.expansion.proofs.LaidRules.{placed, at-inside, had-first, lay-passable, held-laid}
+use Rattle.expansion.proofs.LaidRules.{ascends, placed, at-inside, had-first, lay-passable, held-laid}
 use Rattle.expansion.proofs.laying.lay.Goals as goal
 use Rattle.expansion.proofs.laying.lay.Goals.{After-place_of-to, Start}
 
 module _ (s : Start) where
   abbrev k : ℕ
-  k = s.args.k
+  k = s.args.service.now.k
 
   abbrev rule : Rule
   rule = s.args.rule
 
   abbrev ids : List ℕ
-  ids = s.args.ids.now
+  ids = s.args.service.now.labels.now
 
   abbrev holder : List ℕ
   holder = s.args.holder.now
@@ -36,13 +36,13 @@ module _ (s : Start) where
   shares = s.args.shares.now
 
   few : k ≤ most_bits
-  few = s.requires.k_le_most_bits.0
+  few = s.args.service.now.valid.few_bits
 
   ascending : Ascending ids
-  ascending = s.requires.k_le_most_bits.1.0
+  ascending = ascends s.args.service.now
 
   known : Known k ids rule
-  known = s.requires.k_le_most_bits.1.1.0
+  known = s.requires.known
 
   short : rule.len ≤ k
   short = rule-short k rule known.rule
@@ -74,13 +74,7 @@ to_is c =
     c.place_of-to.ensures ∙ ap (place_in (rule (goal.at.After-place_of-to c).Start).backend) (take-length (ids (goal.at.After-place_of-to c).Start))
 
 pub first_place-at-requires : goal.first_place-at-requires
-first_place-at-requires c = (
-  few (goal.at.first_place-at-requires c).Start,
-  (
-    (known (goal.at.first_place-at-requires c).Start).rule,
-    c.requires.k_le_most_bits.1.1.1,
-  ),
-)
+first_place-at-requires c = c.requires.known.rule
 
 pub offset_bounds-holder-at : goal.offset_bounds-holder-at
 offset_bounds-holder-at c = omega (arith, c.first_place-at.ensures, small (goal.at.offset_bounds-holder-at c).Start)

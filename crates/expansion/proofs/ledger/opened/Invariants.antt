@@ -9,4 +9,4 @@ use Rattle.expansion.proofs.ledger.opened.Given as goal
 abbrev pub invariant-loop-b : goal.invariant-loop-b
 invariant-loop-b l =
     (length l.ledger.at ≡ most_known)
-    × ((i : ℕ) → i < l.b → entry_at l.ledger i ≡ entry_of unit l.k (get_or l.weights i 0) (get_or l.shares i 0))
+    × ((i : ℕ) → i < l.b → entry_at l.ledger i ≡ entry_of unit l.service.k (get_or l.service.weights.now i 0) (get_or l.shares i 0))

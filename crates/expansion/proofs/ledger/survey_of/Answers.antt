@@ -4,6 +4,7 @@ use mathlib.Core.Bool.{true, false}
 use mathlib.Core.Path.{◌≡◌, sym, ap, ◌∙◌}
 use native.Mathlib.Omega.{arith}
 use lib.IntN.{ℤ, pos, neg_ℤ, nat_abs, ◌-ℤ◌, +ℤ_idl}
+use lib.ListN.{length}
 use lib.Signed.{mag, lt_z}
 use mir.Syntax.{w64}
 use mir.Val.{to_z, of_z}
@@ -36,10 +37,10 @@ module _ (c : In-loop-b) where
   e = error_at c.args.ledger b
 
   small : Small e
-  small = c.requires.by_index b (omega arith)
+  small = c.requires b (omega arith)
 
   few : (i : ℕ) → i ≤ b → excess i ≤ 2 ^ 50
-  few i m = omega (arith, over-mag (error_at c.args.ledger i), (c.requires.by_index i (omega arith)).small)
+  few i m = omega (arith, over-mag (error_at c.args.ledger i), (c.requires i (omega arith)).small)
 
   read : to_z w64 (of_z w64 e) ≡ e
   read = small-read e small
@@ -93,11 +94,12 @@ loop-b-preserved c =
 pub returns : goal.returns
 returns c =
     let L = c.args.ledger in
-    let n = c.args.n in
+    let s = c.args.service.now in
+    let n = length s.weights.now in
     let inv = c.loop-b.invariant in
     let e : c.loop-b.b ≡ n = omega arith in
     record {
-      give = inv.0 ∙ ap (top (λ i. over (error_at L i))) e ∙ top-largest L n false c.requires.n_nonzero.0;
-      take = inv.1 ∙ ap (top (λ i. under (error_at L i))) e ∙ top-largest L n true c.requires.n_nonzero.0;
+      give = inv.0 ∙ ap (top (λ i. over (error_at L i))) e ∙ top-largest L n false s.valid.someone;
+      take = inv.1 ∙ ap (top (λ i. under (error_at L i))) e ∙ top-largest L n true s.valid.someone;
       imbalance = inv.2 ∙ rw e;
     }

@@ -3,13 +3,13 @@ use Prim.Native.Nat.{ℕ, ◌≤◌}
 use mathlib.Core.List.{List, map}
 use mathlib.Core.Path.{◌≡◌, ap₂, sym, subst}
 use native.Mathlib.Omega.{arith}
-use lib.ListN.{take, length-replicate}
+use lib.ListN.{take}
 use lib.Seq.{length-take-le}
 use Rattle.numerals.specs.Limits.{most_known}
 use Rattle.expansion.specs.Imbalance.{Targets}
 use Rattle.expansion.specs.Known.{known_ids, weight_of, targets_known}
 use Rattle.expansion.specs.OldList.{rules_from}
-use Rattle.expansion.specs.Inner.Known.{Ascending}
+use Rattle.expansion.specs.Inner.Known.{Above}
 use Rattle.expansion.specs.Inner.OldList.{Proper}
 use Rattle.expansion.specs.Inner.Resume.{Found}
 use Rattle.expansion.specs.Inner.Run.{labelled_by, Valid}
@@ -32,11 +32,7 @@ module _ (s : Start) where
   passed = old-passed s.args.k s.args.tolerance s.args.old.now ids ws s.requires
 
 pub know-n-requires : goal.know-n-requires
-know-n-requires c =
-    record {
-      knowable = (passed (goal.at.know-n-requires c).Start).knowable;
-      known_len = (length-replicate {A = ℕ} most_known 0, length-replicate {A = ℕ} most_known 0);
-    }
+know-n-requires c = (passed (goal.at.know-n-requires c).Start).knowable
 
 -- what is known
 module _ (n : After-know-n) where
@@ -51,27 +47,36 @@ module _ (n : After-know-n) where
   abbrev weights : List ℕ
   weights = take n.know-n.result n.know-n.new.wanted
 
-  handed : Valid n.args.k n.args.tolerance labels weights × (Ascending labels × Proper n.args.k labels (R (goal.at.After-know-n n).Start))
-  handed =
-      let P = passed (goal.at.After-know-n n).Start in
-      rw (n.know-n.ensures.labels, n.know-n.ensures.weighed) (P.valid, (P.ascending, P.proper))
+  valid : Valid n.args.k n.args.tolerance labels weights
+  valid = rw (n.know-n.ensures.labels, n.know-n.ensures.weighed) (passed (goal.at.After-know-n n).Start).valid
+
+  ascending : Above 0 labels
+  ascending = rw (n.know-n.ensures.labels) (passed (goal.at.After-know-n n).Start).ascending.above
+
+  proper : Proper n.args.k labels (R (goal.at.After-know-n n).Start)
+  proper = rw (n.know-n.ensures.labels) (passed (goal.at.After-know-n n).Start).proper
 
 pub slice_bounds-known-end : goal.slice_bounds-known-end
 slice_bounds-known-end c = omega (arith, few (goal.at.slice_bounds-known-end c).After-know-n, c.know-n.ensures.long.0)
 
-pub slice_bounds-search-end : goal.slice_bounds-search-end
-slice_bounds-search-end c =
-    sym (length-take-le c.know-n.result c.know-n.new.known (omega (arith, few (goal.at.slice_bounds-search-end c).After-know-n, c.know-n.ensures.long.0)))
+pub slice_bounds-service-end : goal.slice_bounds-service-end
+slice_bounds-service-end c =
+    sym (length-take-le c.know-n.result c.know-n.new.known (omega (arith, few (goal.at.slice_bounds-service-end c).After-know-n, c.know-n.ensures.long.0)))
 
 pub slice_bounds-wanted-end : goal.slice_bounds-wanted-end
 slice_bounds-wanted-end c = omega (arith, few (goal.at.slice_bounds-wanted-end c).After-know-n, c.know-n.ensures.long.1)
 
-pub slice_bounds-search-end-2 : goal.slice_bounds-search-end-2
-slice_bounds-search-end-2 c =
-    sym (length-take-le c.know-n.result c.know-n.new.wanted (omega (arith, few (goal.at.slice_bounds-search-end-2 c).After-know-n, c.know-n.ensures.long.1)))
+pub slice_bounds-service-end-2 : goal.slice_bounds-service-end-2
+slice_bounds-service-end-2 c =
+    sym (length-take-le c.know-n.result c.know-n.new.wanted (omega (arith, few (goal.at.slice_bounds-service-end-2 c).After-know-n, c.know-n.ensures.long.1)))
+
+pub invariant_of-service : goal.invariant_of-service
+invariant_of-service c =
+    let n = (goal.at.invariant_of-service c).After-know-n in
+    record { valid = valid n; ascending = ascending n }
 
 pub search-requires : goal.search-requires
-search-requires c = handed (goal.at.search-requires c).After-know-n
+search-requires c = proper (goal.at.search-requires c).After-know-n
 
 pub returns : goal.returns
 unfolding targets_known

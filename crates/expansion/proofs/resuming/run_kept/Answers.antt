@@ -10,7 +10,8 @@ use Rattle.expansion.specs.KeptShares.{SharesKept}
 use Rattle.expansion.specs.Resume.{cap_from, frame_from}
 use Rattle.expansion.specs.Inner.Holders.{Holds}
 use Rattle.expansion.specs.Inner.Lists.{newest_first, Listed}
-use Rattle.expansion.specs.Inner.Run.{labelled_by, framed, Fits, Shared, Stands, Made}
+use Rattle.expansion.specs.Inner.Run.{Fits, Shared, Stands, Made}
+use Rattle.expansion.specs.Inner.Service.{targets_for, frame_for}
 use Rattle.expansion.specs.Inner.Laying.{Starts}
 use Rattle.expansion.specs.declared.rule.Rule.{Rule}
 use Rattle.expansion.specs.declared.list.RuleList.{RuleList}
@@ -28,33 +29,33 @@ module _ (s : Start) where
   kept = newest_first list.rules list.count
 
   abbrev starts :
-      Starts s.args.k s.args.tolerance s.args.ids.now s.args.weights.now list s.args.holder.now s.args.shares.now s.args.budget
-  starts = s.requires.0
+      Starts s.args.service.now list s.args.holder.now s.args.shares.now s.args.budget
+  starts = s.requires
 
   some : 1 ≤ list.count
   some =
-      some-kept s.args.k s.args.tolerance s.args.ids.now s.args.weights.now list s.args.holder.now s.args.shares.now
+      some-kept s.args.service.now list s.args.holder.now s.args.shares.now
       s.args.budget starts
 
   few : list.count ≤ most_rules
   few = omega (arith, starts.within, starts.few)
 
   abbrev F : Frame
-  F = framed s.args.k (cap_from s.args.k kept) s.args.tolerance s.args.ids.now s.args.weights.now kept
+  F = frame_for s.args.service.now (cap_from s.args.service.now.k kept) kept
 
   fitting : Fits F
   fitting =
-      fits s.args.k s.args.tolerance s.args.ids.now s.args.weights.now list s.args.holder.now s.args.shares.now s.args.budget
+      fits s.args.service.now list s.args.holder.now s.args.shares.now s.args.budget
       starts
 
   sharing : Shared F s.args.shares.now
   sharing =
-      shared s.args.k s.args.tolerance s.args.ids.now s.args.weights.now list s.args.holder.now s.args.shares.now s.args.budget
+      shared s.args.service.now list s.args.holder.now s.args.shares.now s.args.budget
       starts
 
-  holding : Holds (labelled_by s.args.k s.args.ids.now s.args.weights.now) kept s.args.holder.now no_lows
+  holding : Holds (targets_for s.args.service.now) kept s.args.holder.now no_lows
   holding =
-      holds s.args.k s.args.tolerance s.args.ids.now s.args.weights.now list s.args.holder.now s.args.shares.now s.args.budget
+      holds s.args.service.now list s.args.holder.now s.args.shares.now s.args.budget
       starts
 
   -- the arrays of the list
@@ -67,11 +68,8 @@ module _ (s : Start) where
 pub cap_from-cap-requires : goal.cap_from-cap-requires
 cap_from-cap-requires c =
     let a = c.args in
-    record {
-      le_k = ((starts (goal.at.cap_from-cap-requires c).Start).valid.some_bits, few (goal.at.cap_from-cap-requires c).Start);
-      count_bound = longest-few a.k a.tolerance a.ids.now a.weights.now (list (goal.at.cap_from-cap-requires c).Start) a.holder.now a.shares.now a.budget
-          (starts (goal.at.cap_from-cap-requires c).Start);
-    }
+    longest-few a.service.now (list (goal.at.cap_from-cap-requires c).Start) a.holder.now a.shares.now a.budget
+    (starts (goal.at.cap_from-cap-requires c).Start)
 
 pub overflow_sub-last : goal.overflow_sub-last
 overflow_sub-last c = some (goal.at.overflow_sub-last c).Start
@@ -91,14 +89,13 @@ bounds-list-last c = omega (
 -- the start
 module _ (c : After-cap_from-cap) where
   abbrev G : ℕ → Frame
-  G x = framed c.args.k x c.args.tolerance c.args.ids.now c.args.weights.now (kept (goal.at.After-cap_from-cap c).Start)
+  G x = frame_for c.args.service.now x (kept (goal.at.After-cap_from-cap c).Start)
 
   here : (P : Frame → Type 0) → P (F (goal.at.After-cap_from-cap c).Start) → P (G c.cap_from-cap.result)
   here P = subst (λ (x : ℕ). P (G x)) (sym c.cap_from-cap.ensures)
 
 pub begin-state-requires : goal.begin-state-requires
 begin-state-requires c = (
-  c.args.ids.now,
   kept (goal.at.begin-state-requires c).Start,
   (
     here (goal.at.begin-state-requires c).After-cap_from-cap Fits
@@ -128,21 +125,22 @@ module _ (c : After-begin-state) where
   abbrev begun : State
   begun = c.begin-state.result
 
-  abbrev full : RuleList
-  full = record { rules = (list s).rules; stairs = set (list s).stairs ((list s).count - 1) begun.imbalance; count = (list s).count }
+  abbrev full : (list s).count ≤ most_rules → RuleList
+  full few = record { rules = (list s).rules; stairs = set (list s).stairs ((list s).count - 1) begun.imbalance; count = (list s).count; few = few }
 
   stands : Stands (G (goal.at.After-begin-state c).After-cap_from-cap c.cap_from-cap.result) 0 s.args.holder.now no_lows begun
   stands =
-      c.begin-state.ensures.stands s.args.ids.now (kept s) s.args.holder.now no_lows (here (goal.at.After-begin-state c).After-cap_from-cap Fits (fitting s))
+      c.begin-state.ensures.stands s.args.service.now.labels.now (kept s) s.args.holder.now no_lows
+      (here (goal.at.After-begin-state c).After-cap_from-cap Fits (fitting s))
       (here (goal.at.After-begin-state c).After-cap_from-cap (λ E. Shared E s.args.shares.now) (sharing s)) (holding s) (starts s).held.wide
       (length-replicate {A = ℕ} most_known 0)
 
-  listing : Listed (G (goal.at.After-begin-state c).After-cap_from-cap c.cap_from-cap.result) 0 full
+  listing : (few : (list s).count ≤ most_rules) → Listed (G (goal.at.After-begin-state c).After-cap_from-cap c.cap_from-cap.result) 0 (full few)
   unfolding after
-  listing =
-      here (goal.at.After-begin-state c).After-cap_from-cap (λ E. Listed E 0 full)
-      (listed s.args.k s.args.tolerance s.args.ids.now s.args.weights.now (list s) s.args.holder.now s.args.shares.now
-      s.args.budget (starts s) begun.imbalance stands.stair (stairs-long s))
+  listing few =
+      here (goal.at.After-begin-state c).After-cap_from-cap (λ E. Listed E 0 (full few))
+      (listed s.args.service.now (list s) s.args.holder.now s.args.shares.now
+      s.args.budget (starts s) few begun.imbalance stands.stair (stairs-long s))
 
 pub go_on-requires : goal.go_on-requires
 go_on-requires c =
@@ -154,11 +152,10 @@ go_on-requires c =
         kept a,
         (
           stands (goal.at.go_on-requires c).After-begin-state,
-          listing
-              (goal.at.go_on-requires c).After-begin-state,
+          listing (goal.at.go_on-requires c).After-begin-state _,
         ),
       );
-      count_le_budget = ((starts a).within, ((starts a).few, a.requires.1));
+      count_le_budget = ((starts a).within, (starts a).few);
     }
 
 pub returns : goal.returns
@@ -171,7 +168,7 @@ returns c =
     Made E a.args.budget run × (SharesKept E.targets (list_of E a.args.budget) (list a).count (begun (goal.at.returns c).After-begin-state).ledger run.kept
     × Holds E.targets (list_of E a.args.budget) c.go_on.new.holder low) in
     let made : Q (G (goal.at.returns c).After-cap_from-cap c.cap_from-cap.result) = c.go_on.ensures c.cap_from-cap.result 0 (kept a)
-    (stands (goal.at.returns c).After-begin-state) (listing (goal.at.returns c).After-begin-state) in
+    (stands (goal.at.returns c).After-begin-state) (listing (goal.at.returns c).After-begin-state _) in
     let r : Q (F a) = subst (λ (x : ℕ). Q (G (goal.at.returns c).After-cap_from-cap x)) c.cap_from-cap.ensures made in
     record {
       made = r.0;

@@ -2,7 +2,7 @@
 use Prim.Native.Nat.{ℕ, suc, ◌-◌, ◌/◌, ◌≤◌, ◌<◌}
 use mathlib.Core.Bool.{true, false}
 use mathlib.Core.List.{List, ◌∷◌}
-use mathlib.Core.Path.{◌≡◌, refl, ap, sym, ◌∙◌, subst}
+use mathlib.Core.Path.{◌≡◌, ap, sym, ◌∙◌, subst}
 use native.Mathlib.Omega.{arith}
 use lib.ListN.{length, get_or}
 use lib.Seq.{take-length}
@@ -18,36 +18,35 @@ use Rattle.expansion.specs.Inner.Known.{place_in, Ascending}
 use Rattle.expansion.specs.Inner.Laying.{Placed, Held, Had, LaidTo}
 use Rattle.expansion.specs.Inner.Lists.{no_rule, newest_first}
 use Rattle.expansion.specs.Inner.OldList.{rule_at, Known, Proper}
-use Rattle.expansion.specs.Inner.Run.{labelled_by, Valid}
+use Rattle.expansion.specs.Inner.Run.{Valid}
+use Rattle.expansion.specs.Inner.Service.{targets_for}
 use Rattle.expansion.specs.declared.rule.Rule.{Rule}
+use Rattle.expansion.specs.declared.list.RuleList.{RuleList}
 use Rattle.expansion.specs.declared.resuming.Attempt.{Attempt}
 use Rattle.expansion.proofs.KeptBest.{BestAbove, best-passes, best-taken, best-stays, found_all, found-free}
 use Rattle.expansion.proofs.KeptSearch.{Searched, held_first, next_known, newest-is, newest-held, laid-less}
 use Rattle.expansion.proofs.KeptSearch.{searched-none, starts-at, tried_here}
-use Rattle.expansion.proofs.LaidRules.{placed}
+use Rattle.expansion.proofs.LaidRules.{ascends, placed}
 use Rattle.expansion.proofs.OldNumbers.{rules-count}
 use Rattle.expansion.proofs.resuming.search.Goals as goal
 use Rattle.expansion.proofs.resuming.search.Goals.{After-place_of-first, After-rule_at-star, At-loop-left, Start}
 use Rattle.expansion.proofs.resuming.search.Goals.{in-Some+then-is_better+else-churn-eq0, in-Some+else-is_better, in_default}
 
 module _ (s : Start) where
-  abbrev ws : List ℕ
-  ws = s.args.weights.now
-
   abbrev cs : List ℕ
   cs = s.args.old.now
 
   abbrev ids : List ℕ
-  ids = s.args.ids.now
+  ids = s.args.service.now.labels.now
 
-  valid : Valid s.args.k s.args.tolerance ids ws
-  valid = s.requires.0
+  valid : Valid s.args.service.now.k s.args.service.now.tolerance ids s.args.service.now.weights.now
+  valid = s.args.service.now.valid
 
   ascending : Ascending ids
-  ascending = s.requires.1.0
+  ascending = ascends s.args.service.now
 
-  proper : Proper s.args.k ids (rules_from cs)
-  proper = s.requires.1.1
+  proper : Proper s.args.service.now.k ids (rules_from cs)
+  proper = s.requires
 
   someone : 0 < length cs / 3
   someone = omega (arith, rules-count cs, proper.some)
@@ -63,21 +62,23 @@ module _ (q : After-rule_at-star) where
   abbrev star : Rule
   star = q.rule_at-star.result
 
-  star-known : Known q.args.k (ids (goal.at.After-rule_at-star q).Start) star
+  star-known : Known q.args.service.now.k (ids (goal.at.After-rule_at-star q).Start) star
   star-known =
       let e : length (cs (goal.at.After-rule_at-star q).Start) / 3 - 1 - 0 ≡ length (cs (goal.at.After-rule_at-star q).Start) / 3 - 1 = omega arith in
-      subst (Known q.args.k (ids (goal.at.After-rule_at-star q).Start)) (ap (rule_at (cs (goal.at.After-rule_at-star q).Start)) e ∙ sym q.rule_at-star.ensures)
-      (next_known q.args.k (ids (goal.at.After-rule_at-star q).Start) (cs (goal.at.After-rule_at-star q).Start) (proper (goal.at.After-rule_at-star q).Start)
-      0 (proper (goal.at.After-rule_at-star q).Start).some)
+      subst (Known q.args.service.now.k (ids (goal.at.After-rule_at-star q).Start))
+      (ap (rule_at (cs (goal.at.After-rule_at-star q).Start)) e ∙ sym q.rule_at-star.ensures)
+      (next_known q.args.service.now.k (ids (goal.at.After-rule_at-star q).Start) (cs (goal.at.After-rule_at-star q).Start)
+      (proper (goal.at.After-rule_at-star q).Start) 0 (proper (goal.at.After-rule_at-star q).Start).some)
 
 -- the place of its backend
 star-placed : (c : After-place_of-first)
-    → Placed c.args.k (ids (goal.at.After-place_of-first c).Start) (star (goal.at.After-place_of-first c).After-rule_at-star) c.place_of-first.result
+    → Placed c.args.service.now.k (ids (goal.at.After-place_of-first c).Start) (star (goal.at.After-place_of-first c).After-rule_at-star)
+    c.place_of-first.result
 star-placed c =
-    subst (Placed c.args.k (ids (goal.at.After-place_of-first c).Start) (star (goal.at.After-place_of-first c).After-rule_at-star))
+    subst (Placed c.args.service.now.k (ids (goal.at.After-place_of-first c).Start) (star (goal.at.After-place_of-first c).After-rule_at-star))
     (sym (c.place_of-first.ensures ∙ ap (place_in (star (goal.at.After-place_of-first c).After-rule_at-star).backend)
     (take-length (ids (goal.at.After-place_of-first c).Start))))
-    (placed (ids (goal.at.After-place_of-first c).Start) (ascending (goal.at.After-place_of-first c).Start) c.args.k
+    (placed (ids (goal.at.After-place_of-first c).Start) (ascending (goal.at.After-place_of-first c).Start) c.args.service.now.k
     (star (goal.at.After-place_of-first c).After-rule_at-star) (star-known (goal.at.After-place_of-first c).After-rule_at-star))
 
 last : (c : After-place_of-first) → c.place_of-first.result < most_known
@@ -98,15 +99,9 @@ bounds-shares-first c = last c
 pub lay_all-laid-requires : goal.lay_all-laid-requires
 lay_all-laid-requires c =
     record {
-      k_le_most_bits = (
-        (valid (goal.at.lay_all-laid-requires c).Start).few_bits,
-        (
-          ascending (goal.at.lay_all-laid-requires c).Start,
-          (proper (goal.at.lay_all-laid-requires c).Start, c.all_places-places.ensures),
-        ),
-      );
-      held = rw (shifted c.args.k (valid (goal.at.lay_all-laid-requires c).Start).few_bits)
-          (held_first c.args.k (ids (goal.at.lay_all-laid-requires c).Start) (cs (goal.at.lay_all-laid-requires c).Start)
+      proper = proper (goal.at.lay_all-laid-requires c).Start;
+      held = rw (shifted c.args.service.now.k (valid (goal.at.lay_all-laid-requires c).Start).few_bits)
+          (held_first c.args.service.now.k (ids (goal.at.lay_all-laid-requires c).Start) (cs (goal.at.lay_all-laid-requires c).Start)
           (valid (goal.at.lay_all-laid-requires c).Start).few_bits (ascending (goal.at.lay_all-laid-requires c).Start)
           (proper (goal.at.lay_all-laid-requires c).Start) (star (goal.at.lay_all-laid-requires c).After-rule_at-star) c.rule_at-star.ensures
           c.place_of-first.result
@@ -118,7 +113,7 @@ loop-left-init c =
     let s = (goal.at.loop-left-init c).Start in
     let laid = c.lay_all-laid in (
       omega (arith, laid.ensures.count, rules-count (cs s)),
-      searched-none c.args.k c.args.tolerance (ids s) (ws s) (cs s) (proper s) laid.new.holder laid.new.shares laid.result.list laid.result.had
+      searched-none c.args.service.now (cs s) laid.new.holder laid.new.shares laid.result.list laid.result.had
           laid.ensures.count laid.ensures.laid,
     )
 
@@ -131,7 +126,7 @@ module _ (l : At-loop-left) where
   R = rules_from (cs s)
 
   abbrev T : Targets
-  T = labelled_by s.args.k (ids s) (ws s)
+  T = targets_for s.args.service.now
 
   abbrev count : ℕ
   count = l.loop-left.list.count
@@ -139,48 +134,49 @@ module _ (l : At-loop-left) where
   abbrev had : List ℕ
   had = l.lay_all-laid.result.had
 
-  abbrev here : Searched s.args.k s.args.tolerance (ids s) (ws s) (cs s) l.lay_all-laid.new.holder l.loop-left.holder l.loop-left.shares l.loop-left.list had
+  abbrev here : Searched s.args.service.now (cs s) l.lay_all-laid.new.holder l.loop-left.holder l.loop-left.shares l.loop-left.list had
       l.loop-left.best
   here = l.loop-left.invariant.1
 
-pub try_kept-tried-requires-clause-starts : goal.try_kept-tried-requires-clause-starts
-try_kept-tried-requires-clause-starts c =
-    let l = (goal.at.try_kept-tried-requires-clause-starts c).At-loop-left in
-    let s = (goal.at.At-loop-left l).Start in (
-      starts-at s.args.k s.args.tolerance (ids s) (ws s) (cs s) (valid s) (proper s) c.loop-left.holder c.loop-left.shares c.loop-left.list (had l)
-          (here l).laid,
-      c.all_places-places.ensures,
-    )
+pub try_kept-tried-requires : goal.try_kept-tried-requires
+try_kept-tried-requires c =
+    let l = (goal.at.try_kept-tried-requires c).At-loop-left in
+    let s = (goal.at.At-loop-left l).Start in
+    starts-at s.args.service.now (cs s) (proper s) c.loop-left.holder c.loop-left.shares c.loop-left.list (had l)
+    (here l).laid
 
 -- the best with the try that was made
 module _ (l : At-loop-left) where
   abbrev Told : Option Attempt → Type 0
-  Told tried = (old : List Rule) (held : List ℕ) → Held l.args.k (ids (s l)) old l.lay_all-laid.new.holder held
-      → Tried (frame_from (T l) l.args.tolerance (newest_first l.loop-left.list.rules (count l))) (length (cs (s l)) / 3) (count l) old tried
+  Told tried = (old : List Rule) (held : List ℕ) → Held l.args.service.now.k (ids (s l)) old l.lay_all-laid.new.holder held
+      → Tried (frame_from (T l) l.args.service.now.tolerance (newest_first l.loop-left.list.rules (count l))) (length (cs (s l)) / 3) (count l) old tried
 
   abbrev Next : Option Attempt → Type 0
-  Next = BestAbove (T l) l.args.tolerance (R l) (count l - 1)
+  Next = BestAbove (T l) l.args.service.now.tolerance (R l) (count l - 1)
 
-  told : (tried : Option Attempt) → Told tried → Tried (frame_kept (T l) l.args.tolerance (R l) (count l)) (length (R l)) (count l) (R l) tried
+  told : (tried : Option Attempt) → Told tried → Tried (frame_kept (T l) l.args.service.now.tolerance (R l) (count l)) (length (R l)) (count l) (R l) tried
   told tried M =
-      tried_here l.args.k l.args.tolerance (ids (s l)) (ws (s l)) (cs (s l)) (valid (s l)) (proper (s l)) l.loop-left.holder l.loop-left.shares
+      tried_here l.args.service.now (cs (s l)) (proper (s l)) l.loop-left.holder l.loop-left.shares
       l.loop-left.list (had l) (here l).laid tried (M (R l) (here l).full.0 (here l).full.1)
 
   taken : (tried : Attempt) → Told (Some tried) → is_lower tried.churn l.loop-left.best ≡ true → Next (Some tried)
   taken tried M =
-      best-taken (T l) l.args.tolerance (R l) (count l) (here l).laid.some (here l).laid.inside l.loop-left.best (here l).above tried (told (Some tried) M)
+      best-taken (T l) l.args.service.now.tolerance (R l) (count l) (here l).laid.some (here l).laid.inside l.loop-left.best (here l).above tried
+      (told (Some tried) M)
 
   stays : (tried : Attempt) → Told (Some tried) → is_lower tried.churn l.loop-left.best ≡ false → Next l.loop-left.best
   stays tried M =
-      best-stays (T l) l.args.tolerance (R l) (count l) (here l).laid.some (here l).laid.inside l.loop-left.best (here l).above tried (told (Some tried) M)
+      best-stays (T l) l.args.service.now.tolerance (R l) (count l) (here l).laid.some (here l).laid.inside l.loop-left.best (here l).above tried
+      (told (Some tried) M)
 
   passes : Told None → Next l.loop-left.best
-  passes M = best-passes (T l) l.args.tolerance (R l) (count l) (here l).laid.some (here l).laid.inside l.loop-left.best (here l).above (told None M)
+  passes M =
+      best-passes (T l) l.args.service.now.tolerance (R l) (count l) (here l).laid.some (here l).laid.inside l.loop-left.best (here l).above (told None M)
 
 pub returns-then-churn-eq0 : goal.returns-then-churn-eq0
 returns-then-churn-eq0 c =
     let l = (goal.at.returns-then-churn-eq0 c).At-loop-left in
-    found-free (T l) c.args.tolerance (R l) (count l - 1) c.in-Some.tried (taken l c.in-Some.tried c.in-Some.ensures (sym c.if-is_better.ensures))
+    found-free (T l) c.args.service.now.tolerance (R l) (count l - 1) c.in-Some.tried (taken l c.in-Some.tried c.in-Some.ensures (sym c.if-is_better.ensures))
     c.if-churn-eq0.true
 
 pub returns-then-left-eq0 : goal.returns-then-left-eq0
@@ -193,7 +189,7 @@ returns-then-left-eq0 c =
       | in-Some+else-is_better w ↦ subst (Next l) (sym w.best-is) (stays l w.in-Some.tried w.in-Some.ensures (sym w.if-is_better.ensures))
       | in_default w ↦ subst (Next l) (sym w.best-is) (passes l w.in_default.ensures)
     ] in
-    found_all (T l) c.args.tolerance (R l) (count l - 1) c.match-tried.best next (omega (arith, c.loop-left.invariant.0, c.if-left-eq0.true))
+    found_all (T l) c.args.service.now.tolerance (R l) (count l - 1) c.match-tried.best next (omega (arith, c.loop-left.invariant.0, c.if-left-eq0.true))
 
 -- a rule that is taken back, where another is left
 module _ (l : At-loop-left) (i : ℕ) (is-next : count l ≡ suc i) (some : 1 ≤ i) where
@@ -203,22 +199,24 @@ module _ (l : At-loop-left) (i : ℕ) (is-next : count l ≡ suc i) (some : 1 �
   abbrev rs : List Rule
   rs = oldest i (R l)
 
-  laid : LaidTo l.args.k (ids (s l)) (R l) (suc i) l.loop-left.holder l.loop-left.shares l.loop-left.list.rules (had l)
-  laid = subst (λ (n : ℕ). LaidTo l.args.k (ids (s l)) (R l) n l.loop-left.holder l.loop-left.shares l.loop-left.list.rules (had l)) is-next (here l).laid
+  laid : LaidTo l.args.service.now.k (ids (s l)) (R l) (suc i) l.loop-left.holder l.loop-left.shares l.loop-left.list.rules (had l)
+  laid =
+      subst (λ (n : ℕ). LaidTo l.args.service.now.k (ids (s l)) (R l) n l.loop-left.holder l.loop-left.shares l.loop-left.list.rules (had l))
+      is-next (here l).laid
 
-  newest-known : Known l.args.k (ids (s l)) newest
+  newest-known : Known l.args.service.now.k (ids (s l)) newest
   newest-known =
-      subst (Known l.args.k (ids (s l)))
-      (sym (newest-is l.args.k (ids (s l)) (cs (s l)) (proper (s l)) i l.loop-left.holder l.loop-left.shares l.loop-left.list.rules (had l)
+      subst (Known l.args.service.now.k (ids (s l)))
+      (sym (newest-is l.args.service.now.k (ids (s l)) (cs (s l)) (proper (s l)) i l.loop-left.holder l.loop-left.shares l.loop-left.list.rules (had l)
       l.loop-left.holder l.loop-left.shares laid))
-      (next_known l.args.k (ids (s l)) (cs (s l)) (proper (s l)) i laid.inside)
+      (next_known l.args.service.now.k (ids (s l)) (cs (s l)) (proper (s l)) i laid.inside)
 
-  held : Held l.args.k (ids (s l)) (newest ∷ rs) l.loop-left.holder l.loop-left.shares
+  held : Held l.args.service.now.k (ids (s l)) (newest ∷ rs) l.loop-left.holder l.loop-left.shares
   held =
-      newest-held l.args.k (ids (s l)) (cs (s l)) (proper (s l)) i l.loop-left.holder l.loop-left.shares l.loop-left.list.rules (had l)
+      newest-held l.args.service.now.k (ids (s l)) (cs (s l)) (proper (s l)) i l.loop-left.holder l.loop-left.shares l.loop-left.list.rules (had l)
       l.loop-left.holder l.loop-left.shares laid
 
-  before : Had l.args.k (ids (s l)) rs newest (get_or (had l) i 0)
+  before : Had l.args.service.now.k (ids (s l)) rs newest (get_or (had l) i 0)
   before = laid.before i some (omega arith)
 
 pub take_back-requires : goal.take_back-requires
@@ -228,9 +226,12 @@ take_back-requires c =
     let some : 1 ≤ i = omega (arith, c.if-left-eq0.false) in
     let is-next : count l ≡ suc i = omega (arith, c.loop-left.invariant.0) in
     record {
-      by_index = (ids (s l), rs l i is-next some, (ascending (s l), (held l i is-next some, before l i is-next some)));
-      k_le_most_bits = ((valid (s l)).few_bits, ((newest-known l i is-next some).rule, c.all_places-places.ensures));
+      by_index = (rs l i is-next some, (held l i is-next some, before l i is-next some));
+      formed = (newest-known l i is-next some).rule;
     }
+
+pub keep-requires : goal.keep-requires
+keep-requires c = omega (arith, c.loop-left.invariant.0)
 
 pub loop-left-preserved : goal.loop-left-preserved
 loop-left-preserved c =
@@ -248,13 +249,15 @@ loop-left-preserved c =
     ] in
     let h' = c.take_back.new.holder in
     let s' = c.take_back.new.shares in
-    let less = c.take_back.ensures (ids (s l)) (rs l i is-next some) (ascending (s l)) (held l i is-next some) (before l i is-next some) in (
-      refl,
-      record {
-        laid =
-            laid-less l.args.k (ids (s l)) (cs (s l)) (proper (s l)) i l.loop-left.holder l.loop-left.shares l.loop-left.list.rules (had l) h' s'
-            (laid l i is-next some) some less;
-        full = (here l).full;
-        above = subst (λ (n : ℕ). BestAbove (T l) l.args.tolerance (R l) n c.match-tried.best) one-less next;
-      },
+    let less = c.take_back.ensures (ids (s l)) (rs l i is-next some) (ascending (s l)) (held l i is-next some) (before l i is-next some) in
+    let e = c.keep.ensures.1 in (
+      ap (λ (t : RuleList). t.count) e,
+      subst (λ (t : RuleList). Searched l.args.service.now (cs (s l)) l.lay_all-laid.new.holder h' s' t (had l) c.match-tried.best) (sym e)
+          (record {
+            laid =
+                laid-less l.args.service.now.k (ids (s l)) (cs (s l)) (proper (s l)) i l.loop-left.holder l.loop-left.shares l.loop-left.list.rules (had l) h' s'
+                (laid l i is-next some) some less;
+            full = (here l).full;
+            above = subst (λ (n : ℕ). BestAbove (T l) l.args.service.now.tolerance (R l) n c.match-tried.best) one-less next;
+          }),
     )

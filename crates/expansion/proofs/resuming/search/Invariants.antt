@@ -5,4 +5,4 @@ use Rattle.expansion.proofs.resuming.search.Given as goal
 
 abbrev pub invariant-loop-left : goal.invariant-loop-left
 invariant-loop-left l =
-    (l.list.count ≡ l.left) × Searched l.k l.tolerance l.ids l.weights l.old l.whole l.holder l.shares l.list l.had l.best
+    (l.list.count ≡ l.left) × Searched l.service l.old l.whole l.holder l.shares l.list l.had l.best

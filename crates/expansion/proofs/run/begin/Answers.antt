@@ -4,7 +4,7 @@ use mathlib.Core.List.{List}
 use mathlib.Core.Path.{◌≡◌, refl, ◌∙◌}
 use native.Mathlib.Omega.{arith}
 use lib.ListN.{length, get_or}
-use Rattle.numerals.specs.Limits.{most_suffixes, unit}
+use Rattle.numerals.specs.Limits.{most_suffixes}
 use Rattle.expansion.specs.Steps.{Frame}
 use Rattle.expansion.specs.Imbalance.{backends, label, weight}
 use Rattle.expansion.specs.KeptShares.{Keeps}
@@ -13,7 +13,7 @@ use Rattle.expansion.specs.Inner.Terms.{next_of}
 use Rattle.expansion.specs.Inner.Run.{framed, Fits, Shared}
 use Rattle.expansion.specs.declared.rule.Rule.{Rule}
 use Rattle.numerals.proofs.Powers.{pow-few}
-use Rattle.expansion.proofs.Bounds.{share-le, weight-le}
+use Rattle.expansion.proofs.Bounds.{share-le}
 use Rattle.expansion.proofs.Surveys.{surveyed-sized, surveyed-next}
 use Rattle.expansion.proofs.Turning.{small, someone, keeps-start, stands-start}
 use Rattle.expansion.proofs.run.begin.Goals as goal
@@ -21,27 +21,20 @@ use Rattle.expansion.proofs.run.begin.Goals.{After-decide, After-opened-ledger, 
 
 -- the frame of labels and a start
 abbrev at : Start → List ℕ → List Rule → Frame
-at s labels start = framed s.args.k s.args.cap s.args.tolerance labels s.args.weights.now start
+at s labels start = framed s.args.service.now.k s.args.cap s.args.service.now.tolerance labels s.args.service.now.weights.now start
 
 -- the one that is known to be there
 abbrev frame : Start → Frame
-frame s = at s s.requires.0 s.requires.1
-
-each-weight : (s : Start) (b : ℕ) → get_or s.args.weights.now b 0 ≤ unit
-unfolding weight
-each-weight s = weight-le (frame s) s.requires.2.0.sound
+frame s = at s s.args.service.now.labels.now s.requires.0
 
 each-share : (s : Start) (b : ℕ) → b < backends (frame s).targets → get_or s.args.shares.now b 0 ≤ most_suffixes
 each-share s b l =
-    omega (arith, s.requires.2.1.each b l, share-le s.args.k s.requires.1 (label (frame s).targets b), pow-few s.args.k s.requires.2.0.few_bits)
+    let k = s.args.service.now.k in
+    omega (arith, s.requires.1.1.each b l, share-le k s.requires.0 (label (frame s).targets b), pow-few k s.requires.1.0.few_bits)
 
 pub opened-ledger-requires : goal.opened-ledger-requires
 unfolding backends
-opened-ledger-requires c =
-    record {
-      k_le_most_bits = (c.requires.2.0.few_bits, (c.requires.2.0.few, c.requires.2.1.long));
-      by_index = λ b l. (each-weight (goal.at.opened-ledger-requires c).Start b, each-share (goal.at.opened-ledger-requires c).Start b l);
-    }
+opened-ledger-requires c = each-share (goal.at.opened-ledger-requires c).Start
 
 module _ (c : After-opened-ledger) where
   keeps : (labels : List ℕ) (start : List Rule) → Fits (at (goal.at.After-opened-ledger c).Start labels start) → Shared
@@ -51,39 +44,35 @@ module _ (c : After-opened-ledger) where
   keeps labels start fits shared = keeps-start (at (goal.at.After-opened-ledger c).Start labels start) fits c.args.shares.now shared c.opened-ledger.result
       c.opened-ledger.ensures
 
-  smalls : (b : ℕ) → b < length c.args.weights.now → Small (error_at c.opened-ledger.result b)
+  smalls : (b : ℕ) → b < length c.args.service.now.weights.now → Small (error_at c.opened-ledger.result b)
   unfolding backends
-  smalls = small (frame (goal.at.After-opened-ledger c).Start) c.requires.2.0 c.requires.1 c.opened-ledger.result
-      (keeps c.requires.0 c.requires.1 c.requires.2.0 c.requires.2.1)
+  smalls = small (frame (goal.at.After-opened-ledger c).Start) c.requires.1.0 c.requires.0 c.opened-ledger.result
+      (keeps c.args.service.now.labels.now c.requires.0 c.requires.1.0 c.requires.1.1)
 
-  some : 0 < length c.args.weights.now
+  some : 0 < length c.args.service.now.weights.now
   unfolding backends
-  some = someone (frame (goal.at.After-opened-ledger c).Start) c.requires.2.0
+  some = someone (frame (goal.at.After-opened-ledger c).Start) c.requires.1.0
 
 pub survey_of-seen-requires : goal.survey_of-seen-requires
 unfolding backends
-survey_of-seen-requires c =
-    record {
-      n_nonzero = (some c, c.requires.2.0.few);
-      by_index = smalls c;
-    }
+survey_of-seen-requires c = smalls c
 
 pub decide-requires : goal.decide-requires
 decide-requires c =
-    let f = c.requires.2.0 in
+    let f = c.requires.1.0 in
     record {
-      k_le_most_bits = (f.few_bits, (f.tolerable, omega (arith, f.few_bits, f.sound.below)));
-      sized = surveyed-sized c.opened-ledger.result (length c.args.weights.now) c.survey_of-seen.result c.survey_of-seen.ensures
+      cap_le_most_bits = omega (arith, f.few_bits, f.sound.below);
+      sized = surveyed-sized c.opened-ledger.result (length c.args.service.now.weights.now) c.survey_of-seen.result c.survey_of-seen.ensures
           (some (goal.at.decide-requires c).After-opened-ledger) (smalls (goal.at.decide-requires c).After-opened-ledger);
     }
 
 next-is : (c : After-decide)
-    → let a = c.args in
-    c.decide.result ≡ next_of c.opened-ledger.result (length a.weights.now) a.k a.tolerance a.cap
+    → let s = c.args.service.now in
+    c.decide.result ≡ next_of c.opened-ledger.result (length s.weights.now) s.k s.tolerance c.args.cap
 next-is c =
-    let a = c.args in
-    c.decide.ensures ∙ surveyed-next c.opened-ledger.result (length a.weights.now) c.survey_of-seen.result c.survey_of-seen.ensures a.k a.tolerance
-    a.cap
+    let s = c.args.service.now in
+    let seen = c.survey_of-seen in
+    c.decide.ensures ∙ surveyed-next c.opened-ledger.result (length s.weights.now) seen.result seen.ensures s.k s.tolerance c.args.cap
 
 pub returns : goal.returns
 unfolding backends

@@ -17,13 +17,15 @@ use Rattle.expansion.specs.Inner.Ledger.{over, Sized}
 use Rattle.expansion.specs.Inner.Terms.{Best, next_for}
 use Rattle.expansion.specs.declared.rule.Ended.TheVariants.{Within, NoGain}
 use Rattle.expansion.specs.declared.ledger.Extreme.{Extreme}
-use Rattle.expansion.specs.declared.run.Next.{Next}
-use Rattle.expansion.specs.declared.run.Next.TheVariants.{Stop, Go}
 use Rattle.numerals.proofs.Powers.{shifted}
 use Rattle.expansion.proofs.Reduction.{reduction-le}
 use Rattle.expansion.proofs.Signed.{back, plain, wants-few}
 use Rattle.expansion.proofs.run.decide.Goals as goal
 use Rattle.expansion.proofs.run.decide.Goals.{After-best_term-term, Start, else-o-slack-via-then-o-slack+else-u-slack, else-o-slack-via-else-o-slack}
+use Rattle.std.specs.declared.ops.ControlFlow.{ControlFlow}
+use Rattle.expansion.specs.declared.rule.Ended.{Ended}
+use Rattle.expansion.specs.declared.rule.Move.{Move}
+use Rattle.std.specs.declared.ops.ControlFlow.TheVariants.{Break, Continue}
 
 -- a size as the machine has it
 read : (e : Extreme) → Sized e → to_z w64 (of_z w64 e.size) ≡ pos (over e.size)
@@ -31,6 +33,12 @@ read e S =
     ap (λ (x : ℤ). to_z w64 (of_z w64 x)) S.natural ∙ back (pos (over e.size)) (omega (arith, S.few))
 
 module _ (z : Start) where
+  abbrev k : ℕ
+  k = z.args.service.now.k
+
+  abbrev tolerance : ℕ
+  tolerance = z.args.service.now.tolerance
+
   abbrev o : ℕ
   o = over z.args.give.size
 
@@ -38,20 +46,20 @@ module _ (z : Start) where
   u = over z.args.take.size
 
   abbrev slack : ℕ
-  slack = z.args.tolerance * 2 ^ z.args.k
+  slack = z.args.service.now.tolerance * 2 ^ z.args.service.now.k
 
   slack-few : slack < 2 ^ 40
-  slack-few = wants-few z.args.tolerance z.args.k (omega arith) (omega arith)
+  slack-few = wants-few z.args.service.now.tolerance z.args.service.now.k z.args.service.now.valid.tolerable z.args.service.now.valid.few_bits
 
   -- a test against the slack
   test : (e : Extreme) → Sized e
-      → le_z (to_z w64 (of_z w64 e.size)) (to_z w64 (z.args.tolerance * (1 * 2 ^ z.args.k % 18446744073709551616))) ≡ leb (over e.size) slack
-  test e S = rw (shifted z.args.k (omega arith), plain slack (omega (arith, slack-few)), read e S)
+      → le_z (to_z w64 (of_z w64 e.size)) (to_z w64 (tolerance * (1 * 2 ^ k % 18446744073709551616))) ≡ leb (over e.size) slack
+  test e S = rw (shifted z.args.service.now.k z.args.service.now.valid.few_bits, plain slack (omega (arith, slack-few)), read e S)
 
-  o-test : le_z (to_z w64 (of_z w64 z.args.give.size)) (to_z w64 (z.args.tolerance * (1 * 2 ^ z.args.k % 18446744073709551616))) ≡ leb o slack
+  o-test : le_z (to_z w64 (of_z w64 z.args.give.size)) (to_z w64 (tolerance * (1 * 2 ^ k % 18446744073709551616))) ≡ leb o slack
   o-test = test z.args.give z.requires.sized.0
 
-  u-test : le_z (to_z w64 (of_z w64 z.args.take.size)) (to_z w64 (z.args.tolerance * (1 * 2 ^ z.args.k % 18446744073709551616))) ≡ leb u slack
+  u-test : le_z (to_z w64 (of_z w64 z.args.take.size)) (to_z w64 (tolerance * (1 * 2 ^ k % 18446744073709551616))) ≡ leb u slack
   u-test = test z.args.take z.requires.sized.1
 
   -- the term of the greatest reduction, and what comes next
@@ -61,23 +69,27 @@ module _ (z : Start) where
   abbrev index : ℕ
   index = lastmax gain z.args.cap
 
-  abbrev next : Next
-  next = next_for z.args.give z.args.take z.args.k z.args.tolerance z.args.cap
+  abbrev next : ControlFlow Ended Move
+  next = next_for z.args.give z.args.take z.args.service.now.k z.args.service.now.tolerance z.args.cap
 
-  next-within : leb o slack ≡ true → leb u slack ≡ true → next ≡ Stop Within
+  next-within : leb o slack ≡ true → leb u slack ≡ true → next ≡ Break Within
   unfolding next_for
   next-within p q = rw (p, q)
 
   next-else : both (leb o slack) (leb u slack) ≡ false
-      → next ≡ pick (eqb (gain index) 0) (Stop NoGain) (Go (record { giver = z.args.give.backend; receiver = z.args.take.backend; index = index }))
+      → next ≡ pick (eqb (gain index) 0) (Break NoGain) (Continue (record { giver = z.args.give.backend; receiver = z.args.take.backend; index = index }))
   unfolding next_for
   next-else p = rw p
 
 pub overflow_mul-slack : goal.overflow_mul-slack
-overflow_mul-slack c = rw (shifted c.args.k (omega arith)) (record { fits = omega (arith, slack-few c) })
+overflow_mul-slack c =
+    rw (shifted c.args.service.now.k c.args.service.now.valid.few_bits)
+    (record { fits = omega (arith, slack-few (goal.at.overflow_mul-slack c).Start) })
 
 pub overflow_cast-slack : goal.overflow_cast-slack
-overflow_cast-slack c = rw (shifted c.args.k (omega arith)) (record { sfits = omega (arith, slack-few c) })
+overflow_cast-slack c =
+    rw (shifted c.args.service.now.k c.args.service.now.valid.few_bits)
+    (record { sfits = omega (arith, slack-few (goal.at.overflow_cast-slack c).Start) })
 
 pub returns-then-u-slack : goal.returns-then-u-slack
 returns-then-u-slack c =

@@ -7,7 +7,8 @@ use Rattle.numerals.specs.Limits.{most_rules}
 use Rattle.expansion.specs.Steps.{Frame, after}
 use Rattle.expansion.specs.KeptShares.{SharesKept}
 use Rattle.expansion.specs.Inner.Lists.{Listed}
-use Rattle.expansion.specs.Inner.Run.{framed, Stands}
+use Rattle.expansion.specs.Inner.Run.{Stands}
+use Rattle.expansion.specs.Inner.Service.{frame_for}
 use Rattle.expansion.specs.declared.rule.Rule.{Rule}
 use Rattle.expansion.specs.declared.list.RuleList.{RuleList}
 use Rattle.expansion.specs.declared.run.State.{State}
@@ -24,10 +25,10 @@ pub record After (F : Frame) (x : ℕ) (holder low : List ℕ) (st : State) (lis
 
 abbrev pub invariant-loop-ended : goal.invariant-loop-ended
 invariant-loop-ended l =
-    ((cap x : ℕ) (start : List Rule) → After (framed l.k cap l.tolerance l.labels l.weights start) x l.initial.holder l.initial.low l.initial.state
+    ((cap x : ℕ) (start : List Rule) → After (frame_for l.service cap start) x l.initial.holder l.initial.low l.initial.state
     l.initial.list
-    → (y : ℕ) × After (framed l.k cap l.tolerance l.labels l.weights start) y l.holder l.low l.state l.list
-    × Kept (framed l.k cap l.tolerance l.labels l.weights start) y l.initial.list l.initial.state l.state)
+    → (y : ℕ) × After (frame_for l.service cap start) y l.holder l.low l.state l.list
+    × Kept (frame_for l.service cap start) y l.initial.list l.initial.state l.state)
     × ((l.list.count ≤ l.budget) × ((length l.list.rules ≡ most_rules) × (length l.list.stairs ≡ most_rules)))
 
 abbrev pub decreases-loop-ended : goal.decreases-loop-ended

@@ -22,7 +22,7 @@ kept f best b e l = rw add-one (e ∙ sym (argmax-kept f b (omega (arith, ap f e
 pub loop-b-preserved : goal.loop-b-preserved
 loop-b-preserved c =
     let l = c.loop-b in
-    let at : ℕ → ℕ = λ j. get_or c.args.weights.now j 0 in
+    let at : ℕ → ℕ = λ j. get_or c.args.service.now.weights.now j 0 in
     elim c.if-weights-best.branch [
       | then-weights-best w ↦ (omega arith, w.best-is ∙ taken at l.best l.b l.invariant.1 w.if-weights-best.true)
       | else-weights-best w ↦ (omega arith, w.best-is ∙ kept at l.best l.b l.invariant.1 w.if-weights-best.false)

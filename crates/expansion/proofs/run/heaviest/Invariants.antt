@@ -7,4 +7,4 @@ use Rattle.expansion.proofs.run.heaviest.Given as goal
 
 abbrev pub invariant-loop-b : goal.invariant-loop-b
 invariant-loop-b l =
-    (l.best < l.b) × (l.best ≡ argmax (λ j. get_or l.weights j 0) l.b)
+    (l.best < l.b) × (l.best ≡ argmax (λ j. get_or l.service.weights.now j 0) l.b)

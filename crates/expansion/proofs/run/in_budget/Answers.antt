@@ -3,24 +3,26 @@ use Prim.Native.Nat.{ℕ, ◌<◌}
 use mathlib.Core.Path.{◌≡◌, refl, sym, ap, ◌∙◌}
 use borrow.Author.Tests.{lt-ltb, le-ltb}
 use Rattle.expansion.specs.Inner.Run.{in_budget}
-use Rattle.expansion.specs.declared.run.Next.{Next}
-use Rattle.expansion.specs.declared.run.Next.TheVariants.{Stop, Go}
 use Rattle.expansion.proofs.run.in_budget.Goals as goal
+use Rattle.std.specs.declared.ops.ControlFlow.{ControlFlow}
+use Rattle.expansion.specs.declared.rule.Ended.{Ended}
+use Rattle.expansion.specs.declared.rule.Move.{Move}
+use Rattle.std.specs.declared.ops.ControlFlow.TheVariants.{Break, Continue}
 
 -- where there is room, nothing changes
-with-room : (x : Next) (c budget : ℕ) → c < budget → in_budget x c budget ≡ x
-with-room (Stop e) c budget l = refl
-with-room (Go m) c budget l = rw (lt-ltb c budget l)
+with-room : (x : ControlFlow Ended Move) (c budget : ℕ) → c < budget → in_budget x c budget ≡ x
+with-room (Break e) c budget l = refl
+with-room (Continue m) c budget l = rw (lt-ltb c budget l)
 
 pub returns-then-count-budget : goal.returns-then-count-budget
 returns-then-count-budget c = let a = c.args in sym (with-room a.next a.count a.budget c.if-count-budget.true)
 
-pub returns-in-Stop : goal.returns-in-Stop
-returns-in-Stop c =
+pub returns-in-Break : goal.returns-in-Break
+returns-in-Break c =
     let a = c.args in
-    sym (ap (λ (x : Next). in_budget x a.count a.budget) c.in-Stop.is)
+    sym (ap (λ (x : ControlFlow Ended Move). in_budget x a.count a.budget) c.in-Break.is)
 
-pub returns-in-Go : goal.returns-in-Go
-returns-in-Go c =
+pub returns-in-Continue : goal.returns-in-Continue
+returns-in-Continue c =
     let a = c.args in
-    sym (ap (λ (x : Next). in_budget x a.count a.budget) c.in-Go.is ∙ rw (le-ltb a.count a.budget c.if-count-budget.false))
+    sym (ap (λ (x : ControlFlow Ended Move). in_budget x a.count a.budget) c.in-Continue.is ∙ rw (le-ltb a.count a.budget c.if-count-budget.false))

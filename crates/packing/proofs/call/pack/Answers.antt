@@ -1,7 +1,7 @@
 -- `call::pack` meets its contract: the checks, the lists, the grants, and what is written where there is room.
 use Rattle.std.specs.Prelude.{Ok}
 use Prim.Native.Nat.{ℕ, ◌<◌}
-use mathlib.Core.Path.{◌≡◌, refl, sym, ◌∙◌}
+use mathlib.Core.Path.{◌≡◌, sym, ◌∙◌}
 use native.Mathlib.Omega.{arith}
 use lib.ListN.{get_or, replicate, get_or-replicate}
 use Rattle.numerals.specs.Limits.{most_services}
@@ -11,7 +11,7 @@ use Rattle.packing.specs.Table.{frame_of, list_for}
 use Rattle.packing.specs.Answer.{services_of, check_all}
 use Rattle.packing.specs.Inner.Lists.{Listed}
 use Rattle.packing.proofs.Checks.{Accepted, all-passed, sized}
-use Rattle.packing.proofs.PackAnswer.{claimed, answer-refused, answer-passed, Outcome, payable, started, ones-fit, outcome}
+use Rattle.packing.proofs.PackAnswer.{claimed, answer-refused, answer-passed, Outcome, payable, falling, ones-fit, outcome}
 use Rattle.packing.proofs.call.pack.Goals as goal
 use Rattle.packing.proofs.call.pack.Goals.{After-grant_all, After-make_lists, In_ok-check_all}
 
@@ -41,10 +41,7 @@ accepted c = all-passed _ _ _ _ _ _ _ (passed c)
 pub make_lists-requires : goal.make_lists-requires
 make_lists-requires c =
     let A = accepted (goal.at.make_lists-requires c).In_ok-check_all in
-    record {
-      sized = sized A;
-      sizes_bound = (omega (arith, A.few), omega (arith, A.few));
-    }
+    sized A
 
 -- the lists are those of the definitions
 listed :
@@ -64,14 +61,19 @@ listed c =
 ones : (s : ℕ) → s < most_services → ◌≡◌ {A = ℕ} (get_or (replicate most_services 1) s 0) 1
 ones s l = get_or-replicate most_services s 1 0 l
 
+pub invariant_of-priced : goal.invariant_of-priced
+invariant_of-priced c =
+    let A = accepted (goal.at.invariant_of-priced c).In_ok-check_all in
+    let L = listed (goal.at.invariant_of-priced c).After-make_lists in
+    record { payable = payable _ _ _ _ _ _ _ _ _ _ _ _ _ A L; falling = falling _ _ _ _ _ _ _ _ _ _ _ _ _ A L }
+
 pub grant_all-requires : goal.grant_all-requires
 grant_all-requires c =
     let A = accepted (goal.at.grant_all-requires c).In_ok-check_all in
     let L = listed (goal.at.grant_all-requires c).After-make_lists in
     let m = c.make_lists in
     record {
-      payable = payable _ _ _ _ _ _ _ _ _ _ _ _ _ A L m.auto.stairs m.auto.counts;
-      started = started _ _ _ _ _ _ _ _ _ _ _ _ _ A L (replicate most_services 1) refl (λ s l. ones s (omega (arith, A.few, A.same)));
+      started = record { each = λ s l. omega (arith, ones s (omega (arith, A.few, A.same))) };
       room = (
         omega (arith, A.some, A.same),
         A.little-room,
@@ -94,30 +96,15 @@ done c =
     let m = c.make_lists in
     outcome _ _ _ _ _ _ _ _ _ _ _ _ _ A (listed (goal.at.After-grant_all c).After-make_lists)
     (replicate most_services 1) _ _ (λ s l. ones s (omega (arith, A.few, A.same)))
-    m.auto.lens m.auto.values m.auto.backends m.auto.stairs
-    m.auto.counts m.auto.ends c.grant_all.auto.grants c.grant_all.ensures
-
-pub all_lines-rules-requires : goal.all_lines-rules-requires
-all_lines-rules-requires c = (done (goal.at.all_lines-rules-requires c).After-grant_all).counted
-
-pub total_cost-total-requires : goal.total_cost-total-requires
-total_cost-total-requires c = let d = done (goal.at.total_cost-total-requires c).After-grant_all in (d.payable, d.counted.granted)
-
-pub write_out-requires : goal.write_out-requires
-write_out-requires c =
-    (done (goal.at.write_out-requires c).After-grant_all).writable _
-    c.all_lines-rules.ensures
+    c.grant_all.ensures
 
 pub returns : goal.returns
 returns c =
     let w = c.write_out.ensures in
-    let t = c.total_cost-total.ensures in
-    let r = c.all_lines-rules.ensures in
     let d = done (goal.at.returns c).After-grant_all in
     record {
-      answer = w.answer ∙ answer-passed _ _ _ _ _ _ _ _ _
-          (passed (goal.at.returns c).In_ok-check_all) _ (d.made _ _ r t);
+      answer = w.answer ∙ answer-passed _ _ _ _ _ _ _ _ _ (passed (goal.at.returns c).In_ok-check_all) _ d.made;
       figures = rw d.figures at w.figures;
       table = rw d.table at w.table;
-      demand = claimed _ _ _ _ _ _ w.answer (d.demand _ t);
+      demand = claimed _ _ _ _ _ _ w.answer d.demand;
     }

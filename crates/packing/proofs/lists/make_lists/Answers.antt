@@ -3,14 +3,19 @@
 use Rattle.std.specs.Prelude.{Ok}
 use Prim.Native.Nat.{ℕ, ◌+◌, ◌-◌, ◌*◌, ◌^◌, ◌≤◌, ◌<◌, min}
 use mathlib.Core.List.{List}
-use mathlib.Core.Path.{◌≡◌, sym, ap, ap₂, ◌∙◌}
+use mathlib.Core.Path.{◌≡◌, refl, sym, ap, ap₂, ◌∙◌}
 use native.Mathlib.Numerals.{add-one}
 use native.Mathlib.Omega.{arith}
 use lib.ListN.{length, get_or, take, drop}
 use Rattle.numerals.specs.Limits.{most_services, most_rules}
 use Rattle.expansion.specs.Answer.{check_call, record_made}
+use denote.Enum.Declared.{tag_of}
+use Rattle.expansion.specs.contracts.rule.Ended.{the_type}
+use Rattle.expansion.specs.declared.rule.Ended.{Ended}
+use Rattle.expansion.specs.declared.rule.Ended.TheVariants.{Within, NoGain, Budget}
+use Rattle.packing.specs.Answer.{end_number}
 use Rattle.packing.specs.Table.{rule_budget}
-use Rattle.packing.specs.Inner.Lists.{stride, place_of, part}
+use Rattle.packing.specs.Inner.Lists.{place_of, part}
 use Rattle.packing.proofs.Checks.{start-zero, start-suc}
 use Rattle.packing.proofs.Listing.{entries_none, made, entries-more, listed}
 use Rattle.packing.proofs.lists.make_lists.Goals as goal
@@ -28,16 +33,11 @@ inside :
     l.at + get_or a.sizes.now l.s 0 ≤ min (length a.ids.now) (length a.weights.now)
 inside c =
     let p = c.requires in
-    omega (arith, p.sized.inside c.loop-s.s c.loop-s-test.true)
+    omega (arith, p.inside c.loop-s.s c.loop-s-test.true)
 
--- the service is none too many, and has its places
-known :
-    (c : In-loop-s)
-    → let l = c.loop-s in
-    (l.s < most_services) × (l.s < min (length l.counts) (length l.ends))
-known c =
-    let p = c.requires in
-    (omega (arith, p.sized.few, c.loop-s-test.true), omega (arith, p.sizes_bound.1, c.loop-s-test.true, c.loop-s.auto.counts, c.loop-s.auto.ends))
+-- the service is none too many
+known : (c : In-loop-s) → c.loop-s.s < most_services
+known c = omega (arith, c.requires.few, c.loop-s-test.true)
 
 -- the row is in memory
 row :
@@ -84,21 +84,15 @@ passed :
     (part a.sizes.now a.weights.now c.loop-s.s) ≡ Ok tt
 unfolding rule_budget
 passed c =
-    c.requires.sized.sound c.loop-s.s
+    c.requires.sound c.loop-s.s
     c.loop-s-test.true
-
-one_more : (s n room : ℕ) → s < n → stride * n ≤ room → place_of s 1 + most_rules ≤ room
-one_more s n room l h = omega arith
 
 fits :
     (c : After-expand)
     → let l = c.loop-s in
-    place_of l.s 1 + most_rules ≤ min (min (length l.lens) (length l.values)) (min (length l.backends) (length l.stairs))
-fits c =
-    let l = c.loop-s in
-    rw (l.auto.lens, l.auto.values, l.auto.backends, l.auto.stairs)
-    (one_more l.s _ _ c.loop-s-test.true
-    c.requires.sizes_bound.0)
+    place_of l.s 1 + most_rules
+    ≤ min (min (length l.lens) (length l.values)) (min (length l.backends) (length l.stairs))
+fits c = omega arith
 
 -- so the list is made
 is_made_lem :
@@ -114,37 +108,15 @@ is_made_lem c =
 pub unwrap-list-requires : goal.unwrap-list-requires
 unwrap-list-requires c = rw (is_made_lem (goal.at.unwrap-list-requires c).After-expand)
 
-pub overflow_mul-stairs : goal.overflow_mul-stairs
-overflow_mul-stairs c =
-    omega (arith, known (goal.at.overflow_mul-stairs c).In-loop-s)
-
-pub offset_bounds-stairs-s : goal.offset_bounds-stairs-s
-offset_bounds-stairs-s c =
-    omega (arith, known (goal.at.offset_bounds-stairs-s c).In-loop-s)
-
-pub bounds-stairs-s : goal.bounds-stairs-s
-bounds-stairs-s c =
-    omega (arith, c.expand.auto.stairs, fits (goal.at.bounds-stairs-s c).After-expand)
-
-pub offset_bounds-counts-s : goal.offset_bounds-counts-s
-offset_bounds-counts-s c =
-    omega (arith, known (goal.at.offset_bounds-counts-s c).In-loop-s)
-
-pub bounds-counts-s : goal.bounds-counts-s
-bounds-counts-s c =
-    omega (arith, known (goal.at.bounds-counts-s c).In-loop-s)
-
-pub offset_bounds-ends-s : goal.offset_bounds-ends-s
-offset_bounds-ends-s c =
-    omega (arith, known (goal.at.offset_bounds-ends-s c).In-loop-s)
-
-pub bounds-ends-s : goal.bounds-ends-s
-bounds-ends-s c =
-    omega (arith, known (goal.at.bounds-ends-s c).In-loop-s)
-
 pub overflow_add-at-in-loop-s-2 : goal.overflow_add-at-in-loop-s-2
 overflow_add-at-in-loop-s-2 c =
     omega (arith, inside (goal.at.overflow_add-at-in-loop-s-2 c).In-loop-s, row (goal.at.overflow_add-at-in-loop-s-2 c).In-loop-s)
+
+-- how a list ended, as a number: the enum's own
+numbered : (e : Ended) → tag_of the_type e ≡ end_number e
+numbered Within = refl
+numbered NoGain = refl
+numbered Budget = refl
 
 pub loop-s-preserved : goal.loop-s-preserved
 loop-s-preserved c =
@@ -152,12 +124,12 @@ loop-s-preserved c =
     let a = c.args in (
       rw add-one (sym (start-suc a.sizes.now l.s c.loop-s-test.true
           ∙ ap (λ (x : ℕ). x + get_or a.sizes.now l.s 0) (sym l.invariant.0))),
-      rw c.end_number.ensures
+      rw (numbered c.unwrap-list.result.ended)
           (entries-more _ _ _ _ _ l.s l.lens l.values l.backends l.stairs (passed (goal.at.loop-s-preserved c).After-expand)
           (fits (goal.at.loop-s-preserved c).After-expand) _ _ (own (goal.at.loop-s-preserved c).After-expand _)
           (own (goal.at.loop-s-preserved c).After-expand _) _ c.expand.ensures.answer
           _ c.unwrap-list.ensures l.counts l.ends
-          (known (goal.at.loop-s-preserved c).In-loop-s).1 l.invariant.1 _ _ _ _
+          (omega (arith, known (goal.at.loop-s-preserved c).In-loop-s)) l.invariant.1 _ _ _ _
           c.expand.ensures.lens c.expand.ensures.values c.expand.ensures.backends c.expand.ensures.stairs),
     )
 
@@ -167,5 +139,5 @@ returns c =
     let l = c.loop-s in
     let all : l.s ≡ length a.sizes.now = omega arith in
     listed a.k a.tolerance a.sizes.now a.ids.now a.weights.now (length a.sizes.now) l.lens l.values l.backends
-    l.stairs l.counts l.ends (omega arith) c.requires.sized
+    l.stairs l.counts l.ends (omega arith) c.requires
     (rw all at l.invariant.1)

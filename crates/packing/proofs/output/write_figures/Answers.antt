@@ -14,4 +14,4 @@ loop-s-preserved c =
     let a = c.args in
     let l = c.loop-s in
     let w = c.write_three in
-    figures-more a.figures.now l.figures w.new.out a.grants.now a.counts.now a.ends.now l.s l.invariant w.ensures
+    figures-more a.figures.now l.figures w.new.out a.grants.now a.priced.now.counts.now a.priced.now.ends.now l.s l.invariant w.ensures

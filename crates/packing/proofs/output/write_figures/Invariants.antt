@@ -7,4 +7,4 @@ use Rattle.packing.proofs.output.write_figures.Given as goal
 
 abbrev pub invariant-loop-s : goal.invariant-loop-s
 invariant-loop-s l =
-    (l.figures ≡ sets l.initial.figures 0 (stored_figures l.grants l.counts l.ends l.s))
+    (l.figures ≡ sets l.initial.figures 0 (stored_figures l.grants l.priced.counts.now l.priced.ends.now l.s))

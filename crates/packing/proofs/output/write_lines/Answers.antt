@@ -17,21 +17,13 @@ pub loop-s-init : goal.loop-s-init
 unfolding stored_table sum_to
 loop-s-init c = (refl, refl)
 
-pub bounds-grants-s : goal.bounds-grants-s
-bounds-grants-s c =
-    omega (arith, c.requires.counted.granted)
-
-pub bounds-counts-s : goal.bounds-counts-s
-bounds-counts-s c =
-    omega (arith, c.requires.counted.listed)
-
 -- the lines of the service are few, and their cells fit
 low : (c : After-min-lines) → c.min-lines.result ≤ most_rules
 low c =
     omega (
       arith,
       c.min-lines.ensures,
-      c.requires.counted.most c.loop-s.s c.loop-s-test.true,
+      (c.args.priced.now.payable.each c.loop-s.s c.loop-s-test.true).most,
     )
 
 fits :
@@ -42,17 +34,17 @@ fits c =
     omega (
       arith,
       c.min-lines.ensures,
-      sum-before c.loop-s.s c.args.n (stored_lines c.args.grants.now c.args.counts.now)
+      sum-before c.loop-s.s (length c.args.priced.now.volumes.now) (stored_lines c.args.grants.now c.args.priced.now.counts.now)
           c.loop-s-test.true,
-      c.requires.fits,
+      c.requires,
     )
 
 pub write_service-requires : goal.write_service-requires
 write_service-requires c =
-    let few : c.loop-s.s < most_services = omega (arith, c.requires.counted.few) in (
+    let few : c.loop-s.s < most_services = omega (arith, c.args.priced.now.payable.few) in (
       omega (arith, fits (goal.at.write_service-requires c).After-min-lines),
-      (few, low (goal.at.write_service-requires c).After-min-lines),
-      (c.requires.all_lens, (c.requires.all_values, c.requires.all_backends)),
+      few,
+      low (goal.at.write_service-requires c).After-min-lines,
     )
 
 pub overflow_mul-at : goal.overflow_mul-at
@@ -65,20 +57,21 @@ pub loop-s-preserved : goal.loop-s-preserved
 unfolding sum_to
 loop-s-preserved c =
     let a = c.args in
+    let p = a.priced.now in
     let l = c.loop-s in
     let w = c.write_service in (
       rw add-one (omega (arith, c.min-lines.ensures)),
-      table_more a.lens.now a.values.now a.backends.now a.table.now l.table w.new.table (stored_lines a.grants.now a.counts.now)
+      table_more p.lens.now p.values.now p.backends.now a.table.now l.table w.new.table (stored_lines a.grants.now p.counts.now)
           l.s l.at l.invariant.1 l.invariant.0
-          (w.ensures ∙ ap (λ (c : ℕ). sets l.table l.at (stored_cells a.lens.now a.values.now a.backends.now l.s c))
+          (w.ensures ∙ ap (λ (c : ℕ). sets l.table l.at (stored_cells p.lens.now p.values.now p.backends.now l.s c))
           c.min-lines.ensures),
     )
 
 pub returns : goal.returns
 returns c =
     let a = c.args in
+    let p = a.priced.now in
     let l = c.loop-s in
-    let all : l.s ≡ a.n = omega arith in
+    let all : l.s ≡ length p.volumes.now = omega arith in
     l.invariant.1
-    ∙ ap (λ (n : ℕ). sets a.table.now 0
-    (stored_table (stored_lines a.grants.now a.counts.now) a.lens.now a.values.now a.backends.now n)) all
+    ∙ ap (λ (n : ℕ). sets a.table.now 0 (stored_table (stored_lines a.grants.now p.counts.now) p.lens.now p.values.now p.backends.now n)) all

@@ -9,5 +9,6 @@ use Rattle.packing.proofs.output.write_lines.Given as goal
 
 abbrev pub invariant-loop-s : goal.invariant-loop-s
 invariant-loop-s l =
-    (l.at ≡ 4 * sum_to l.s (stored_lines l.grants l.counts))
-    × (l.table ≡ sets l.initial.table 0 (stored_table (stored_lines l.grants l.counts) l.lens l.values l.backends l.s))
+    let p = l.priced in
+    (l.at ≡ 4 * sum_to l.s (stored_lines l.grants p.counts.now))
+    × (l.table ≡ sets l.initial.table 0 (stored_table (stored_lines l.grants p.counts.now) p.lens.now p.values.now p.backends.now l.s))

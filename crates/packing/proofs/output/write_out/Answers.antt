@@ -23,31 +23,31 @@ module _ (p : Packed) (n figures_room table_room : ℕ) where
   unfolding written
   none-short l h = simp (le-leb (3 * n) figures_room l, le-leb (4 * p.rules) table_room h)
 
-pub returns-then-figures-n : goal.returns-then-figures-n
-returns-then-figures-n c =
+pub returns-then-figures-priced : goal.returns-then-figures-priced
+returns-then-figures-priced c =
     record {
       answer = figures-short _ _ _ _ (omega arith);
       figures = refl;
       table = refl;
     }
 
-pub returns-then-table-packed : goal.returns-then-table-packed
-returns-then-table-packed c =
+pub overflow_mul-rules : goal.overflow_mul-rules
+overflow_mul-rules c = omega (arith, c.all_lines-rules.ensures.few)
+
+pub returns-then-table-rules : goal.returns-then-table-rules
+returns-then-table-rules c =
     record {
-      answer = table-short _ _ _ _ (omega arith) (omega arith);
+      answer = table-short _ _ _ _ (omega arith) (omega (arith, c.all_lines-rules.ensures.sum));
       figures = refl;
       table = refl;
     }
 
-pub write_lines-requires : goal.write_lines-requires
-write_lines-requires c =
-    c.requires.tabled _
-    (omega arith)
-
 pub returns : goal.returns
 returns c =
     record {
-      answer = none-short _ _ _ _ (omega arith) (omega arith);
+      answer =
+          rw (c.all_lines-rules.ensures.sum, c.total_cost-total.ensures)
+          (none-short _ _ _ _ (omega arith) (omega (arith, c.all_lines-rules.ensures.sum)));
       figures = c.write_figures.ensures;
       table = c.write_lines.ensures;
     }

@@ -24,12 +24,12 @@ loop-line-preserved c =
     let next : a.at + 4 * l.line + 4 ≡ a.at + 4 * (l.line + 1) = omega arith in
     let less : a.lines - l.line - 1 ≡ a.lines - (l.line + 1) = omega arith in
     l.invariant
-    ∙ line-more a.lens.now a.values.now a.backends.now l.table w.new.out (a.at + 4 * l.line) a.s (a.lines - l.line) _
+    ∙ line-more a.priced.now.lens.now a.priced.now.values.now a.priced.now.backends.now l.table w.new.out (a.at + 4 * l.line) a.s (a.lines - l.line) _
     (omega arith) (omega arith) w.ensures
-    ∙ ap₂ (λ (i c : ℕ). sets w.new.out i (stored_cells a.lens.now a.values.now a.backends.now a.s c)) next less
+    ∙ ap₂ (λ (i c : ℕ). sets w.new.out i (stored_cells a.priced.now.lens.now a.priced.now.values.now a.priced.now.backends.now a.s c)) next less
 
 pub returns : goal.returns
 returns c =
     let a = c.args in
     let l = c.loop-line in
-    sym (l.invariant ∙ none_left a.lens.now a.values.now a.backends.now l.table _ a.s (a.lines - l.line) (omega arith))
+    sym (l.invariant ∙ none_left a.priced.now.lens.now a.priced.now.values.now a.priced.now.backends.now l.table _ a.s (a.lines - l.line) (omega arith))

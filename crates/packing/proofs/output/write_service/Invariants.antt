@@ -8,5 +8,5 @@ use Rattle.packing.proofs.output.write_service.Given as goal
 
 abbrev pub invariant-loop-line : goal.invariant-loop-line
 invariant-loop-line l =
-    sets l.initial.table l.at (stored_cells l.lens l.values l.backends l.s l.lines)
-    ≡ sets l.table (l.at + 4 * l.line) (stored_cells l.lens l.values l.backends l.s (l.lines - l.line))
+    sets l.initial.table l.at (stored_cells l.priced.lens.now l.priced.values.now l.priced.backends.now l.s l.lines)
+    ≡ sets l.table (l.at + 4 * l.line) (stored_cells l.priced.lens.now l.priced.values.now l.priced.backends.now l.s (l.lines - l.line))

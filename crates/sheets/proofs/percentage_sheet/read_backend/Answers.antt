@@ -2,32 +2,31 @@
 use Rattle.std.specs.Prelude.{Some}
 use Prim.Native.Nat.{◌+◌}
 use mathlib.Core.Path.{◌≡◌, sym, ◌∙◌}
-use native.Mathlib.Omega.{arith}
-use lib.Seq.{slice}
+use lib.ListN.{take}
 use Rattle.numerals.specs.Decimal.{number}
 use Rattle.numerals.specs.Limits.{most_id}
 use Rattle.sheets.proofs.BackendFields.{field-none, field-no-id, field-no-weight, field-got}
 use Rattle.sheets.proofs.percentage_sheet.read_backend.Goals as goal
 use Rattle.sheets.proofs.percentage_sheet.read_backend.Goals.{In_ok-id}
 
-pub returns-then-to-colon : goal.returns-then-to-colon
-returns-then-to-colon c =
+pub returns-then-field-colon : goal.returns-then-field-colon
+returns-then-field-colon c =
     let a = c.args in
-    field-none a.from a.to c.find-colon.result a.text.now (omega arith) c.find-colon.ensures a.before c.if-to-colon.true
+    field-none c.find-colon.result a.field.now c.find-colon.ensures a.before c.if-field-colon.true
 
 pub returns-in_err-id : goal.returns-in_err-id
 returns-in_err-id c =
     let f = c.find-colon in
     let a = c.args in
     rw c.from_residual.ensures
-    (field-no-id a.from a.to f.result a.text.now (omega arith) f.ensures a.before c.if-to-colon.false
+    (field-no-id f.result a.field.now f.ensures a.before c.if-field-colon.false
     (sym c.read_number.ensures ∙ c.in_err-id.was))
 
 -- the id that was read
 named :
     (c : In_ok-id)
     → let a = c.args in
-    number (a.before + 1) most_id (slice a.from c.find-colon.result a.text.now) ≡ Some c.in_ok-id.id
+    number (a.before + 1) most_id (take c.find-colon.result a.field.now) ≡ Some c.in_ok-id.id
 named c = sym c.read_number.ensures ∙ c.in_ok-id.was
 
 pub returns-in_err-weight : goal.returns-in_err-weight
@@ -35,7 +34,7 @@ returns-in_err-weight c =
     let f = c.find-colon in
     let a = c.args in
     rw c.from_residual-in_err-weight.ensures
-    (field-no-weight a.from a.to f.result a.text.now (omega arith) f.ensures a.before c.if-to-colon.false _
+    (field-no-weight f.result a.field.now f.ensures a.before c.if-field-colon.false _
     (named (goal.at.returns-in_err-weight c).In_ok-id)
     (sym c.read_percentage.ensures ∙ c.in_err-weight.was))
 
@@ -43,5 +42,5 @@ pub returns : goal.returns
 returns c =
     let f = c.find-colon in
     let a = c.args in
-    field-got a.from a.to f.result a.text.now (omega arith) f.ensures a.before c.if-to-colon.false _ _ (named (goal.at.returns c).In_ok-id)
+    field-got f.result a.field.now f.ensures a.before c.if-field-colon.false _ _ (named (goal.at.returns c).In_ok-id)
     (sym c.read_percentage.ensures ∙ c.in_ok-weight.was)

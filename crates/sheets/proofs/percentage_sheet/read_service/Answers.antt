@@ -5,7 +5,7 @@ use mathlib.Core.List.{List}
 use native.Mathlib.Omega.{arith}
 use native.Mathlib.Numerals.{add-one}
 use lib.ListN.{length, drop, length-drop}
-use lib.Seq.{slice, take-suc-set}
+use lib.Seq.{take-suc-set}
 use borrow.Author.Tests.{eq-eqb, ne_eqb}
 use Rattle.numerals.specs.Text.{split}
 use Rattle.numerals.specs.Limits.{unit}
@@ -13,11 +13,11 @@ use Rattle.numerals.proofs.Exits.{handed_on}
 use Rattle.sheets.specs.Reading.{then, unless}
 use Rattle.sheets.specs.Inner.SheetReader.{Opened, Weighed}
 use Rattle.sheets.proofs.percentage_sheet.read_service.Goals as goal
-use Rattle.sheets.proofs.percentage_sheet.read_service.Goals.{After-field_at-first, In_ok-volume, In_ok-read, Start}
+use Rattle.sheets.proofs.percentage_sheet.read_service.Goals.{After-rest_after, In_ok-volume, In_ok-read, Start}
 
 -- the line's fields
 abbrev fields : Start → List (List ℕ)
-fields s = split 32 (slice s.args.from s.args.to s.args.text.now)
+fields s = split 32 s.args.line.now
 
 opened :
     (c : In_ok-volume)
@@ -26,24 +26,17 @@ opened c = rw c.in_ok-volume.was at c.read_volume.ensures
 
 -- the fields from the third on are the backends
 rest :
-    (c : After-field_at-first)
-    → split 32 (slice c.field_at-first.result.from c.args.to c.args.text.now) ≡ drop 2 (fields (goal.at.After-field_at-first c).Start)
-rest c = c.field_at-first.ensures.rest (omega (arith, (opened (goal.at.After-field_at-first c).In_ok-volume).some))
+    (c : After-rest_after)
+    → split 32 c.rest_after.result.now ≡ drop 2 (fields (goal.at.After-rest_after c).Start)
+rest c = c.rest_after.ensures.rest (omega (arith, (opened (goal.at.After-rest_after c).In_ok-volume).some))
 
 pub read_weights-requires : goal.read_weights-requires
 read_weights-requires c =
     let o = opened (goal.at.read_weights-requires c).In_ok-volume in
+    let all = rest (goal.at.read_weights-requires c).After-rest_after in
     record {
-      from_le_to = (omega arith, omega arith);
-      to_len_bound = (
-        omega (
-          arith,
-          ap length (rest (goal.at.read_weights-requires c).After-field_at-first),
-          length-drop 2
-              (fields (goal.at.read_weights-requires c).Start),
-        ),
-        (omega arith, omega arith),
-      );
+      few = omega (arith, ap length all, length-drop 2 (fields (goal.at.read_weights-requires c).Start));
+      room = omega (arith, o.place);
     }
 
 -- the backends that were read
@@ -53,7 +46,7 @@ weighed :
     (drop 2 (fields (goal.at.In_ok-read c).Start)) c.in_ok-read.read.count
     c.in_ok-read.read.sum
 weighed c =
-    rw (rest (goal.at.In_ok-read c).After-field_at-first) at
+    rw (rest (goal.at.In_ok-read c).After-rest_after) at
     (rw c.in_ok-read.was at c.read_weights.ensures)
 
 pub returns-then-read-ne-UNIT : goal.returns-then-read-ne-UNIT
@@ -75,7 +68,7 @@ returns-in_err-volume c = rw (handed_on _ _ c.from_residual.ensures) (rw c.in_er
 pub returns-in_err-read : goal.returns-in_err-read
 unfolding then
 returns-in_err-read c =
-    let refused = rw (rest (goal.at.returns-in_err-read c).After-field_at-first) at
+    let refused = rw (rest (goal.at.returns-in_err-read c).After-rest_after) at
     (rw c.in_err-read.was at c.read_weights.ensures) in
     rw (handed_on _ _ c.from_residual-in_err-read.ensures) ((opened (goal.at.returns-in_err-read c).In_ok-volume).rest ∙ rw (refused _))
 

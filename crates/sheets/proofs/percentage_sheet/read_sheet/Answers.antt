@@ -6,14 +6,6 @@ use Rattle.sheets.specs.Inner.FirstLine.{read_as}
 use Rattle.sheets.specs.Inner.SheetReader.{sheet_from}
 use Rattle.sheets.proofs.percentage_sheet.read_sheet.Goals as goal
 
-pub read_services-requires : goal.read_services-requires
-read_services-requires c =
-    let line = rw c.in_ok-line.was at c.read_first_line.ensures in
-    record {
-      from_in_bounds = line.1;
-      most_services_in_bounds = c.requires;
-    }
-
 pub returns-in_err-line : goal.returns-in_err-line
 unfolding read_sheet read_sheet_at sheet_line read_as then
 returns-in_err-line c =
@@ -24,4 +16,4 @@ pub returns : goal.returns
 unfolding read_sheet read_sheet_at sheet_line sheet_from read_as then
 returns c =
     let line = rw c.in_ok-line.was at c.read_first_line.ensures in
-    rw line.0 c.read_services.ensures
+    rw line c.read_services.ensures

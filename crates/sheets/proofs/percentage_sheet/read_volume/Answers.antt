@@ -3,11 +3,12 @@ use Rattle.std.specs.Prelude.{Option, Some, None, ok_or}
 use Rattle.sheets.specs.Inner.SheetReader.{VolumeOf}
 use Prim.Native.Nat.{ℕ, ◌+◌, ◌<◌, ◌≤◌}
 use mathlib.Core.Path.{◌≡◌, refl, sym, ap, ◌∙◌}
+use mathlib.Core.Bool.{not}
 use mathlib.Core.List.{List}
 use native.Mathlib.Omega.{arith}
 use lib.Dec.{eqb}
 use lib.ListN.{length, drop}
-use lib.Seq.{slice}
+use lib.Seq.{take-length}
 use borrow.Author.Tests.{lt-ltb, le-ltb, lt-leb, le-leb}
 use Rattle.numerals.specs.Decimal.{number}
 use Rattle.numerals.specs.Text.{split}
@@ -15,34 +16,38 @@ use Rattle.numerals.specs.Limits.{most_backends, most_services, most_volume, uni
 use Rattle.numerals.specs.declared.refusal.Refusal.TheVariants.{BadField, Unbalanced}
 use Rattle.sheets.specs.Reading.{got, then, same, field, unless, on_field}
 use Rattle.sheets.specs.PercentageSheet.{service_word, weight_fields, sum, service_fields}
+use Rattle.sheets.proofs.Words.{same-not}
 use Rattle.sheets.proofs.percentage_sheet.read_volume.Goals as goal
-use Rattle.sheets.proofs.percentage_sheet.read_volume.Goals.{After-number_in, After-is_word, Else-count-gt-MOST_FIELDS, Start}
+use Rattle.sheets.proofs.percentage_sheet.read_volume.Goals.{After-count_fields-count, After-number_in, After-ne, Else-count-gt-MOST_FIELDS, Start}
 
 -- the line's fields
 abbrev fields : Start → List (List ℕ)
-fields s = split 32 (slice s.args.from s.args.to s.args.text.now)
+fields s = split 32 s.args.line.now
 
-word : (c : After-is_word) → same (field (fields (goal.at.After-is_word c).Start) 0) service_word ≡ c.is_word.result
-word c = ap (λ l. same l service_word) (sym c.field_at-word.ensures.part) ∙ sym c.is_word.ensures
+word : (c : After-ne) → same (field (fields (goal.at.After-ne c).Start) 0) service_word ≡ not c.ne.result
+word c = rw (← c.field_at.ensures) (same-not c.field_at.result.now service_word c.ne.result (rw c.as_slice.ensures at c.ne.ensures))
 
-pub returns-then-not-is_word : goal.returns-then-not-is_word
+pub returns-then-ne : goal.returns-then-ne
 unfolding service_fields unless
-returns-then-not-is_word c = simp (word (goal.at.returns-then-not-is_word c).After-is_word ∙ c.if-not-is_word.true)
+returns-then-ne c = simp (word (goal.at.returns-then-ne c).After-ne ∙ ap not c.if-ne.true)
 
 pub returns-then-i-ge-MOST_SERVICES : goal.returns-then-i-ge-MOST_SERVICES
 unfolding service_fields unless
 returns-then-i-ge-MOST_SERVICES c = simp (
-  word (goal.at.returns-then-i-ge-MOST_SERVICES c).After-is_word ∙ c.if-not-is_word.false,
+  word (goal.at.returns-then-i-ge-MOST_SERVICES c).After-ne ∙ ap not c.if-ne.false,
   le-ltb _ most_services
       c.if-i-ge-MOST_SERVICES.true,
 )
 
+count : (c : After-count_fields-count) → c.count_fields-count.result ≡ length (fields (goal.at.After-count_fields-count c).Start)
+count c = c.count_fields-count.ensures ∙ ap (λ (l : List ℕ). length (split 32 l)) (take-length c.args.line.now)
+
 pub returns-then-count-lt3 : goal.returns-then-count-lt3
 unfolding service_fields unless
 returns-then-count-lt3 c =
-    let few : length (fields (goal.at.returns-then-count-lt3 c).Start) < 3 = omega arith in
+    let few : length (fields (goal.at.returns-then-count-lt3 c).Start) < 3 = omega (arith, count (goal.at.returns-then-count-lt3 c).After-count_fields-count) in
     simp (
-      word (goal.at.returns-then-count-lt3 c).After-is_word ∙ c.if-not-is_word.false,
+      word (goal.at.returns-then-count-lt3 c).After-ne ∙ ap not c.if-ne.false,
       lt-ltb _ most_services c.if-i-ge-MOST_SERVICES.false,
       lt-leb 3 _ few,
     )
@@ -51,10 +56,10 @@ pub returns-then-count-gt-MOST_FIELDS : goal.returns-then-count-gt-MOST_FIELDS
 unfolding service_fields unless
 returns-then-count-gt-MOST_FIELDS c =
     let fs = fields (goal.at.returns-then-count-gt-MOST_FIELDS c).Start in
-    let some : 3 ≤ length fs = omega arith in
-    let many : 2 + most_backends < length fs = omega arith in
+    let some : 3 ≤ length fs = omega (arith, count (goal.at.returns-then-count-gt-MOST_FIELDS c).After-count_fields-count) in
+    let many : 2 + most_backends < length fs = omega (arith, count (goal.at.returns-then-count-gt-MOST_FIELDS c).After-count_fields-count) in
     simp (
-      word (goal.at.returns-then-count-gt-MOST_FIELDS c).After-is_word ∙ c.if-not-is_word.false,
+      word (goal.at.returns-then-count-gt-MOST_FIELDS c).After-ne ∙ ap not c.if-ne.false,
       lt-ltb _ most_services c.if-i-ge-MOST_SERVICES.false,
       le-leb 3 _ some,
       lt-leb _ (2 + most_backends) many,
@@ -73,10 +78,10 @@ line :
 unfolding service_fields unless
 line c =
     let fs = fields (goal.at.Else-count-gt-MOST_FIELDS c).Start in
-    let some : 3 ≤ length fs = omega arith in
-    let few : length fs ≤ 2 + most_backends = omega arith in
+    let some : 3 ≤ length fs = omega (arith, count (goal.at.Else-count-gt-MOST_FIELDS c).After-count_fields-count) in
+    let few : length fs ≤ 2 + most_backends = omega (arith, count (goal.at.Else-count-gt-MOST_FIELDS c).After-count_fields-count) in
     simp (
-      word (goal.at.Else-count-gt-MOST_FIELDS c).After-is_word ∙ c.if-not-is_word.false,
+      word (goal.at.Else-count-gt-MOST_FIELDS c).After-ne ∙ ap not c.if-ne.false,
       lt-ltb _ most_services c.if-i-ge-MOST_SERVICES.false,
       le-leb 3 _ some,
       le-leb _ (2 + most_backends) few,
@@ -91,8 +96,8 @@ by_volume c None e = line (goal.at.After-number_in c).Else-count-gt-MOST_FIELDS 
 by_volume c (Some v) e =
     record {
       place = omega arith;
-      some = omega arith;
-      few = omega arith;
+      some = omega (arith, count (goal.at.After-number_in c).After-count_fields-count);
+      few = omega (arith, count (goal.at.After-number_in c).After-count_fields-count);
       rest = line (goal.at.After-number_in c).Else-count-gt-MOST_FIELDS ∙ rw (sym c.number_in.ensures ∙ e);
     }
 

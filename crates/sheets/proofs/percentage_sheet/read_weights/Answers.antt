@@ -1,10 +1,11 @@
 -- `percentage_sheet::read_weights` meets its contract. The invariant: the backends read so far stand in both rows, and before what is read from `start` on.
-use Prim.Native.Nat.{ℕ, ◌+◌, ◌≤◌}
+use Prim.Native.Nat.{ℕ, ◌+◌, ◌-◌, ◌≤◌}
 use mathlib.Core.Path.{◌≡◌, refl, sym, ap, ◌∙◌}
-use mathlib.Core.List.{◌∷◌, append-nil, []}
+use mathlib.Core.List.{List, ◌∷◌, append-nil, []}
+use native.Mathlib.Nat.{le_refl}
 use native.Mathlib.Omega.{arith}
-use lib.ListN.{length, length-set, length-append}
-use lib.Seq.{slice}
+use lib.ListN.{length, take, drop, length-take, length-append}
+use lib.Seq.{take-length}
 use Rattle.numerals.specs.Limits.{unit, decimals}
 use Rattle.numerals.specs.Text.{split}
 use Rattle.numerals.proofs.Fields.{cut-le}
@@ -12,7 +13,7 @@ use Rattle.numerals.proofs.Exits.{handed_on, had, had_none}
 use Rattle.sheets.specs.PercentageSheet.{weight_fields}
 use Rattle.sheets.specs.PercentageSheet as sheet
 use Rattle.sheets.specs.Inner.SheetReader.{Named}
-use Rattle.sheets.proofs.FieldParts.{fields_left, left-all, left-none, left-more}
+use Rattle.sheets.proofs.FieldParts.{part-slice, fields_left, left-all, left-none, left-more}
 use Rattle.sheets.proofs.Steps.{no_backend, backend_behind, joined-none, joined-all, joined-refused, joined-one, sum_more, row_more}
 use Rattle.sheets.proofs.percentage_sheet.read_weights.Goals as goal
 use Rattle.sheets.proofs.percentage_sheet.read_weights.Goals.{After-find-end, In_ok-backend}
@@ -22,7 +23,8 @@ unfolding sheet.sum
 loop-start-init c =
     let a = c.args in
     let z : a.at + 0 ≡ a.at = omega arith in
-    let all = left-all 32 a.from a.to a.text.now (omega arith) in
+    let fields = a.fields.now in
+    let all = left-all 32 0 (length fields) fields (omega arith) ∙ ap (split 32) (take-length fields) in
     record {
       done = no_backend;
       named = refl;
@@ -30,33 +32,39 @@ loop-start-init c =
       total = refl;
       known = omega arith;
       small = omega arith;
-      long_ids = refl;
-      long = refl;
       ids_row = rw z (sym (append-nil _));
       row = rw z (sym (append-nil _));
       few = omega (arith, ap length all);
-      whole = λ line. rw (all, joined-none (weight_fields decimals line 0 (split 32 (slice a.from a.to a.text.now))));
+      whole = λ line. rw (all, joined-none (weight_fields decimals line 0 (split 32 fields)));
     }
+
+-- it ends within the line
+ends : (c : After-find-end) → c.find-end.result ≤ length c.args.fields.now
+ends c =
+    let s = c.args.fields.now in
+    cut-le 32 c.loop-start.start (length s) c.find-end.result s (le_refl (length s)) c.find-end.ensures (omega arith)
 
 -- the field at `start` and those behind it
 next :
     (c : After-find-end)
-    → let a = c.args in
+    → let s = c.args.fields.now in
     let start = c.loop-start.start in
-    fields_left 32 start a.to a.text.now
-    ≡ slice start c.find-end.result a.text.now ∷ fields_left 32 (c.find-end.result + 1) a.to a.text.now
+    let end = c.find-end.result in
+    fields_left 32 start (length s) s ≡ take (end - start) (drop start s) ∷ fields_left 32 (end + 1) (length s) s
 next c =
-    let a = c.args in
-    left-more 32 c.loop-start.start a.to c.find-end.result a.text.now (omega arith) (omega arith) c.find-end.ensures
+    let s = c.args.fields.now in
+    let start = c.loop-start.start in
+    let end = c.find-end.result in
+    left-more 32 start (length s) end s (omega arith) (le_refl (length s)) c.find-end.ensures
+    ∙ ap (λ (f : List ℕ). f ∷ fields_left 32 (end + 1) (length s) s) (sym (part-slice start end s (omega (arith, c.find-end.ensures))))
 
--- it ends within the line
-ends : (c : After-find-end) → c.find-end.result ≤ c.args.to
-ends c =
-    let a = c.args in
-    cut-le 32 c.loop-start.start a.to c.find-end.result a.text.now (omega arith) c.find-end.ensures (omega arith)
+pub slice_bounds-read_backend-end : goal.slice_bounds-read_backend-end
+slice_bounds-read_backend-end c =
+    let s = c.args.fields.now in
+    omega (arith, ends (goal.at.slice_bounds-read_backend-end c).After-find-end, length-take c.find-end.result s)
 
 pub read_backend-requires : goal.read_backend-requires
-read_backend-requires c = (omega (arith, c.find-end.ensures), (omega (arith, ends c), c.loop-start.invariant.known))
+read_backend-requires c = c.loop-start.invariant.known
 
 pub returns-in_err-backend : goal.returns-in_err-backend
 returns-in_err-backend c =
@@ -71,26 +79,26 @@ found :
     (c : In_ok-backend)
     → let l = c.loop-start in
     let a = c.args in
-    Named l.before (slice l.start c.find-end.result a.text.now) c.in_ok-backend.backend.id c.in_ok-backend.backend.weight
+    Named l.before (take (c.find-end.result - l.start) (drop l.start a.fields.now)) c.in_ok-backend.backend.id c.in_ok-backend.backend.weight
 found c = rw (had _ _ c.ok_or.ensures.value c.in_ok-backend.was) at c.read_backend.ensures
 
 pub overflow_add-ids : goal.overflow_add-ids
 overflow_add-ids c = omega (arith, ap length (next (goal.at.overflow_add-ids c).After-find-end))
 
 pub offset_bounds-ids-at : goal.offset_bounds-ids-at
-offset_bounds-ids-at c = omega (arith, ap length (next (goal.at.offset_bounds-ids-at c).After-find-end), c.loop-start.invariant.long_ids)
+offset_bounds-ids-at c = omega (arith, ap length (next (goal.at.offset_bounds-ids-at c).After-find-end))
 
 pub bounds-ids-at : goal.bounds-ids-at
-bounds-ids-at c = omega (arith, ap length (next (goal.at.bounds-ids-at c).After-find-end), c.loop-start.invariant.long_ids)
+bounds-ids-at c = omega (arith, ap length (next (goal.at.bounds-ids-at c).After-find-end))
 
 pub overflow_add-weights : goal.overflow_add-weights
 overflow_add-weights c = omega (arith, ap length (next (goal.at.overflow_add-weights c).After-find-end))
 
 pub offset_bounds-weights-at : goal.offset_bounds-weights-at
-offset_bounds-weights-at c = omega (arith, ap length (next (goal.at.offset_bounds-weights-at c).After-find-end), c.loop-start.invariant.long)
+offset_bounds-weights-at c = omega (arith, ap length (next (goal.at.offset_bounds-weights-at c).After-find-end))
 
 pub bounds-weights-at : goal.bounds-weights-at
-bounds-weights-at c = omega (arith, ap length (next (goal.at.bounds-weights-at c).After-find-end), c.loop-start.invariant.long)
+bounds-weights-at c = omega (arith, ap length (next (goal.at.bounds-weights-at c).After-find-end))
 
 pub overflow_add-sum : goal.overflow_add-sum
 unfolding unit
@@ -121,10 +129,8 @@ loop-start-preserved c =
       total = sum_more l.invariant.done.weights w ∙ ap (λ (x : ℕ). x + w) l.invariant.total;
       known = omega (arith, read.known);
       small = omega (arith, read.small, l.invariant.small);
-      long_ids = length-set l.ids (a.at + l.count) id ∙ l.invariant.long_ids;
-      long = length-set l.weights (a.at + l.count) w ∙ l.invariant.long;
-      ids_row = row_more a.ids.now l.ids l.invariant.done.ids a.at l.count id (omega (arith, ap length more, l.invariant.long_ids)) l.invariant.ids_row;
-      row = row_more a.weights.now l.weights l.invariant.done.weights a.at l.count w (omega (arith, ap length more, l.invariant.long)) l.invariant.row;
+      ids_row = row_more a.ids.now l.ids l.invariant.done.ids a.at l.count id (omega (arith, ap length more)) l.invariant.ids_row;
+      row = row_more a.weights.now l.weights l.invariant.done.weights a.at l.count w (omega (arith, ap length more)) l.invariant.row;
       few = omega (arith, ap length more);
       whole = λ line. l.invariant.whole line ∙ rw (more, read.next line _) (joined-one l.invariant.done id w _);
     }
@@ -136,7 +142,7 @@ returns c =
     let l = c.loop-start in
     record {
       found = l.invariant.done;
-      read = λ line. l.invariant.whole line ∙ rw (left-none 32 l.start a.to a.text.now (omega arith)) (joined-all l.invariant.done);
+      read = λ line. l.invariant.whole line ∙ rw (left-none 32 l.start (length a.fields.now) a.fields.now (omega arith)) (joined-all l.invariant.done);
       named = l.invariant.named;
       size = l.invariant.size;
       few = omega arith;

@@ -1,7 +1,7 @@
 -- `planning::plan` meets its contract: what the memory holds is packed.
 use Rattle.std.specs.Prelude.{Err}
 use Prim.Native.Nat.{◌≤◌}
-use mathlib.Core.Path.{◌≡◌, refl, sym, ap}
+use mathlib.Core.Path.{◌≡◌, sym, ap}
 use native.Mathlib.Omega.{arith}
 use lib.ListN.{length}
 use lib.Seq.{length-take-le}

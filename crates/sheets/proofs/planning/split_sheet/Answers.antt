@@ -16,8 +16,13 @@ left c =
     let e = c.plan.ensures in
     plan-left _ _ _ _ _ refl e.answer c.in_ok-p.was e.table
 
-pub print-requires : goal.print-requires
-print-requires c = let L = left (goal.at.print-requires c).In_ok-p in (L.few, L.ruled)
+pub invariant_of-table : goal.invariant_of-table
+invariant_of-table c = record { ruled = (left (goal.at.invariant_of-table c).In_ok-p).ruled }
+
+pub invariant_of-table-2 : goal.invariant_of-table-2
+invariant_of-table-2 c =
+    let L = left (goal.at.invariant_of-table-2 c).In_ok-p in
+    record { few_bits = L.few_bits; few = L.few; found = L.found }
 
 pub returns : goal.returns
 returns c =

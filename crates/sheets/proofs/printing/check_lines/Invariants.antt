@@ -3,4 +3,4 @@ use Rattle.sheets.proofs.Checking.{Checked}
 use Rattle.sheets.proofs.printing.check_lines.Given as goal
 
 abbrev pub invariant-loop-i : goal.invariant-loop-i
-invariant-loop-i l = Checked l.k l.table l.i l.last l.tally
+invariant-loop-i l = Checked l.table.k l.table.cells.now l.i l.last l.tally

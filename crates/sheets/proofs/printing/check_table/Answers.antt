@@ -1,11 +1,8 @@
 -- `printing::check_table` meets its contract: one check after the other, in the order of the sheet.
-use Prim.Native.Nat.{ℕ, ◌+◌, ◌/◌, ◌≤◌}
-use mathlib.Core.Path.{◌≡◌, sym, ap, ◌∙◌}
-use mathlib.Core.List.{List}
-use native.Mathlib.Nat.{le_refl}
+use Prim.Native.Nat.{◌+◌, ◌/◌, ◌≤◌}
+use mathlib.Core.Path.{◌≡◌, sym, ◌∙◌}
 use native.Mathlib.Omega.{arith}
 use lib.ListN.{length}
-use lib.Seq.{slice, take_all}
 use borrow.Author.Tests.{lt-leb}
 use Rattle.numerals.specs.Limits.{most_bits, most_capacity, text_limit, total_limit}
 use Rattle.expansion.specs.Answer.{in_limits}
@@ -15,21 +12,17 @@ use Rattle.sheets.proofs.TableHanded.{handed-long, handed-bits, handed-count, ha
 use Rattle.sheets.proofs.printing.check_table.Goals as goal
 use Rattle.sheets.proofs.printing.check_table.Goals.{After-contains, After-contains-2, Else-text_width-gt-TEXT_LIMIT}
 
--- all numbers were counted
-whole : (k total : ℕ) (cs : List ℕ) → length (handed_text k total (slice 0 (length cs) cs)) ≡ length (handed_text k total cs)
-whole k total cs = ap (λ (t : List ℕ). length (handed_text k total t)) (take_all (length cs) cs (le_refl (length cs)))
-
 short : (c : Else-text_width-gt-TEXT_LIMIT) → let a = c.args in length (handed_text a.k a.total a.table.now) ≤ text_limit
 unfolding text_limit
 short c =
     let a = c.args in
-    omega (arith, c.if-text_width-gt-TEXT_LIMIT.false, c.text_width.ensures, whole a.k a.total a.table.now)
+    omega (arith, c.if-text_width-gt-TEXT_LIMIT.false, c.text_width.ensures)
 
 pub returns-then-text_width-gt-TEXT_LIMIT : goal.returns-then-text_width-gt-TEXT_LIMIT
 unfolding text_limit
 returns-then-text_width-gt-TEXT_LIMIT c =
     let a = c.args in
-    handed-long _ _ _ (omega (arith, c.if-text_width-gt-TEXT_LIMIT.true, c.text_width.ensures, whole a.k a.total a.table.now))
+    handed-long _ _ _ (omega (arith, c.if-text_width-gt-TEXT_LIMIT.true, c.text_width.ensures))
 
 -- what is tested of k, and then of the number of lines
 bits : (c : After-contains) → in_limits 1 most_bits c.args.k ≡ c.contains.result

@@ -7,9 +7,9 @@ use Rattle.sheets.proofs.printing.line_width.Goals as goal
 pub overflow_add-decimal_width : goal.overflow_add-decimal_width
 overflow_add-decimal_width c =
     let a = c.args in
-    omega (arith, width-least 19 a.service (omega arith), width-least 19 a.backend (omega arith))
+    omega (arith, width-least 19 a.line.now.service (omega arith), width-least 19 a.line.now.backend (omega arith))
 
 pub overflow_add-decimal_width-2 : goal.overflow_add-decimal_width-2
 overflow_add-decimal_width-2 c =
     let a = c.args in
-    omega (arith, width-least 19 a.service (omega arith), width-least 19 a.backend (omega arith))
+    omega (arith, width-least 19 a.line.now.service (omega arith), width-least 19 a.line.now.backend (omega arith))

@@ -4,9 +4,6 @@ use borrow.Author.Tests.{leb-true, leb-false}
 use Rattle.sheets.proofs.Prints.{no_room, printed}
 use Rattle.sheets.proofs.printing.print.Goals as goal
 
-pub fits-requires : goal.fits-requires
-fits-requires c = c.requires
-
 pub returns-then-not-fits : goal.returns-then-not-fits
 returns-then-not-fits c =
     let none = no_room _ _ (leb-false _ _ (sym c.fits.ensures ∙ c.if-not-fits.true)) in
@@ -14,7 +11,7 @@ returns-then-not-fits c =
 
 pub put_table-requires : goal.put_table-requires
 put_table-requires c =
-    (c.requires.0, (c.requires.1, leb-true _ _ (sym c.fits.ensures ∙ c.if-not-fits.false)))
+    leb-true _ _ (sym c.fits.ensures ∙ c.if-not-fits.false)
 
 pub returns : goal.returns
 returns c =

@@ -24,7 +24,7 @@ parts s l v b = simp append_assoc
 
 pub put_number-a-requires : goal.put_number-a-requires
 put_number-a-requires c =
-    omega (arith, c.requires.1, length-decimal c.args.service)
+    omega (arith, c.requires.1, length-decimal c.args.line.now.service)
 
 pub put_suffix-b-requires : goal.put_suffix-b-requires
 put_suffix-b-requires c =
@@ -36,8 +36,8 @@ put_suffix-b-requires c =
         c.requires.1,
         w.ends,
         same_length w,
-        length-append (decimal c.args.service) (32 ∷ []),
-        length-decimal c.args.service,
+        length-append (decimal c.args.line.now.service) (32 ∷ []),
+        length-decimal c.args.line.now.service,
       ),
     )
 
@@ -51,17 +51,17 @@ put_number-requires c =
       c.requires.1,
       both.ends,
       same_length both,
-      length-append (decimal c.args.service ++ 32 ∷ []) (suffix_text c.args.len c.args.value ++ 32 ∷ []),
-      length-append (decimal c.args.service) (32 ∷ []),
-      length-append (suffix_text c.args.len c.args.value) (32 ∷ []),
-      length-decimal c.args.service,
-      length-suffix c.args.len c.args.value,
-      length-decimal c.args.backend,
+      length-append (decimal c.args.line.now.service ++ 32 ∷ []) (suffix_text c.args.line.now.len c.args.line.now.value ++ 32 ∷ []),
+      length-append (decimal c.args.line.now.service) (32 ∷ []),
+      length-append (suffix_text c.args.line.now.len c.args.line.now.value) (32 ∷ []),
+      length-decimal c.args.line.now.service,
+      length-suffix c.args.line.now.len c.args.line.now.value,
+      length-decimal c.args.line.now.backend,
     )
 
 pub returns : goal.returns
 returns c =
     let a = c.args in
-    rw (← parts a.service a.len a.value a.backend)
+    rw (← parts a.line.now.service a.line.now.len a.line.now.value a.line.now.backend)
     (chain (chain c.put_number-a.ensures
     c.put_suffix-b.ensures) c.put_number.ensures)

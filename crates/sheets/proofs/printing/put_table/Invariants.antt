@@ -19,4 +19,4 @@ pub record Going (table : List ℕ) (n : ℕ) (out₀ : List ℕ) (at₀ : ℕ) 
       → Wrote out₀ after at₀ end (lines_text (lines_from (slice 0 (4 * n) table)))
 
 abbrev pub invariant-loop-i : goal.invariant-loop-i
-invariant-loop-i l = Going l.table l.n l.initial.out l.initial.at l.out l.at l.i
+invariant-loop-i l = Going l.table.lines.cells.now l.table.lines.n l.initial.out l.initial.at l.out l.at l.i

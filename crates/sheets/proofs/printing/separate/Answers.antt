@@ -1,7 +1,7 @@
 -- `printing::separate` meets its contract: one byte, where the text ends.
-use Rattle.std.specs.Prelude.{ℕ, ◌<◌, Result, Ok, Err, IsOk}
+use Rattle.std.specs.Prelude.{ℕ, Result, Ok, Err, IsOk}
 use Rattle.numerals.specs.declared.refusal.Refusal.{Refusal}
-use mathlib.Core.Path.{◌≡◌, refl}
+use mathlib.Core.Path.{refl}
 use native.Mathlib.Omega.{arith}
 use Rattle.sheets.specs.Inner.Writing.{Before}
 use Rattle.sheets.proofs.Writes.{byte}

@@ -10,5 +10,5 @@ use Rattle.sheets.proofs.printing.text_width.Given as goal
 
 abbrev pub invariant-loop-i : goal.invariant-loop-i
 invariant-loop-i l =
-    (l.width ≤ over_long) × (counted (l.width + handed_width (slice (4 * l.i) l.to l.table)) ≡ counted
-    (length (handed_text l.k l.total (slice 0 l.to l.table))))
+    (l.width ≤ over_long) × (counted (l.width + handed_width (slice (4 * l.i) (length l.cells) l.cells)) ≡ counted
+    (length (handed_text l.k l.total l.cells)))

@@ -1,5 +1,5 @@
 -- `printing::write_table` meets its contract: a table that passes is printed, any other is refused.
-use mathlib.Core.Path.{◌≡◌, refl}
+use mathlib.Core.Path.{◌≡◌}
 use Rattle.numerals.proofs.Exits.{handed_on}
 use Rattle.sheets.specs.Reading.{got}
 use Rattle.sheets.specs.Calls as calls
@@ -21,8 +21,13 @@ passed :
     calls.table_handed a.k a.total a.table.now ≡ got (handed a.k a.total a.table.now)
 passed c = rw c.in_ok-check_table.was at c.check_table.ensures
 
-pub print-requires : goal.print-requires
-print-requires c = let A = accepted _ _ _ _ (passed (goal.at.print-requires c).In_ok-check_table) in (A.few, A.ruled)
+pub invariant_of-table : goal.invariant_of-table
+invariant_of-table c = record { ruled = (accepted _ _ _ _ (passed (goal.at.invariant_of-table c).In_ok-check_table)).ruled }
+
+pub invariant_of-table-2 : goal.invariant_of-table-2
+invariant_of-table-2 c =
+    let A = accepted _ _ _ _ (passed (goal.at.invariant_of-table-2 c).In_ok-check_table) in
+    record { few_bits = A.few_bits; few = A.few; found = A.found }
 
 pub returns : goal.returns
 returns c =

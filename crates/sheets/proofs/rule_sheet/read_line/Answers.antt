@@ -2,7 +2,8 @@
 use Prim.Native.Nat.{ℕ}
 use mathlib.Core.Path.{◌≡◌, sym, ap, ◌∙◌}
 use mathlib.Core.List.{List}
-use lib.Seq.{slice}
+use lib.ListN.{length}
+use lib.Seq.{take-length}
 use borrow.Author.Tests.{eq-eqb, ne_eqb}
 use Rattle.numerals.specs.Decimal.{number}
 use Rattle.numerals.specs.Limits.{most_id, most_services}
@@ -17,11 +18,16 @@ use Rattle.sheets.specs.RuleSheet.{on_suffix, placed, rule_fields}
 use Rattle.sheets.specs.Inner.TableNumbers.{line}
 use Rattle.sheets.proofs.TableChecks.{is-formed}
 use Rattle.sheets.proofs.rule_sheet.read_line.Goals as goal
-use Rattle.sheets.proofs.rule_sheet.read_line.Goals.{After-read_suffix, Else-count_fields-ne3, In_ok-suffix, In_ok-service, In_ok-backend}
+use Rattle.sheets.proofs.rule_sheet.read_line.Goals.{After-count_fields, After-read_suffix, Else-count_fields-ne3, In_ok-suffix, In_ok-service, In_ok-backend}
+
+count : (c : After-count_fields) → c.count_fields.result ≡ length (split 32 c.args.line.now)
+count c = c.count_fields.ensures ∙ ap (λ (l : List ℕ). length (split 32 l)) (take-length c.args.line.now)
 
 pub returns-then-count_fields-ne3 : goal.returns-then-count_fields-ne3
 unfolding rule_fields unless
-returns-then-count_fields-ne3 c = λ before at. simp (ne_eqb _ 3 (λ e. c.if-count_fields-ne3.true (c.count_fields.ensures ∙ e)))
+returns-then-count_fields-ne3 c =
+    let n = count (goal.at.returns-then-count_fields-ne3 c).After-count_fields in
+    λ before at. simp (ne_eqb _ 3 (λ e. c.if-count_fields-ne3.true (n ∙ e)))
 
 -- what is left of a line once its service was read, and once its suffix was
 abbrev giving : List Line → ℕ → List (List ℕ) → ℕ → ℕ → ℕ → Reading Line
@@ -34,15 +40,15 @@ matching k before at fs s = on_suffix (suffix k (field fs 1)) at (giving before 
 three :
     (c : Else-count_fields-ne3) (before : List Line) (at : ℕ)
     → let a = c.args in
-    let fs = split 32 (slice a.from a.to a.text.now) in
+    let fs = split 32 a.line.now in
     rule_fields a.k before at fs ≡ on_field (number 1 most_services (field fs 0)) at (matching a.k before at fs)
 unfolding rule_fields unless
-three c before at = simp (eq-eqb _ 3 (sym c.count_fields.ensures ∙ c.if-count_fields-ne3.false))
+three c before at = simp (eq-eqb _ 3 (sym (count (goal.at.Else-count_fields-ne3 c).After-count_fields) ∙ c.if-count_fields-ne3.false))
 
 own :
     (c : In_ok-service) (before : List Line) (at : ℕ)
     → let a = c.args in
-    let fs = split 32 (slice a.from a.to a.text.now) in
+    let fs = split 32 a.line.now in
     rule_fields a.k before at fs ≡ matching a.k before at fs c.in_ok-service.service
 unfolding on_field
 own c before at = three (goal.at.In_ok-service c).Else-count_fields-ne3 before at ∙ rw (sym c.number_in.ensures ∙ had _ _ c.ok_or.ensures.value c.in_ok-service.was)
@@ -50,15 +56,15 @@ own c before at = three (goal.at.In_ok-service c).Else-count_fields-ne3 before a
 bits :
     (c : After-read_suffix)
     → let a = c.args in
-    suffix a.k (field (split 32 (slice a.from a.to a.text.now)) 1) ≡ c.read_suffix.result
+    suffix a.k (field (split 32 a.line.now) 1) ≡ c.read_suffix.result
 bits c =
-    let a = c.args in
-    ap (suffix a.k) (sym c.field_at-f.ensures.part) ∙ sym c.read_suffix.ensures
+    let f = c.field_at-field in
+    ap (suffix c.args.k) (sym f.ensures ∙ sym (take-length f.result.now)) ∙ sym c.read_suffix.ensures
 
 matched :
     (c : In_ok-suffix) (before : List Line) (at : ℕ)
     → let a = c.args in
-    let fs = split 32 (slice a.from a.to a.text.now) in
+    let fs = split 32 a.line.now in
     rule_fields a.k before at fs ≡ giving before at fs c.in_ok-service.service c.in_ok-suffix.suffix.len c.in_ok-suffix.suffix.value
 unfolding on_suffix
 matched c before at = own (goal.at.In_ok-suffix c).In_ok-service before at ∙ rw (bits (goal.at.In_ok-suffix c).After-read_suffix ∙ had _ _ c.ok_or-2.ensures.value c.in_ok-suffix.was)
@@ -88,14 +94,14 @@ returns-in_err-backend c =
 service :
     (c : In_ok-backend)
     → let a = c.args in
-    Numeral 1 most_services c.in_ok-service.service (field (split 32 (slice a.from a.to a.text.now)) 0)
+    Numeral 1 most_services c.in_ok-service.service (field (split 32 a.line.now) 0)
 service c =
     only-text _ _ _ _ (sym c.number_in.ensures ∙ had _ _ c.ok_or.ensures.value c.in_ok-service.was)
 
 backend :
     (c : In_ok-backend)
     → let a = c.args in
-    Numeral 1 most_id c.in_ok-backend.backend (field (split 32 (slice a.from a.to a.text.now)) 2)
+    Numeral 1 most_id c.in_ok-backend.backend (field (split 32 a.line.now) 2)
 backend c = only-text _ _ _ _ (sym c.number_in-2.ensures ∙ had _ _ c.ok_or-3.ensures.value c.in_ok-backend.was)
 
 pub returns : goal.returns

@@ -10,11 +10,6 @@ use Rattle.sheets.specs.Inner.TableReader.{table_from}
 use Rattle.sheets.proofs.Reader.{about-none, refused-by}
 use Rattle.sheets.proofs.rule_sheet.read_sheet_lines.Goals as goal
 
-pub read_lines-requires : goal.read_lines-requires
-read_lines-requires c =
-    let line = rw c.in_ok-line.was at c.read_first_line.ensures in
-    (line.1, c.requires)
-
 pub returns-in_err-line : goal.returns-in_err-line
 unfolding read_table table_line read_as total_limit then
 returns-in_err-line c =
@@ -32,4 +27,4 @@ unfolding read_table table_line table_from read_as total_limit then
 returns c =
     let line = rw c.in_ok-line.was at
     c.read_first_line.ensures in
-    rw line.0 c.read_lines.ensures
+    rw line c.read_lines.ensures

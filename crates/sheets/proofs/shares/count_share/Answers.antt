@@ -1,14 +1,14 @@
 -- `shares::count_share` meets its contract: the share by the table that was read.
 use Rattle.std.specs.Prelude.{Err, Ok}
-use Prim.Native.Nat.{ℕ, ◌≤◌, ◌<◌}
+use Prim.Native.Nat.{ℕ, ◌<◌}
 use mathlib.Core.Path.{◌≡◌, sym, ap, ◌∙◌}
 use mathlib.Core.Bool.{true, false}
 use native.Mathlib.Omega.{arith}
-use Rattle.numerals.specs.Limits.{most_bits, most_id}
+use Rattle.numerals.specs.Limits.{most_id}
 use Rattle.expansion.specs.Answer.{in_limits}
 use Rattle.numerals.proofs.Exits.{handed_on}
 use Rattle.sheets.specs.Shares.{share_answer}
-use Rattle.sheets.proofs.HeldTables.{TableHeld, table-held, refused-answer}
+use Rattle.sheets.proofs.HeldTables.{TableHeld, table-held, refused-answer, few-bits, few_held, found-there}
 use Rattle.sheets.proofs.Sharing.{share-none, share-out, share-made}
 use Rattle.sheets.proofs.shares.count_share.Goals as goal
 use Rattle.sheets.proofs.shares.count_share.Goals.{Else-first_backend-eq0, Else-not-contains, Then-not-contains, In_ok-head}
@@ -23,11 +23,13 @@ has c =
     let read = c.read_sheet_lines in
     table-held _ _ _ (omega arith) (sym c.in_ok-head.was ∙ read.ensures.answer) read.ensures.buffer
 
-bits : (c : In_ok-head) → c.in_ok-head.head.k ≤ most_bits
-bits c = omega (arith, ap (λ x. x.k) (has c).head, (has c).proper.few_bits)
+pub invariant_of-table : goal.invariant_of-table
+invariant_of-table c = record { ruled = (has (goal.at.invariant_of-table c).In_ok-head).ruled }
 
-pub first_backend-requires : goal.first_backend-requires
-first_backend-requires c = (has (goal.at.first_backend-requires c).In_ok-head).ruled
+pub invariant_of-table-2 : goal.invariant_of-table-2
+invariant_of-table-2 c =
+    let h = has (goal.at.invariant_of-table-2 c).In_ok-head in
+    record { few_bits = few-bits _ _ _ h; few = few_held _ _ _ h; found = found-there _ _ _ h }
 
 pub returns-then-first_backend-eq0 : goal.returns-then-first_backend-eq0
 returns-then-first_backend-eq0 c =
@@ -52,10 +54,6 @@ returns-then-not-contains c =
     rw c.refused_at-then-not-contains.ensures (sym (share-out _ _ _ (has (goal.at.returns-then-not-contains c).In_ok-head) _ _ _ c.first_backend.ensures
     (some (goal.at.returns-then-not-contains c).Else-first_backend-eq0) (outside no)))
 
-pub tally_service-requires : goal.tally_service-requires
-tally_service-requires c =
-    ((has (goal.at.tally_service-requires c).In_ok-head).ruled, bits (goal.at.tally_service-requires c).In_ok-head)
-
 pub returns-in_err-head : goal.returns-in_err-head
 unfolding share_answer
 returns-in_err-head c =
@@ -65,6 +63,6 @@ returns-in_err-head c =
 pub returns : goal.returns
 returns c =
     let k = c.in_ok-head.head.k in
-    ap (λ (n : ℕ). Ok (record { k = k; share = n })) c.tally_service.ensures
+    ap (λ (n : ℕ). Ok (record { k = k; share = n })) c.tally.ensures
     ∙ sym (share-made _ _ _ (has (goal.at.returns c).In_ok-head) _ _ _ c.first_backend.ensures
     (some (goal.at.returns c).Else-first_backend-eq0) (inside (goal.at.returns c).Else-not-contains))

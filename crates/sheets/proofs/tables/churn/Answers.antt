@@ -6,7 +6,7 @@ use Rattle.numerals.proofs.Exits.{handed_on, had_ok, had_err}
 use Rattle.std.proofs.Common.{rules}
 use Rattle.sheets.specs.declared.answer.Refused.{Refused}
 use Rattle.sheets.specs.Calls.{about, churn_answer}
-use Rattle.sheets.proofs.HeldTables.{TableHeld, table-held, sheet-refused, in_memory, found-there}
+use Rattle.sheets.proofs.HeldTables.{TableHeld, table-held, sheet-refused, in_memory, few-bits, few_held, found-there}
 use Rattle.sheets.proofs.tables.churn.Goals as goal
 use Rattle.sheets.proofs.tables.churn.Goals.{In_ok-a, In_ok-b}
 
@@ -46,15 +46,21 @@ returns-in_err-b c =
       sheet-refused _ _ (sym w.1 ∙ c.read_sheet_lines-2.ensures.answer),
     ))
 
-pub compare-requires : goal.compare-requires
-compare-requires c =
-    let old = old-held (goal.at.compare-requires c).In_ok-a in
-    let new = new-held (goal.at.compare-requires c).In_ok-b in
-    let k : c.in_ok-a.a.k ≡ old.table.k = ap (λ x. x.k) old.head in
-    record {
-      rule_lines = (old.ruled, (new.ruled, omega (arith, old.proper.few_bits)));
-      found = (found-there _ _ _ old _, found-there _ _ _ new _);
-    }
+pub invariant_of-old : goal.invariant_of-old
+invariant_of-old c = record { ruled = (old-held (goal.at.invariant_of-old c).In_ok-a).ruled }
+
+pub invariant_of-old-2 : goal.invariant_of-old-2
+invariant_of-old-2 c =
+    let h = old-held (goal.at.invariant_of-old-2 c).In_ok-a in
+    record { few_bits = few-bits _ _ _ h; few = few_held _ _ _ h; found = found-there _ _ _ h }
+
+pub invariant_of-new : goal.invariant_of-new
+invariant_of-new c = record { ruled = (new-held (goal.at.invariant_of-new c).In_ok-b).ruled }
+
+pub invariant_of-new-2 : goal.invariant_of-new-2
+invariant_of-new-2 c =
+    let h = new-held (goal.at.invariant_of-new-2 c).In_ok-b in
+    record { few_bits = few-bits _ _ _ h; few = few_held _ _ _ h; found = found-there _ _ _ h }
 
 pub returns : goal.returns
 unfolding churn_answer

@@ -28,7 +28,7 @@ pub overflow_add-moved : goal.overflow_add-moved
 overflow_add-moved c =
     let a = c.args in
     let l = c.loop-s in
-    omega (arith, l.invariant, count-le l.s (differs a.old.now a.n a.new.now a.m a.service))
+    omega (arith, l.invariant, count-le l.s (differs a.old.now a.new.now a.service))
 
 pub loop-s-preserved : goal.loop-s-preserved
 loop-s-preserved c =

@@ -2,16 +2,16 @@
 use Prim.Native.Nat.{ℕ}
 use mathlib.Core.Path.{◌≡◌}
 use mathlib.Core.Bool.{Bool, not}
-use mathlib.Core.List.{List}
 use lib.Dec.{eqb}
 use Rattle.numerals.specs.Sums.{count_to}
 use Rattle.expansion.specs.FirstMatch.{first_match}
 use Rattle.packing.specs.Count.{own_rules}
-use Rattle.sheets.specs.Inner.TableNumbers.{lines_in}
+use Rattle.sheets.specs.Inner.HeldTable.{lines_of}
+use Rattle.sheets.specs.declared.rule_lines.TableLines.{TableLines}
 use Rattle.sheets.proofs.tables.count_moved.Given as goal
 
-abbrev pub differs : List ℕ → ℕ → List ℕ → ℕ → ℕ → ℕ → Bool
-differs old n new m service v = not (eqb (first_match (own_rules service (lines_in old n)) v) (first_match (own_rules service (lines_in new m)) v))
+abbrev pub differs : TableLines → TableLines → ℕ → ℕ → Bool
+differs old new service v = not (eqb (first_match (own_rules service (lines_of old)) v) (first_match (own_rules service (lines_of new)) v))
 
 abbrev pub invariant-loop-s : goal.invariant-loop-s
-invariant-loop-s l = l.moved ≡ count_to l.s (differs l.old l.n l.new l.m l.service)
+invariant-loop-s l = l.moved ≡ count_to l.s (differs l.old l.new l.service)

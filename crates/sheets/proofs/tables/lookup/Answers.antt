@@ -43,8 +43,8 @@ gives c =
     ∙ ap (λ (r : ℕ). pick (ltb 0 r) (Ok r) (Err (refused_at UnknownService 0)))
     (ap (λ (ls : List Line). first_match (own_rules a.service ls) a.address) (sym h.lines) ∙ sym c.first_backend-b.ensures)
 
-pub first_backend-b-requires : goal.first_backend-b-requires
-first_backend-b-requires c = (has (goal.at.first_backend-b-requires c).In_ok-head).ruled
+pub invariant_of-lines : goal.invariant_of-lines
+invariant_of-lines c = record { ruled = (has (goal.at.invariant_of-lines c).In_ok-head).ruled }
 
 pub returns-then-b-eq0 : goal.returns-then-b-eq0
 returns-then-b-eq0 c = ap Err c.refused_at.ensures ∙ sym (gives (goal.at.returns-then-b-eq0 c).After-first_backend-b ∙ rw c.if-b-eq0.true)

@@ -12,64 +12,55 @@ use Rattle.sheets.specs.PercentageSheet.{read_sheet}
 use Rattle.sheets.specs.Calls.{about, afterwards}
 use Rattle.sheets.specs.Update.{is_read}
 use Rattle.sheets.specs.Inner.SheetReader.{SheetHeld}
-use Rattle.sheets.specs.Inner.TableReader.{table_of}
+use Rattle.sheets.specs.Inner.HeldTable.{table_of}
 use Rattle.sheets.proofs.Judging.{held-named, held-sum, held-few, held_update, held-new-ids, held_new}
 use Rattle.sheets.proofs.update_read.read_second.Goals as goal
-use Rattle.sheets.proofs.update_read.read_second.Goals.{In_ok-new}
+use Rattle.sheets.proofs.update_read.read_second.Goals.{In_ok-read}
 
 held :
-    (c : In_ok-new)
+    (c : In_ok-read)
     → let n = c.read_sheet.new in
     SheetHeld (read_sheet c.args.sheet.now)
-    n.volumes n.sizes n.ids n.weights c.in_ok-new.new.head c.in_ok-new.new.services c.in_ok-new.new.row
-held c = rw (had_ok _ c.read_sheet.result c.map_err.ensures.cases c.in_ok-new.was) at c.read_sheet.ensures
+    n.volumes n.sizes n.ids n.weights c.in_ok-read.read.head c.in_ok-read.read.services c.in_ok-read.read.row
+held c = rw (had_ok _ c.read_sheet.result c.map_err.ensures.cases c.in_ok-read.was) at c.read_sheet.ensures
 
 -- the arrays are long enough
-room-sizes : (c : In_ok-new) → c.in_ok-new.new.services ≤ length c.read_sheet.new.sizes
+room-sizes : (c : In_ok-read) → c.in_ok-read.read.services ≤ length c.read_sheet.new.sizes
 room-sizes c = omega (arith, (held c).holds.few)
 
-room-named : (c : In_ok-new) → c.in_ok-new.new.row ≤ length c.read_sheet.new.ids
+room-named : (c : In_ok-read) → c.in_ok-read.read.row ≤ length c.read_sheet.new.ids
 room-named c = omega (arith, (held c).holds.few, (held c).holds.short)
 
-room-all : (c : In_ok-new) → c.in_ok-new.new.row ≤ length c.read_sheet.new.weights
+room-all : (c : In_ok-read) → c.in_ok-read.read.row ≤ length c.read_sheet.new.weights
 room-all c = omega (arith, (held c).holds.few, (held c).holds.short)
 
 pub slice_bounds-sizes-end : goal.slice_bounds-sizes-end
-slice_bounds-sizes-end c = room-sizes (goal.at.slice_bounds-sizes-end c).In_ok-new
+slice_bounds-sizes-end c = room-sizes (goal.at.slice_bounds-sizes-end c).In_ok-read
 
-pub slice_bounds-select-end : goal.slice_bounds-select-end
-slice_bounds-select-end c = sym (length-take-le _ _ (room-sizes (goal.at.slice_bounds-select-end c).In_ok-new))
+pub slice_bounds-new-end : goal.slice_bounds-new-end
+slice_bounds-new-end c = sym (length-take-le _ _ (room-sizes (goal.at.slice_bounds-new-end c).In_ok-read))
 
 pub slice_bounds-named-end : goal.slice_bounds-named-end
-slice_bounds-named-end c = room-named (goal.at.slice_bounds-named-end c).In_ok-new
+slice_bounds-named-end c = room-named (goal.at.slice_bounds-named-end c).In_ok-read
 
-pub slice_bounds-select-end-2 : goal.slice_bounds-select-end-2
-slice_bounds-select-end-2 c = sym (length-take-le _ _ (room-named (goal.at.slice_bounds-select-end-2 c).In_ok-new))
+pub slice_bounds-new-end-2 : goal.slice_bounds-new-end-2
+slice_bounds-new-end-2 c = sym (length-take-le _ _ (room-named (goal.at.slice_bounds-new-end-2 c).In_ok-read))
 
 pub slice_bounds-all-end : goal.slice_bounds-all-end
-slice_bounds-all-end c = room-all (goal.at.slice_bounds-all-end c).In_ok-new
+slice_bounds-all-end c = room-all (goal.at.slice_bounds-all-end c).In_ok-read
 
-pub slice_bounds-select-end-3 : goal.slice_bounds-select-end-3
-slice_bounds-select-end-3 c = sym (length-take-le _ _ (room-all (goal.at.slice_bounds-select-end-3 c).In_ok-new))
+pub slice_bounds-new-end-3 : goal.slice_bounds-new-end-3
+slice_bounds-new-end-3 c = sym (length-take-le _ _ (room-all (goal.at.slice_bounds-new-end-3 c).In_ok-read))
 
-pub select-requires : goal.select-requires
-select-requires c =
-    record {
-      n_in_bounds = c.requires;
-      sizes_value = (
-        held-named _ (held (goal.at.select-requires c).In_ok-new),
-        (
-          held-sum _ (held (goal.at.select-requires c).In_ok-new),
-          held-few _
-              (held (goal.at.select-requires c).In_ok-new),
-        ),
-      );
-    }
+pub invariant_of-new : goal.invariant_of-new
+invariant_of-new c =
+    let h = held (goal.at.invariant_of-new c).In_ok-read in
+    record { named = held-named _ h; weighed = held-sum _ h; few = held-few _ h }
 
-pub returns-in_err-new : goal.returns-in_err-new
-returns-in_err-new c =
-    let w = had_err {E = Refused} {D = Refused} _ c.read_sheet.result c.map_err.ensures.cases c.in_err-new.was in
-    let q : c.in_err-new.field-0.0 ≡ about 2 w.0.why w.0.line = search rules in
+pub returns-in_err-read : goal.returns-in_err-read
+returns-in_err-read c =
+    let w = had_err {E = Refused} {D = Refused} _ c.read_sheet.result c.map_err.ensures.cases c.in_err-read.was in
+    let q : c.in_err-read.field-0.0 ≡ about 2 w.0.why w.0.line = search rules in
     let no = rw w.1 at c.read_sheet.ensures in
     let e = handed_on _ _ c.from_residual.ensures in
     record {
@@ -86,9 +77,9 @@ returns c =
     let e = r.ensures in
     record {
       answer = e.answer
-          ∙ held_update _ (held (goal.at.returns c).In_ok-new) (table_of a.table a.lines.now) a.service (length a.rules.now) (length a.ids.now)
+          ∙ held_update _ (held (goal.at.returns c).In_ok-read) (table_of a.table.now) a.service (length a.rules.now) (length a.ids.now)
           (length a.weights.now);
       rules = e.rules;
-      ids = e.ids ∙ ap (afterwards (is_read r.result) a.ids.now) (held-new-ids _ (held (goal.at.returns c).In_ok-new) a.service);
-      weights = e.weights ∙ ap (afterwards (is_read r.result) a.weights.now) (held_new _ (held (goal.at.returns c).In_ok-new) a.service);
+      ids = e.ids ∙ ap (afterwards (is_read r.result) a.ids.now) (held-new-ids _ (held (goal.at.returns c).In_ok-read) a.service);
+      weights = e.weights ∙ ap (afterwards (is_read r.result) a.weights.now) (held_new _ (held (goal.at.returns c).In_ok-read) a.service);
     }

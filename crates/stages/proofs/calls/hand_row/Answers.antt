@@ -19,19 +19,19 @@ module _ (d : In_ok-n) where
   n = d.in_ok-n.n
 
   abbrev old : ℕ → ℕ
-  old = at d.args.old.now
+  old = at d.args.change.old.now
 
   abbrev new : ℕ → ℕ
-  new = at d.args.new.now
+  new = at d.args.change.new.now
 
   abbrev values : List ℕ
-  values = row_of d.args.k old new d.args.limit
+  values = row_of d.args.change.k old new d.args.limit
 
-  is : judged d.args.k old new d.args.limit d.args.capacity 1 ≡ Ok n
+  is : judged d.args.change.k old new d.args.limit d.args.capacity 1 ≡ Ok n
   is = sym d.judge.ensures.answer ∙ d.in_ok-n.was
 
-  J : Judges d.args.k old new d.args.limit d.args.capacity 1 n
-  J = judges d.args.k old new d.args.limit d.args.capacity 1 n is
+  J : Judges d.args.change.k old new d.args.limit d.args.capacity 1 n
+  J = judges d.args.change.k old new d.args.limit d.args.capacity 1 n is
 
 pub returns-then-places-n : goal.returns-then-places-n
 returns-then-places-n c =
@@ -46,7 +46,7 @@ returns-then-places-n c =
 pub cut-requires : goal.cut-requires
 cut-requires c =
     let J = J (goal.at.cut-requires c).In_ok-n in
-    record { k_le_most_bits = c.requires; le_limit = (J.some, omega (arith, J.count, c.if-places-n.false)) }
+    (J.some, omega (arith, J.count, c.if-places-n.false))
 
 pub returns : goal.returns
 returns c =

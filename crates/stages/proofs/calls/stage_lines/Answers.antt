@@ -24,13 +24,19 @@ module _ (d : In_ok-k) where
   R : BothRead d.args.old.now d.args.new.now d.args.service k first second
   R = rw d.in_ok-k.was at d.read_both.ensures
 
+pub invariant_of-change : goal.invariant_of-change
+invariant_of-change c =
+    let d = (goal.at.invariant_of-change c).In_ok-k in
+    let a = c.args in
+    record { few_bits = few_bits a.old.now a.new.now a.service (k d) (first d) (second d) (R d) }
+
 pub hand_stage-requires : goal.hand_stage-requires
 hand_stage-requires c =
     let d = (goal.at.hand_stage-requires c).In_ok-k in
     let a = c.args in
     let before = served-first a.old.now a.new.now a.service (k d) (first d) (second d) (R d) in
     let after = served-second a.old.now a.new.now a.service (k d) (first d) (second d) (R d) in
-    (few_bits a.old.now a.new.now a.service (k d) (first d) (second d) (R d), (before, after))
+    (before, after)
 
 pub returns-in_err-k : goal.returns-in_err-k
 returns-in_err-k c =

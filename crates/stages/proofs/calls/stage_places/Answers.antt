@@ -5,7 +5,7 @@ use Prim.Native.Nat.{ℕ}
 use lib.ListN.{length}
 use Rattle.numerals.proofs.Exits.{handed_on}
 use Rattle.stages.specs.Inner.Both.{BothRead}
-use Rattle.stages.proofs.BothCalls.{few_bits, served-first, served-second, not-value}
+use Rattle.stages.proofs.BothCalls.{few_bits, not-value}
 use Rattle.stages.proofs.BothCalls.{places-answer, places-buffer, places-promised, places-refused}
 use Rattle.stages.proofs.calls.stage_places.Goals as goal
 use Rattle.stages.proofs.calls.stage_places.Goals.{In_ok-k}
@@ -24,13 +24,11 @@ module _ (d : In_ok-k) where
   R : BothRead d.args.old.now d.args.new.now d.args.service k first second
   R = rw d.in_ok-k.was at d.read_both.ensures
 
-pub hand_row-requires : goal.hand_row-requires
-hand_row-requires c =
-    let d = (goal.at.hand_row-requires c).In_ok-k in
+pub invariant_of-change : goal.invariant_of-change
+invariant_of-change c =
+    let d = (goal.at.invariant_of-change c).In_ok-k in
     let a = c.args in
-    let before = served-first a.old.now a.new.now a.service (k d) (first d) (second d) (R d) in
-    let after = served-second a.old.now a.new.now a.service (k d) (first d) (second d) (R d) in
-    (few_bits a.old.now a.new.now a.service (k d) (first d) (second d) (R d), (before.long, after.long))
+    record { few_bits = few_bits a.old.now a.new.now a.service (k d) (first d) (second d) (R d) }
 
 pub returns-in_err-k : goal.returns-in_err-k
 returns-in_err-k c =

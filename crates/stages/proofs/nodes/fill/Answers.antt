@@ -11,16 +11,16 @@ use Rattle.stages.proofs.nodes.fill.Goals as goal
 use Rattle.stages.proofs.nodes.fill.Goals.{Else-all-i, In-loop-i, Start}
 
 all-is : (s : Start) → (1 * 2 ^ s.args.k) % 2 ^ 64 ≡ 2 ^ s.args.k
-all-is s = shifted s.args.k s.requires.k_le_most_bits.0
+all-is s = shifted s.args.k s.requires
 
 few : (s : Start) → 2 ^ s.args.k ≤ most_suffixes
-few s = pow-few s.args.k s.requires.k_le_most_bits.0
+few s = pow-few s.args.k s.requires
 
 pub loop-i-init : goal.loop-i-init
 loop-i-init c =
     let a = c.args in
-    nodes-none a.k (at a.holder.now) _ a.held.now a.lines.now (omega (arith, all-is (goal.at.loop-i-init c).Start)) c.requires.held_len.0
-    c.requires.held_len.1
+    nodes-none a.k (at a.holder.now) _ a.held.now a.lines.now (omega (arith, all-is (goal.at.loop-i-init c).Start)) c.told-held
+    c.told-lines
 
 -- the number that the loop has come to
 inside : (t : In-loop-i) → t.loop-i.i - 1 < node_count
@@ -29,7 +29,7 @@ inside t = omega (arith, all-is (goal.at.In-loop-i t).Start, few (goal.at.In-loo
 pub bounds-holder-i : goal.bounds-holder-i
 bounds-holder-i c =
     let s = (goal.at.bounds-holder-i c).Start in
-    omega (arith, all-is s, few s, c.requires.k_le_most_bits.1, c.if-all-i.true)
+    omega (arith, all-is s, few s, c.if-all-i.true)
 
 pub bounds-held-i : goal.bounds-held-i
 bounds-held-i c = omega (arith, inside (goal.at.bounds-held-i c).In-loop-i, c.loop-i.invariant.held_long)
@@ -70,7 +70,7 @@ half-few : (c : Else-all-i) (j : ℕ) → 2 * (c.loop-i.i - 1) ≤ j → j ≤ 2
 half-few c j h m =
     let l = c.loop-i in
     let inner = (low c).0 in
-    count-few c.args.k (at c.args.holder.now) l.i j l.held l.lines l.invariant c.requires.k_le_most_bits.0 (omega arith) (omega arith) (omega arith)
+    count-few c.args.k (at c.args.holder.now) l.i j l.held l.lines l.invariant c.requires (omega arith) (omega arith) (omega arith)
 
 pub join-n-requires : goal.join-n-requires
 join-n-requires c =

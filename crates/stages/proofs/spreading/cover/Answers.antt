@@ -48,7 +48,7 @@ module _ (s : Start) where
   at-is =
       ap (λ (z : ℕ). get_or s.args.places.now value 0 / 2 ^ (most_bits - len) * z) size_is
       ∙ ap (λ (x : ℕ). x * size)
-      (ap (λ (x : ℕ). x / 2 ^ (most_bits - len)) (s.requires.holder_len.1.at value few) ∙ place-first len most_bits value short s.requires.k_le_most_bits.1.1.0)
+      (ap (λ (x : ℕ). x / 2 ^ (most_bits - len)) (s.requires.places.at value few) ∙ place-first len most_bits value short s.requires.k_le_most_bits.1.1.0)
 
   inside : place len value * size + size ≤ most_suffixes
   inside =
@@ -60,12 +60,12 @@ module _ (s : Start) where
       )
 
 pub bounds-places-value : goal.bounds-places-value
-bounds-places-value c = omega (arith, few (goal.at.bounds-places-value c).Start, c.requires.holder_len.1.long)
+bounds-places-value c = omega (arith, few (goal.at.bounds-places-value c).Start, c.requires.places.long)
 
 pub slice_bounds-fill-end : goal.slice_bounds-fill-end
 slice_bounds-fill-end c =
     let s = (goal.at.slice_bounds-fill-end c).Start in
-    omega (arith, size_is s, at-is s, inside s, c.requires.holder_len.0)
+    omega (arith, size_is s, at-is s, inside s, c.told-holder)
 
 -- a part that was filled
 given-filled : (at size b : ℕ) (xs ys : List ℕ) → at + size ≤ length xs → ys ≡ replicate size b → Given at size b xs (put_mid at size xs ys)
@@ -86,4 +86,4 @@ returns c =
     let s = (goal.at.returns c).Start in
     let rule : Rule = record { len = len s; value = value s; backend = c.args.backend } in
     covered-end (k s) rule c.args.holder.now _ (is-rule (k s) rule c.requires.k_le_most_bits.1.0 c.requires.k_le_most_bits.1.1.0)
-    (filled _ _ _ _ _ _ _ (at-is s) (omega (arith, size_is s)) (omega (arith, inside s, c.requires.holder_len.0)) (search rules))
+    (filled _ _ _ _ _ _ _ (at-is s) (omega (arith, size_is s)) (omega (arith, inside s, c.told-holder)) (search rules))
