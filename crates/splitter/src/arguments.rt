@@ -1,4 +1,6 @@
 // The arguments of a call. They are read as bytes: a word need not be UTF-8, unless it names a file.
+ghost use Rattle.std.specs.Prelude.{◌≤◌, length};
+
 use crate::output;
 use crate::part::start;
 use commands::Command;
@@ -15,7 +17,9 @@ pub const ROOM: usize = 131071;
 pub const SHORT: usize = 256;
 
 // An argument, at the start of a buffer; an empty word where it is missing or longer than the buffer.
-pub fn read<'a>(rt: &impl Env, i: usize, buffer: &'a mut [u8]) -> &'a [u8] {
+pub fn read<'a>(rt: &impl Env, i: usize, buffer: &'a mut [u8]) -> &'a [u8]
+    ensures { length result.now ≤ length buffer.old }
+{
     let n = rt.arg(i, buffer).unwrap_or(0);
     start(buffer, n)
 }
