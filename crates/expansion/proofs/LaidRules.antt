@@ -31,7 +31,6 @@ use Rattle.expansion.specs.Inner.Known.{place_in, Ascending}
 use Rattle.expansion.specs.Inner.Laying.{passed_on, Passable, Placed, Held, Had}
 use Rattle.expansion.specs.Inner.Run.{labelled_by}
 use Rattle.expansion.specs.declared.rule.Rule.{Rule}
-use Rattle.expansion.specs.declared.service.Service.{Service}
 use Rattle.expansion.proofs.Base.{star-share}
 use Rattle.expansion.proofs.Count.{covers, whole-gives, whole-of-one, share-giver, share-receiver, share_other}
 use Rattle.expansion.proofs.FirstMatch.{rule-short, rule-bits, gives-matched, gives-passed}
@@ -68,10 +67,6 @@ same-label labels n D b c l m = go (ℕ_discrete b c)
     go : Dec (b ≡ c) → eqb (get_or labels b nobody) (get_or labels c nobody) ≡ eqb b c
     go (yes e) = eq-eqb _ _ (ap (λ (x : ℕ). get_or labels x nobody) e) ∙ sym (eq-eqb b c e)
     go (no d) = ne_eqb _ _ (λ e. d (D b c l m e)) ∙ sym (ne_eqb b c d)
-
--- the labels of a service ascend
-pub ascends : (s : Service) → Ascending s.labels.now
-ascends s = record { few = omega (arith, s.valid.labelled, s.valid.few); above = s.ascending }
 
 -- ascending labels differ
 module _ (labels : List ℕ) (A : Ascending labels) where

@@ -54,6 +54,7 @@ pub fn lay(
     rule: Rule,
 ) -> usize
     requires held { (rs : List rules.Rule) × (Held service.now.k service.now.labels.now rs holder.old shares.old × Lengths rule.len rs) }
+    requires ascending { Ascending service.now.labels.now }
     requires known { Known service.now.k service.now.labels.now rule }
     ensures { let s = service.now in (rs : List rules.Rule) → Held s.k s.labels.now rs holder.old shares.old → Lengths rule.len rs
         → Held s.k s.labels.now (rule ∷ rs) holder.new shares.new × Had s.k s.labels.now rs rule result }
@@ -76,8 +77,8 @@ pub fn take_back(
     rule: Rule,
     had: usize,
 )
-    requires by_index { let s = service.now in (rs : List rules.Rule)
-        × (Held s.k s.labels.now (rule ∷ rs) holder.old shares.old × Had s.k s.labels.now rs rule had) }
+    requires by_index { let k = service.now.k in (labels : List ℕ) × (rs : List rules.Rule)
+        × (Ascending labels × (Held k labels (rule ∷ rs) holder.old shares.old × Had k labels rs rule had)) }
     requires formed { is_rule service.now.k rule ≡ true }
     ensures { let k = service.now.k in (labels : List ℕ) (rs : List rules.Rule) → Ascending labels
         → Held k labels (rule ∷ rs) holder.old shares.old → Had k labels rs rule had → Held k labels rs holder.new shares.new }

@@ -9,6 +9,7 @@ ghost use Rattle.expansion.specs.Resume.{frame_from, check_old, numbers_resumed,
 ghost use Rattle.expansion.specs.Inner.Holders.{Holds};
 ghost use Rattle.expansion.specs.Inner.Lists.{newest_first};
 ghost use Rattle.expansion.specs.Inner.OldList.{Proper};
+ghost use Rattle.expansion.specs.Inner.Known.{Ascending};
 ghost use Rattle.expansion.specs.Inner.Run.{Made};
 ghost use Rattle.expansion.specs.Inner.Service.{targets_for};
 ghost use Rattle.expansion.specs.Inner.Laying.{Held, LaidTo, Starts};
@@ -126,6 +127,7 @@ fn lay_all(
     service: &Service,
     old: &[usize],
 ) -> Laid
+    requires ascending { Ascending service.now.labels.now }
     requires proper { Proper service.now.k service.now.labels.now (rules_from old.now) }
     requires held { Held service.now.k service.now.labels.now (oldest 1 (rules_from old.now)) holder.old shares.old }
     ensures count { result.list.count ≡ length (rules_from old.now) }
@@ -147,7 +149,8 @@ fn lay_all(
 // Of the numbers of kept rules whose lists end within tolerance, the one with the lowest churn, the largest if equal. All rules
 // are laid, and the newest is taken back before each further try. Nothing is lower than a churn of 0.
 fn search(service: &Service, old: &[usize]) -> Option<Attempt>
-    requires { Proper service.now.k service.now.labels.now (rules_from old.now) }
+    requires ascending { Ascending service.now.labels.now }
+    requires proper { Proper service.now.k service.now.labels.now (rules_from old.now) }
     ensures { Found (targets_for service.now) service.now.tolerance (rules_from old.now) result }
 {
     let k = service.k;

@@ -1,6 +1,5 @@
 -- Ascending ids, the place of one among them, and one more put in its place.
 use Rattle.std.specs.Prelude.{ℕ, suc, ◌+◌, ◌≤◌, ◌<◌, Bool, ◌≡◌, List, [], ◌∷◌, ◌++◌, map, ltb, eqb, length, get_or, take, drop}
-use Rattle.std.specs.Coded.{×_prop, Unit-prop, le_prop}
 use Rattle.numerals.specs.Limits.{most_backends, most_known, most_rules}
 use Rattle.numerals.specs.Pick.{pick}
 use Rattle.expansion.specs.Known.{include, known_ids, weight_of}
@@ -11,12 +10,6 @@ use Rattle.expansion.specs.declared.rule.Rule.{Rule}
 unfoldable pub Above : ℕ → List ℕ → Type 0
 Above m [] = Unit {0}
 Above m (x ∷ xs) = (m < x) × Above x xs
-
--- a service carries it, so there is one proof of it at most
-pub Above-prop : (m : ℕ) (xs : List ℕ) → IsProp (Above m xs)
-unfolding Above
-Above-prop m [] = Unit-prop
-Above-prop m (x ∷ xs) = ×_prop le_prop (Above-prop x xs)
 
 -- ids, ascending from 1 on, as many as an update may know
 pub record Ascending (ids : List ℕ) : Type 0 where

@@ -15,7 +15,7 @@ use Rattle.expansion.specs.Inner.OldList.{Known}
 use Rattle.expansion.specs.Inner.Sound.{Lengths}
 use Rattle.expansion.specs.declared.rule.Rule.{Rule}
 use Rattle.expansion.proofs.FirstMatch.{rule-short}
-use Rattle.expansion.proofs.LaidRules.{ascends, placed, at-inside, had-first, lay-passable, held-laid}
+use Rattle.expansion.proofs.LaidRules.{placed, at-inside, had-first, lay-passable, held-laid}
 use Rattle.expansion.proofs.laying.lay.Goals as goal
 use Rattle.expansion.proofs.laying.lay.Goals.{After-place_of-to, Start}
 
@@ -39,7 +39,7 @@ module _ (s : Start) where
   few = s.args.service.now.valid.few_bits
 
   ascending : Ascending ids
-  ascending = ascends s.args.service.now
+  ascending = s.requires.ascending
 
   known : Known k ids rule
   known = s.requires.known

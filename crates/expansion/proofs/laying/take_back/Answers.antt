@@ -14,7 +14,7 @@ use Rattle.expansion.specs.Inner.Known.{Ascending}
 use Rattle.expansion.specs.Inner.Laying.{passed_on, Placed, Held}
 use Rattle.expansion.specs.declared.rule.Rule.{Rule}
 use Rattle.expansion.proofs.FirstMatch.{rule-short}
-use Rattle.expansion.proofs.LaidRules.{ascends, at-inside, has_first, back-passable, held_back}
+use Rattle.expansion.proofs.LaidRules.{at-inside, has_first, back-passable, held_back}
 use Rattle.expansion.proofs.laying.take_back.Goals as goal
 use Rattle.expansion.proofs.laying.take_back.Goals.{Start}
 
@@ -64,14 +64,13 @@ offset_bounds-holder-at c = omega (arith, c.first_place-at.ensures, small (goal.
 
 pub bounds-holder-at : goal.bounds-holder-at
 bounds-holder-at c =
-    omega (arith, c.first_place-at.ensures, small (goal.at.bounds-holder-at c).Start, c.requires.by_index.1.0.wide)
+    omega (arith, c.first_place-at.ensures, small (goal.at.bounds-holder-at c).Start, c.requires.by_index.2.1.0.wide)
 
 pub overflow_cast-from : goal.overflow_cast-from
 overflow_cast-from c =
     let P = c.requires.by_index in
-    let S = c.args.service.now in
-    let H = has (goal.at.overflow_cast-from c).Start S.labels.now P.0 (ascends S) P.1.0 in
-    omega (arith, H.inside, (ascends S).few, ap (λ (x : ℕ). get_or (holder (goal.at.overflow_cast-from c).Start) x 0) c.first_place-at.ensures)
+    let H = has (goal.at.overflow_cast-from c).Start P.0 P.1 P.2.0 P.2.1.0 in
+    omega (arith, H.inside, P.2.0.few, ap (λ (x : ℕ). get_or (holder (goal.at.overflow_cast-from c).Start) x 0) c.first_place-at.ensures)
 
 pub overflow_sub-k : goal.overflow_sub-k
 overflow_sub-k c = short (goal.at.overflow_sub-k c).Start
@@ -79,13 +78,11 @@ overflow_sub-k c = short (goal.at.overflow_sub-k c).Start
 pub pass_on-requires : goal.pass_on-requires
 pass_on-requires c =
     let P = c.requires.by_index in
-    let S = c.args.service.now in
     rw (c.first_place-at.ensures, size_is (goal.at.pass_on-requires c).Start)
     (back-passable (k (goal.at.pass_on-requires c).Start) (rule (goal.at.pass_on-requires c).Start) (formed (goal.at.pass_on-requires c).Start)
-    (few (goal.at.pass_on-requires c).Start)
-    S.labels.now (ascends S) P.0 (holder (goal.at.pass_on-requires c).Start) (shares (goal.at.pass_on-requires c).Start)
-    c.args.had (from (goal.at.pass_on-requires c).Start) P.1.1
-    (has (goal.at.pass_on-requires c).Start S.labels.now P.0 (ascends S) P.1.0) P.1.0)
+    (few (goal.at.pass_on-requires c).Start) P.0 P.2.0 P.1 (holder (goal.at.pass_on-requires c).Start) (shares (goal.at.pass_on-requires c).Start)
+    c.args.had (from (goal.at.pass_on-requires c).Start) P.2.1.1
+    (has (goal.at.pass_on-requires c).Start P.0 P.1 P.2.0 P.2.1.0) P.2.1.0)
 
 pub returns : goal.returns
 returns c labels rs A H B =

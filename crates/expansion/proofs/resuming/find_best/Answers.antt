@@ -9,7 +9,7 @@ use Rattle.numerals.specs.Limits.{most_known}
 use Rattle.expansion.specs.Imbalance.{Targets}
 use Rattle.expansion.specs.Known.{known_ids, weight_of, targets_known}
 use Rattle.expansion.specs.OldList.{rules_from}
-use Rattle.expansion.specs.Inner.Known.{Above}
+use Rattle.expansion.specs.Inner.Known.{Ascending}
 use Rattle.expansion.specs.Inner.OldList.{Proper}
 use Rattle.expansion.specs.Inner.Resume.{Found}
 use Rattle.expansion.specs.Inner.Run.{labelled_by, Valid}
@@ -50,8 +50,8 @@ module _ (n : After-know-n) where
   valid : Valid n.args.k n.args.tolerance labels weights
   valid = rw (n.know-n.ensures.labels, n.know-n.ensures.weighed) (passed (goal.at.After-know-n n).Start).valid
 
-  ascending : Above 0 labels
-  ascending = rw (n.know-n.ensures.labels) (passed (goal.at.After-know-n n).Start).ascending.above
+  ascending : Ascending labels
+  ascending = rw (n.know-n.ensures.labels) (passed (goal.at.After-know-n n).Start).ascending
 
   proper : Proper n.args.k labels (R (goal.at.After-know-n n).Start)
   proper = rw (n.know-n.ensures.labels) (passed (goal.at.After-know-n n).Start).proper
@@ -73,10 +73,12 @@ slice_bounds-service-end-2 c =
 pub invariant_of-service : goal.invariant_of-service
 invariant_of-service c =
     let n = (goal.at.invariant_of-service c).After-know-n in
-    record { valid = valid n; ascending = ascending n }
+    record { valid = valid n }
 
 pub search-requires : goal.search-requires
-search-requires c = proper (goal.at.search-requires c).After-know-n
+search-requires c =
+    let n = (goal.at.search-requires c).After-know-n in
+    record { ascending = ascending n; proper = proper n }
 
 pub returns : goal.returns
 unfolding targets_known

@@ -90,6 +90,7 @@ pub lay-requires : goal.lay-requires
 lay-requires c =
     record {
       held = (rs (goal.at.lay-requires c).After-rule_at-rule, (c.loop-i.invariant.1.held, lengths (goal.at.lay-requires c).After-rule_at-rule));
+      ascending = c.requires.ascending;
       known = known (goal.at.lay-requires c).After-rule_at-rule;
     }
 

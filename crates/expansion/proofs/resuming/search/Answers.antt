@@ -26,7 +26,7 @@ use Rattle.expansion.specs.declared.resuming.Attempt.{Attempt}
 use Rattle.expansion.proofs.KeptBest.{BestAbove, best-passes, best-taken, best-stays, found_all, found-free}
 use Rattle.expansion.proofs.KeptSearch.{Searched, held_first, next_known, newest-is, newest-held, laid-less}
 use Rattle.expansion.proofs.KeptSearch.{searched-none, starts-at, tried_here}
-use Rattle.expansion.proofs.LaidRules.{ascends, placed}
+use Rattle.expansion.proofs.LaidRules.{placed}
 use Rattle.expansion.proofs.OldNumbers.{rules-count}
 use Rattle.expansion.proofs.resuming.search.Goals as goal
 use Rattle.expansion.proofs.resuming.search.Goals.{After-place_of-first, After-rule_at-star, At-loop-left, Start}
@@ -43,10 +43,10 @@ module _ (s : Start) where
   valid = s.args.service.now.valid
 
   ascending : Ascending ids
-  ascending = ascends s.args.service.now
+  ascending = s.requires.ascending
 
   proper : Proper s.args.service.now.k ids (rules_from cs)
-  proper = s.requires
+  proper = s.requires.proper
 
   someone : 0 < length cs / 3
   someone = omega (arith, rules-count cs, proper.some)
@@ -99,6 +99,7 @@ bounds-shares-first c = last c
 pub lay_all-laid-requires : goal.lay_all-laid-requires
 lay_all-laid-requires c =
     record {
+      ascending = ascending (goal.at.lay_all-laid-requires c).Start;
       proper = proper (goal.at.lay_all-laid-requires c).Start;
       held = rw (shifted c.args.service.now.k (valid (goal.at.lay_all-laid-requires c).Start).few_bits)
           (held_first c.args.service.now.k (ids (goal.at.lay_all-laid-requires c).Start) (cs (goal.at.lay_all-laid-requires c).Start)
@@ -226,7 +227,7 @@ take_back-requires c =
     let some : 1 ≤ i = omega (arith, c.if-left-eq0.false) in
     let is-next : count l ≡ suc i = omega (arith, c.loop-left.invariant.0) in
     record {
-      by_index = (rs l i is-next some, (held l i is-next some, before l i is-next some));
+      by_index = (ids (s l), rs l i is-next some, (ascending (s l), (held l i is-next some, before l i is-next some)));
       formed = (newest-known l i is-next some).rule;
     }
 
