@@ -18,9 +18,10 @@ use Rattle.numerals.specs.Sums.{sum_to}
 use Rattle.numerals.proofs.Searches.{argmax-is, argmax-ext}
 use Rattle.packing.specs.Grants.{Problem, Grants, saving, next, rules, more, grants_after, packed}
 use Rattle.packing.specs.Inner.Lists.{place_of}
-use Rattle.packing.specs.Inner.Stored.{stored_cost, stored_problem, stored_saving, savings, held, AllPayable, AllGranted, Allotted}
+use Rattle.packing.specs.Inner.Stored.{stored_cost, stored_problem, stored_saving, savings, held, Falls, AllPayable, Started, Allotted}
 use Rattle.packing.specs.Inner.Tournament.{leaves, Tournament, Replaced, key_of, Entered}
 use Rattle.packing.proofs.GrantSteps.{Goes, Stops, step-goes, rules-more, packed-at}
+use Rattle.packing.proofs.Payable.{falls-later}
 use Rattle.packing.proofs.Winner.{Greatest, entered-one, winner}
 use Rattle.packing.proofs.EqualGrants.{Agree, more-set, rules-agree, step-agree, stops-agree}
 
@@ -107,19 +108,22 @@ module _ (least : Grants) (capacity : ℕ) (volumes stairs counts : List ℕ) wh
   unfolding savings saving stored_problem
   saving-stored grants s = cost-drop s (get_or counts s 0) (get_or grants s 0) refl
 
--- with one rule more to service n every service still has one
-pub started-more :
-    {m : ℕ} {grants : List ℕ} (n : ℕ) → n < length grants → AllGranted m grants → AllGranted m (set grants n (get_or grants n 0 + 1))
-started-more {m} {grants} n l t = record { each = λ s k. go s k (ℕ_discrete s n) }
+-- with one rule more to service n the stairs of every service still fall from its grant on
+pub falls-more :
+    (stairs : List ℕ) (s c : ℕ) (grants : List ℕ) (n : ℕ) → n < length grants → Falls stairs s c (get_or grants s 0)
+    → Falls stairs s c (get_or (set grants n (get_or grants n 0 + 1)) s 0)
+falls-more stairs s c grants n l f = go (ℕ_discrete s n)
   where
-    go : (s : ℕ) → s < m → Dec (s ≡ n) → 0 < get_or (set grants n (get_or grants n 0 + 1)) s 0
-    go s k (yes e) =
-        omega (
+    go : Dec (s ≡ n) → Falls stairs s c (get_or (set grants n (get_or grants n 0 + 1)) s 0)
+    go (yes e) =
+        falls-later stairs s c (get_or grants s 0) (get_or (set grants n (get_or grants n 0 + 1)) s 0)
+        (omega (
           arith,
           get_or-set_same grants n (get_or grants n 0 + 1) 0 l,
           ap (λ (i : ℕ). get_or (set grants n (get_or grants n 0 + 1)) i 0) e,
-        )
-    go s k (no d) = omega (arith, get_or-set_other grants n s (get_or grants n 0 + 1) 0 d, t.each s k)
+          ap (λ (i : ℕ). get_or grants i 0) e,
+        )) f
+    go (no d) = rw (get_or-set_other grants n s (get_or grants n 0 + 1) 0 d) f
 
 -- another grant of service n leaves the other savings as they are
 saving-other :
@@ -133,14 +137,14 @@ saving-other volumes stairs counts grants n x i d =
 pub record Turn (least : Grants) (capacity : ℕ) (volumes stairs counts grants tree : List ℕ) (r : ℕ) : Type 0 where
   pub payable : AllPayable volumes stairs counts
   pub someone : 0 < length volumes
-  pub started : AllGranted (length volumes) grants
+  pub started : Started volumes stairs counts grants
   pub run : Run (stored_problem least capacity volumes stairs counts) grants r
   pub entered : Entered (savings volumes stairs counts grants) (length volumes) tree
 
 -- the first: each service has its least grant
 pub turn-first :
     (capacity : ℕ) (volumes stairs counts grants tree : List ℕ) (r : ℕ) → AllPayable volumes stairs counts
-    → AllGranted (length volumes) grants → 0 < length volumes → r ≡ sum_to (length volumes) (held grants)
+    → Started volumes stairs counts grants → 0 < length volumes → r ≡ sum_to (length volumes) (held grants)
     → Entered (savings volumes stairs counts grants) (length volumes) tree
     → Turn (held grants) capacity volumes stairs counts grants tree r
 unfolding stored_problem rules
@@ -228,7 +232,7 @@ module _ {least : Grants} {capacity : ℕ} {volumes stairs counts grants tree : 
         record {
           payable = turn.payable;
           someone = turn.someone;
-          started = started-more n room turn.started;
+          started = record { each = λ s m. falls-more stairs s (get_or counts s 0) grants n room (turn.started.each s m) };
           run =
               run_more (stored_problem least capacity volumes stairs counts) grants r turn.someone n room
               found-next (record { room = omega (arith, turn.run.spent); gains = omega (arith, found-most) }) turn.run;

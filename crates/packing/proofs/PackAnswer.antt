@@ -20,11 +20,11 @@ use Rattle.packing.specs.Table.{frame_of, list_for, table, problem, granted, one
 use Rattle.packing.specs.Answer.{services_with, services_of, check_all, lines_made, packed_of, figures_of, cells_of, Demanded, no_buffer, about, figures_buffer}
 use Rattle.packing.specs.Answer.{table_buffer, written, answer}
 use Rattle.packing.specs.Inner.Lists.{Listed, Granted}
-use Rattle.packing.specs.Inner.Stored.{stored_total, stored_lines, stored_figures, stored_table, held, AllPayable, AllFalling, Allotted}
+use Rattle.packing.specs.Inner.Stored.{stored_total, stored_lines, stored_figures, stored_table, held, AllPayable, Started, Allotted}
 use Rattle.packing.specs.declared.answer.Packed.{Packed}
 use Rattle.packing.proofs.Demand.{one-fits, demand}
 use Rattle.packing.proofs.Checks.{Accepted, balanced, volume-le}
-use Rattle.packing.proofs.StoredCosts.{granted-kept, total_kept, all-payable, all-falling, stair-low, stair-down}
+use Rattle.packing.proofs.StoredCosts.{granted-kept, total_kept, all-payable, all-started, stair-low, stair-down}
 use Rattle.packing.proofs.Written.{table_kept, lines-kept, figures-kept}
 use Rattle.packing.specs.declared.answer.NotPacked.{NotPacked}
 
@@ -78,13 +78,16 @@ module _ (k tolerance capacity : ℕ) (volumes sizes ids ws lens values backends
       all-payable volumes (frame_of S tolerance) (list_for S tolerance) stairs counts L.stepped
       (stair-low S tolerance (balanced A) refl A.few_bits) (omega (arith, A.few, A.same)) (volume-le A)
 
-  pub falling : AllFalling (length volumes) stairs counts
+  -- grants of one rule each
+  pub started :
+      (grants : List ℕ) → ((s : ℕ) → s < length volumes → get_or grants s 0 ≡ 1) → Started volumes stairs counts grants
   unfolding services_with services
-  falling =
+  started grants ones =
       let S = services_of k volumes sizes ids ws in
-      all-falling volumes (frame_of S tolerance) (list_for S tolerance) stairs counts L.stepped (stair-down S tolerance (balanced A))
+      all-started volumes (frame_of S tolerance) (list_for S tolerance) stairs counts L.stepped grants
+      (λ s x l from. stair-down S tolerance (balanced A) s x l (omega (arith, ones s l)))
 
-  -- grants of one rule each fit
+  -- they fit
   pub ones-fit :
       (grants : List ℕ) → ((s : ℕ) → s < length volumes → get_or grants s 0 ≡ 1)
       → sum_to (length volumes) (held grants) ≤ capacity

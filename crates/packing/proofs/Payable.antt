@@ -9,7 +9,11 @@ use lib.ListN.{get_or}
 use borrow.Author.Tests.{lt-ltb, le-ltb}
 use Rattle.numerals.specs.Pick.{pick}
 use Rattle.packing.specs.Inner.Lists.{place_of}
-use Rattle.packing.specs.Inner.Stored.{stored_saving, Payable}
+use Rattle.packing.specs.Inner.Stored.{stored_saving, Payable, Falls}
+
+-- stairs that fall from a grant on fall from a later one on
+pub falls-later : (stairs : List ℕ) (s count a b : ℕ) → a ≤ b → Falls stairs s count a → Falls stairs s count b
+falls-later stairs s count a b l f = record { falls = λ c m. f.falls c (omega arith) }
 
 module _ {volume : ℕ} {stairs : List ℕ} {s count : ℕ} (p : Payable volume stairs s count) (c : ℕ) where
   -- so much at most, for a whole stair or a part

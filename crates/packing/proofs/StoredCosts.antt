@@ -21,7 +21,7 @@ use Rattle.packing.specs.Count.{Services, services, targets_of}
 use Rattle.packing.specs.Table.{rule_budget, frame_of, list_for}
 use Rattle.packing.specs.Inner.Premises.{Balanced}
 use Rattle.packing.specs.Inner.Lists.{place_of, Stepped, Granted}
-use Rattle.packing.specs.Inner.Stored.{stored_cost, stored_problem, stored_total, held, Payable, AllPayable, AllFalling, Allotted}
+use Rattle.packing.specs.Inner.Stored.{stored_cost, stored_problem, stored_total, held, Payable, AllPayable, Started, Allotted}
 use Rattle.packing.proofs.EqualGrants.{packed-agree}
 use Rattle.packing.proofs.Demand.{sound}
 use Rattle.packing.proofs.Listing.{stair-none}
@@ -130,10 +130,12 @@ module _ (volumes : List ℕ) (frames : ℕ → Frame) (lists : ℕ → List Rul
             small = λ c m. omega (arith, stepped.step s c l (omega (arith, stepped.count s l)), small s c l);
           }
 
-  -- and falls where they do
-  pub all-falling :
-      ((s x : ℕ) → s < length volumes → 1 ≤ x → stairs-of s (suc x) ≤ stairs-of s x) → AllFalling (length volumes) stairs counts
-  all-falling down =
+  -- grants from which on the stairs fall
+  pub all-started :
+      (grants : List ℕ)
+      → ((s x : ℕ) → s < length volumes → get_or grants s 0 ≤ x → stairs-of s (suc x) ≤ stairs-of s x)
+      → Started volumes stairs counts grants
+  all-started grants down =
       record {
         each = λ s l. record {
           falls = λ c from below. omega (

@@ -9,7 +9,7 @@ use Rattle.numerals.specs.Sums.{sum_to}
 use Rattle.expansion.specs.Steps.{Frame, oldest}
 use Rattle.expansion.specs.Inner.Lists.{no_rule, newest_first}
 use Rattle.expansion.specs.declared.rule.Rule.{Rule}
-use Rattle.numerals.proofs.Sums.{sum-ext}
+use Rattle.numerals.proofs.Sums.{sum-ext, sum-le}
 use Rattle.expansion.proofs.Listing.{take-newest, oldest-newest}
 use Rattle.packing.specs.Grants.{Grants}
 use Rattle.packing.specs.Count.{Line, Services, services}
@@ -89,6 +89,10 @@ module _ (n : ℕ) (frames : ℕ → Frame) (lists : ℕ → List Rule) (lens va
         sum-ext n (stored_lines grants counts) (λ s. min (g s) (length (lists s)))
         (λ s l. ap₂ min (kept.grant s l) (listed.stepped.count s l))
         ∙ sym (length-table n lists g)
+
+    -- there are no more than grants
+    pub lines-le : sum_to n (stored_lines grants counts) ≤ sum_to n g
+    lines-le = sum-le n (stored_lines grants counts) g (λ s l. omega (arith, kept.grant s l))
 
 -- the figures are those of document 01's packing
 module _ (S : Services) (tolerance : ℕ) (lens values backends stairs counts ends : List ℕ)

@@ -3,7 +3,7 @@ ghost use Rattle.std.specs.Prelude.{◌≡◌, ◌<◌, ◌≤◌, length, get_o
 ghost use Rattle.numerals.specs.Limits.{most_capacity};
 ghost use Rattle.numerals.specs.Sums.{sum_to};
 ghost use Rattle.packing.specs.Inner.Stored as stored;
-ghost use Rattle.packing.specs.Inner.Stored.{AllPayable, AllFalling, AllGranted, Allotted};
+ghost use Rattle.packing.specs.Inner.Stored.{Falls, AllPayable, Started, Allotted};
 ghost use Rattle.packing.specs.Inner.Tournament.{Replaced, key_of, Entered};
 
 use crate::lists::{PLACES, STRIDE};
@@ -11,8 +11,7 @@ use crate::tournament::{LAST, LEAVES, Tree};
 use numerals::MOST_SERVICES;
 
 // All services as they are packed: the volume of each, its rules and stairs at its places, its number of rules and how
-// its list ended. No cost of theirs wraps, and their stairs fall from a first rule on. The arrays are lent, since those
-// of a literal are copied into it.
+// its list ended. No cost of theirs wraps. The arrays are lent, since those of a literal are copied into it.
 #[derive(Clone, Copy)]
 pub struct Priced<'a> {
     pub volumes: &'a [u64],
@@ -23,13 +22,13 @@ pub struct Priced<'a> {
     pub counts: &'a [usize; MOST_SERVICES],
     pub ends: &'a [usize; MOST_SERVICES],
     ghost payable: { AllPayable volumes.now stairs.now counts.now },
-    ghost falling: { AllFalling (length volumes.now) stairs.now counts.now },
 }
 
 impl Priced<'_> {
     // What the next rule of service s saves: volume times the drop of its next stair, and 0 past the list's end.
     fn saving(&self, s: usize, grant: usize) -> u64
-        requires { (s < length self.now.volumes.now) × (0 < grant) }
+        requires { (s < length self.now.volumes.now)
+            × Falls self.now.stairs.now s (get_or self.now.counts.now s 0) grant }
         ensures { result ≡ stored.stored_saving (get_or self.now.volumes.now s 0)
             self.now.stairs.now s (get_or self.now.counts.now s 0) grant }
     {
@@ -43,7 +42,8 @@ impl Priced<'_> {
 
     // Enters service s with what its next rule saves; of equal savings the lowest number has the greatest key.
     fn enter(&self, tree: &mut Tree, grants: &[usize; MOST_SERVICES], s: usize)
-        requires { (s < length self.now.volumes.now) × (0 < get_or grants.now s 0) }
+        requires { (s < length self.now.volumes.now)
+            × Falls self.now.stairs.now s (get_or self.now.counts.now s 0) (get_or grants.now s 0) }
         ensures { Replaced tree.old.nodes s
             (key_of (stored.savings self.now.volumes.now
             self.now.stairs.now self.now.counts.now grants.now s) s)
@@ -55,7 +55,8 @@ impl Priced<'_> {
 
     // The tournament of all services; the key of a leaf without a service is 0.
     fn enter_all(&self, grants: &[usize; MOST_SERVICES]) -> Tree
-        requires { AllGranted (length self.now.volumes.now) grants.now }
+        requires { Started self.now.volumes.now
+            self.now.stairs.now self.now.counts.now grants.now }
         ensures { Entered
             (stored.savings self.now.volumes.now
             self.now.stairs.now self.now.counts.now grants.now)
@@ -68,10 +69,11 @@ impl Priced<'_> {
         tree
     }
 
-    // Each service has its least grant, a rule or more; further rules are granted until the capacity is used up or nothing is saved.
-    // The sum of the grants.
+    // Each service has its least grant; further rules are granted until the capacity is used up or nothing is saved. The
+    // sum of the grants.
     pub fn grant_all(&self, capacity: usize, grants: &mut [usize; MOST_SERVICES]) -> usize
-        requires started { AllGranted (length self.now.volumes.now) grants.old }
+        requires started { Started self.now.volumes.now
+            self.now.stairs.now self.now.counts.now grants.old }
         requires room { (0 < length self.now.volumes.now) × (capacity ≤ most_capacity)
             × (sum_to (length self.now.volumes.now) (stored.held grants.old) ≤ capacity) }
         ensures { Allotted (stored.held grants.old) capacity self.now.volumes.now

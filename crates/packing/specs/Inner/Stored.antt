@@ -80,13 +80,9 @@ pub record AllPayable (volumes stairs counts : List ℕ) : Type 0 where
   pub few : length volumes ≤ most_services
   pub each : (s : ℕ) → s < length volumes → Payable (get_or volumes s 0) stairs s (get_or counts s 0)
 
--- the stairs of n services fall from a first rule on
-pub record AllFalling (n : ℕ) (stairs counts : List ℕ) : Type 0 where
-  pub each : (s : ℕ) → s < n → Falls stairs s (get_or counts s 0) 1
-
--- each of n services is granted a rule
-pub record AllGranted (n : ℕ) (grants : List ℕ) : Type 0 where
-  pub each : (s : ℕ) → s < n → 0 < get_or grants s 0
+-- a grant for each service, from which on its stairs fall
+pub record Started (volumes stairs counts grants : List ℕ) : Type 0 where
+  pub each : (s : ℕ) → s < length volumes → Falls stairs s (get_or counts s 0) (get_or grants s 0)
 
 -- the grants of the packing over these least grants, and their sum
 pub record Allotted (least : Grants) (capacity : ℕ) (volumes stairs counts grants : List ℕ) (r : ℕ) : Type 0 where

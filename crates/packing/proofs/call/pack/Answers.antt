@@ -11,7 +11,7 @@ use Rattle.packing.specs.Table.{frame_of, list_for}
 use Rattle.packing.specs.Answer.{services_of, check_all}
 use Rattle.packing.specs.Inner.Lists.{Listed}
 use Rattle.packing.proofs.Checks.{Accepted, all-passed, sized}
-use Rattle.packing.proofs.PackAnswer.{claimed, answer-refused, answer-passed, Outcome, payable, falling, ones-fit, outcome}
+use Rattle.packing.proofs.PackAnswer.{claimed, answer-refused, answer-passed, Outcome, payable, started, ones-fit, outcome}
 use Rattle.packing.proofs.call.pack.Goals as goal
 use Rattle.packing.proofs.call.pack.Goals.{After-grant_all, After-make_lists, In_ok-check_all}
 
@@ -65,7 +65,7 @@ pub invariant_of-priced : goal.invariant_of-priced
 invariant_of-priced c =
     let A = accepted (goal.at.invariant_of-priced c).In_ok-check_all in
     let L = listed (goal.at.invariant_of-priced c).After-make_lists in
-    record { payable = payable _ _ _ _ _ _ _ _ _ _ _ _ _ A L; falling = falling _ _ _ _ _ _ _ _ _ _ _ _ _ A L }
+    record { payable = payable _ _ _ _ _ _ _ _ _ _ _ _ _ A L }
 
 pub grant_all-requires : goal.grant_all-requires
 grant_all-requires c =
@@ -73,7 +73,7 @@ grant_all-requires c =
     let L = listed (goal.at.grant_all-requires c).After-make_lists in
     let m = c.make_lists in
     record {
-      started = record { each = λ s l. omega (arith, ones s (omega (arith, A.few, A.same))) };
+      started = started _ _ _ _ _ _ _ _ _ _ _ _ _ A L (replicate most_services 1) (λ s l. ones s (omega (arith, A.few, A.same)));
       room = (
         omega (arith, A.some, A.same),
         A.little-room,

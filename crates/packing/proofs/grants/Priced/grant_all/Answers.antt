@@ -13,7 +13,7 @@ use Rattle.packing.specs.Inner.Stored.{held, Allotted}
 use Rattle.packing.specs.Grants.{Grants}
 use Rattle.packing.specs.Inner.Tournament.{leaves}
 use Rattle.packing.proofs.Stores.{sum-held}
-use Rattle.packing.proofs.Granting.{started-more, turn-first, turn-full, turn-greatest, found-known, found-low, turn_last, turn_more}
+use Rattle.packing.proofs.Granting.{falls-more, turn-first, turn-full, turn-greatest, found-known, found-low, turn_last, turn_more}
 use Rattle.packing.proofs.grants.Priced.grant_all.Goals as goal
 use Rattle.packing.proofs.grants.Priced.grant_all.Goals.{After-sum-granted, Else-tree}
 
@@ -71,7 +71,7 @@ pub enter-requires : goal.enter-requires
 enter-requires c =
     let l = c.loop-rules in
     let n = named (goal.at.enter-requires c).Else-tree in
-    (n.0, (started-more _ n.1 l.invariant.2.started).each _ n.0)
+    (n.0, falls-more _ _ _ l.grants _ n.1 (l.invariant.2.started.each _ n.0))
 
 pub loop-rules-preserved : goal.loop-rules-preserved
 loop-rules-preserved c =

@@ -20,7 +20,7 @@ down c =
     let e : stride * c.args.s + c.args.grant + 1 ≡ place_of c.args.s (suc c.args.grant) = omega arith in
     omega (
       arith,
-      (c.args.self.now.falling.each c.args.s c.requires.0).falls c.args.grant c.requires.1 c.if-grant-self.true,
+      c.requires.1.falls c.args.grant (omega arith) c.if-grant-self.true,
       ap (λ (i : ℕ). get_or c.args.self.now.stairs.now i 0) e,
     )
 
