@@ -2,7 +2,7 @@
 -- machine reads back of a number is the number.
 use Prim.Native.Nat.{ℕ, zero, suc, ◌+◌, ◌-◌, ◌*◌, ◌%◌, ◌^◌, ◌≤◌, ◌<◌}
 use mathlib.Core.Bool.{Bool, true, false, cond}
-use mathlib.Core.Path.{◌≡◌, refl, ap, ◌∙◌}
+use mathlib.Core.Path.{◌≡◌, refl, ap, sym, ◌∙◌}
 use native.Mathlib.Nat.{mul-le-mul, mul-le-mul_right, mul_comm}
 use native.Mathlib.Omega.{arith}
 use lib.Dec.{ltb, lit<}
@@ -12,7 +12,7 @@ use mir.Syntax.{w64}
 use mir.Val.{to_z, of_z}
 use mir.Facts.{to_z-of_z, to_z_pos}
 use borrow.Author.Rules.{sfits_of}
-use borrow.Author.Tests.{ltb-true, ltb-false}
+use borrow.Author.Tests.{ltb-true, ltb-false, le-ltb}
 use Rattle.numerals.specs.Limits.{most_suffixes, most_bits, unit}
 use Rattle.expansion.specs.KeptShares.{entry_of}
 use Rattle.expansion.specs.Inner.Ledger.{over, under, side, Small, changed_by}
@@ -136,6 +136,10 @@ under_twice (pos n) = refl
 under_twice (negsuc n) = under-neg (pos (2 * suc n))
 
 -- tests
+
+pub lt-over : (m : ℕ) (z : ℤ) → lt_z (pos m) z ≡ ltb m (over z)
+lt-over m (pos n) = refl
+lt-over m (negsuc n) = sym (le-ltb m 0 (omega arith))
 
 pub above : (m : ℕ) (z : ℤ) → lt_z (pos m) z ≡ true → z ≡ pos (over z)
 above m (pos n) e = refl
