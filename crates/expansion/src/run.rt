@@ -116,7 +116,8 @@ fn advance(
 // inline copies the state once more.
 #[inline]
 pub fn begin(service: &Service, shares: &[u64; MOST_KNOWN], cap: usize, newest: Rule) -> State
-    requires { (start : List rule.Rule) × let F = frame_for service.now cap start in Fits F × Shared F shares.now }
+    requires { (labels : List ℕ) × (start : List rule.Rule)
+        × let F = framed service.now.k cap service.now.tolerance labels service.now.weights.now start in Fits F × Shared F shares.now }
     ensures stands { (labels : List ℕ) (start : List rule.Rule) (holder low : List ℕ)
         → let F = framed service.now.k cap service.now.tolerance labels service.now.weights.now start in Fits F → Shared F shares.now
         → Holds F.targets start holder low → length holder ≡ most_suffixes → length low ≡ most_known → Stands F 0 holder low result }

@@ -96,6 +96,7 @@ module _ (c : After-cap_from-cap) where
 
 pub begin-state-requires : goal.begin-state-requires
 begin-state-requires c = (
+  c.args.service.now.labels.now,
   kept (goal.at.begin-state-requires c).Start,
   (
     here (goal.at.begin-state-requires c).After-cap_from-cap Fits

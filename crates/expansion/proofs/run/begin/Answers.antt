@@ -25,12 +25,12 @@ at s labels start = framed s.args.service.now.k s.args.cap s.args.service.now.to
 
 -- the one that is known to be there
 abbrev frame : Start → Frame
-frame s = at s s.args.service.now.labels.now s.requires.0
+frame s = at s s.requires.0 s.requires.1
 
 each-share : (s : Start) (b : ℕ) → b < backends (frame s).targets → get_or s.args.shares.now b 0 ≤ most_suffixes
 each-share s b l =
     let k = s.args.service.now.k in
-    omega (arith, s.requires.1.1.each b l, share-le k s.requires.0 (label (frame s).targets b), pow-few k s.requires.1.0.few_bits)
+    omega (arith, s.requires.2.1.each b l, share-le k s.requires.1 (label (frame s).targets b), pow-few k s.requires.2.0.few_bits)
 
 pub opened-ledger-requires : goal.opened-ledger-requires
 unfolding backends
@@ -46,12 +46,12 @@ module _ (c : After-opened-ledger) where
 
   smalls : (b : ℕ) → b < length c.args.service.now.weights.now → Small (error_at c.opened-ledger.result b)
   unfolding backends
-  smalls = small (frame (goal.at.After-opened-ledger c).Start) c.requires.1.0 c.requires.0 c.opened-ledger.result
-      (keeps c.args.service.now.labels.now c.requires.0 c.requires.1.0 c.requires.1.1)
+  smalls = small (frame (goal.at.After-opened-ledger c).Start) c.requires.2.0 c.requires.1 c.opened-ledger.result
+      (keeps c.requires.0 c.requires.1 c.requires.2.0 c.requires.2.1)
 
   some : 0 < length c.args.service.now.weights.now
   unfolding backends
-  some = someone (frame (goal.at.After-opened-ledger c).Start) c.requires.1.0
+  some = someone (frame (goal.at.After-opened-ledger c).Start) c.requires.2.0
 
 pub survey_of-seen-requires : goal.survey_of-seen-requires
 unfolding backends
@@ -59,7 +59,7 @@ survey_of-seen-requires c = smalls c
 
 pub decide-requires : goal.decide-requires
 decide-requires c =
-    let f = c.requires.1.0 in
+    let f = c.requires.2.0 in
     record {
       cap_le_most_bits = omega (arith, f.few_bits, f.sound.below);
       sized = surveyed-sized c.opened-ledger.result (length c.args.service.now.weights.now) c.survey_of-seen.result c.survey_of-seen.ensures

@@ -73,6 +73,7 @@ overflow_sub-k c = c.args.service.now.valid.some_bits
 pub begin-state-requires : goal.begin-state-requires
 unfolding frame
 begin-state-requires c = (
+  c.args.service.now.labels.now,
   first_rule c.args.service.now.labels.now c.args.service.now.weights.now,
   (fitting (goal.at.begin-state-requires c).After-heaviest-first, shared (goal.at.begin-state-requires c).After-heaviest-first),
 )
