@@ -9,6 +9,7 @@ pub mod Bounds
 pub mod Moves
 pub mod Turns
 pub mod Stairs
+pub mod Services
 pub mod Scaled
 pub mod ScaledKept
 pub mod Shape
