@@ -10,5 +10,4 @@ use Rattle.expansion.specs.declared.service.Service.{Service}
 pub service-of :
     (k tolerance : ℕ) (labels ws : Bor (List ℕ)) → Valid k tolerance labels.now ws.now
     → (s : Service) × (targets_for s ≡ labelled_by k labels.now ws.now) × (s.tolerance ≡ tolerance)
-service-of k tolerance labels ws v =
-    (record { k = k; tolerance = tolerance; labels = labels; weights = ws; valid = v }, refl, refl)
+service-of k tolerance labels ws v = (search, refl, refl)

@@ -46,7 +46,7 @@ pub invariant_of-service : goal.invariant_of-service
 invariant_of-service c =
     let a = c.args in
     let v = call-passed a.k a.tolerance a.budget a.ids.now a.weights.now (passed (goal.at.invariant_of-service c).In_ok-check_call) in
-    record { valid = v.0 }
+    search (v.0)
 
 pub make_list-made-requires : goal.make_list-made-requires
 make_list-made-requires c =

@@ -73,7 +73,7 @@ slice_bounds-service-end-2 c =
 pub invariant_of-service : goal.invariant_of-service
 invariant_of-service c =
     let n = (goal.at.invariant_of-service c).After-know-n in
-    record { valid = valid n }
+    search (valid n)
 
 pub search-requires : goal.search-requires
 search-requires c =
